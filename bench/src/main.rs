@@ -1,0 +1,161 @@
+//! The root and the angle of the proved archive, beside the processor's and plain whole-number ones.
+//!
+//! `bench check STEP` compares every STEP-th of the 2^32 patterns and prints how many differed (exit status 1 if any);
+//! `bench time` prints nanoseconds a call and the ratio to the processor's, all measured in one run.
+mod plain;
+
+use std::hint::black_box;
+use std::time::Instant;
+
+unsafe extern "C" {
+    safe fn dokphalun_sqrt(x: f32) -> f32;
+    safe fn dokphalun_acos(x: f32) -> f32;
+}
+
+/// The bits of a number, and any NaN as 7FC00000.
+fn word(x: f32) -> u32 {
+    if x.is_nan() { 0x7FC0_0000 } else { x.to_bits() }
+}
+
+/// How many of every `step`-th pattern give another word by `ours` than by `other`; the first is printed.
+fn differing(name: &str, step: u64, ours: fn(f32) -> f32, other: fn(f32) -> f32) -> u64 {
+    let (mut compared, mut differed) = (0u64, 0u64);
+    let mut pattern = 0u64;
+    while pattern < 1 << 32 {
+        let x = f32::from_bits(pattern as u32);
+        let (a, b) = (word(ours(x)), word(other(x)));
+        if a != b {
+            if differed == 0 {
+                println!("{name} of {pattern:08X}: {a:08X}, expected {b:08X}");
+            }
+            differed += 1;
+        }
+        compared += 1;
+        pattern += step;
+    }
+    println!("{name}: {compared} compared, {differed} differed");
+    differed
+}
+
+fn sqrt_of_archive(x: f32) -> f32 {
+    dokphalun_sqrt(x)
+}
+
+fn acos_of_archive(x: f32) -> f32 {
+    dokphalun_acos(x)
+}
+
+fn check(step: u64) -> bool {
+    let roots = differing("root against the processor's", step, sqrt_of_archive, f32::sqrt);
+    let angles = differing("angle against the plain one", step, acos_of_archive, plain::angle);
+    roots + angles == 0
+}
+
+/// The least time of seven runs, in nanoseconds a call: calls that do not wait for one another, and calls that do.
+fn cost(xs: &[f32], f: extern "C" fn(f32) -> f32) -> (f64, f64) {
+    let (mut apart, mut chained) = (f64::MAX, f64::MAX);
+    let mut out = vec![0f32; xs.len()];
+    for _ in 0..7 {
+        let start = Instant::now();
+        for _ in 0..50 {
+            for (o, &x) in out.iter_mut().zip(xs) {
+                *o = f(x);
+            }
+            black_box(&mut out);
+        }
+        apart = apart.min(start.elapsed().as_secs_f64());
+        let start = Instant::now();
+        let mut last = 0f32;
+        for _ in 0..50 {
+            for &x in xs {
+                last = f(x + last * 0.0);
+            }
+        }
+        black_box(last);
+        chained = chained.min(start.elapsed().as_secs_f64());
+    }
+    let calls = 50.0 * xs.len() as f64 * 1e-9;
+    (apart / calls, chained / calls)
+}
+
+#[inline(never)]
+extern "C" fn processors_root(x: f32) -> f32 {
+    x.sqrt()
+}
+
+#[inline(never)]
+extern "C" fn isqrt_root(x: f32) -> f32 {
+    plain::root(x)
+}
+
+#[inline(never)]
+extern "C" fn processors_angle(x: f32) -> f32 {
+    x.acos()
+}
+
+#[inline(never)]
+extern "C" fn plain_angle(x: f32) -> f32 {
+    plain::angle(x)
+}
+
+extern "C" fn our_root(x: f32) -> f32 {
+    dokphalun_sqrt(x)
+}
+
+extern "C" fn our_angle(x: f32) -> f32 {
+    dokphalun_acos(x)
+}
+
+fn report(xs: &[f32], rows: &[(&str, extern "C" fn(f32) -> f32)]) {
+    let base = cost(xs, rows[0].1);
+    for (name, f) in rows {
+        let (apart, chained) = cost(xs, *f);
+        println!(
+            "{name:34} {apart:6.2} ns a call ({:5.2} times), {chained:6.2} ns where each call waits for the last",
+            apart / base.0
+        );
+    }
+}
+
+fn time() {
+    let mut seed = 1u32;
+    let mut next = || {
+        seed = seed.wrapping_mul(1_664_525).wrapping_add(1_013_904_223);
+        seed >> 8
+    };
+    let roots: Vec<f32> = (0..4096).map(|_| f32::from_bits(0x3000_0000 + next() * 24)).collect();
+    let cosines: Vec<f32> = (0..4096).map(|_| next() as f32 / 8_388_608.0 - 1.0).collect();
+    report(
+        &roots,
+        &[
+            ("the processor's root", processors_root as extern "C" fn(f32) -> f32),
+            ("the root of the archive", our_root),
+            ("the root by u64::isqrt", isqrt_root),
+        ],
+    );
+    report(
+        &cosines,
+        &[
+            ("f32::acos of the Rust library", processors_angle as extern "C" fn(f32) -> f32),
+            ("the angle of the archive", our_angle),
+            ("the angle by halving, plain Rust", plain_angle),
+        ],
+    );
+}
+
+fn main() {
+    let words: Vec<String> = std::env::args().skip(1).collect();
+    let given: Vec<&str> = words.iter().map(String::as_str).collect();
+    let right = match given.as_slice() {
+        ["check", step] => check(step.parse().expect("STEP is a number above 0")),
+        ["time"] => {
+            time();
+            true
+        }
+        _ => {
+            eprintln!("usage: bench check STEP | bench time");
+            std::process::exit(2);
+        }
+    };
+    std::process::exit(i32::from(!right));
+}

@@ -1,0 +1,52 @@
+-- What tests joined by `&&` and `||` leave, as equations of truth values. Assumes nothing.
+use mathlib.Core.Path.{_≡_, refl, sym, ap, _∙_, subst}
+use mathlib.Core.Bool.{Bool, true, false, true≢false, _&&_, _||_}
+use lib.Dec.{T}
+
+pub T-is : {b : Bool} → b ≡ true → T b
+T-is h = subst T (sym h) tt
+
+-- ---- `&&` in one expression, whose two ways meet
+-- the first test held, and the flag is the second
+pub and-held : {a b t : Bool} → a ≡ true → t ≡ b → t ≡ (a && b)
+and-held {a} {b} p q = q ∙ sym (ap (λ (x : Bool). x && b) p)
+
+-- the first test failed, and the flag is that test
+pub and-failed : {a t : Bool} (b : Bool) → a ≡ false → t ≡ a → t ≡ (a && b)
+and-failed {a} b p q = q ∙ p ∙ sym (ap (λ (x : Bool). x && b) p)
+
+-- the flag t is what was tested so far, p
+pub last-held : {p c t : Bool} → t ≡ p → t ≡ true → c ≡ (p && c)
+last-held {p} {c} e h = sym (ap (λ (x : Bool). x && c) (sym e ∙ h))
+
+pub last-failed : {p t : Bool} (c : Bool) → t ≡ p → t ≡ false → t ≡ (p && c)
+last-failed {p} c e h = h ∙ sym (ap (λ (x : Bool). x && c) (sym e ∙ h))
+
+-- ---- the same of `||`: the first test is p, and the second q
+pub or-held : {p a t : Bool} (q : Bool) → a ≡ p → a ≡ true → t ≡ a → t ≡ (p || q)
+or-held {p} q e h f = f ∙ h ∙ sym (ap (λ (x : Bool). x || q) (sym e ∙ h))
+
+pub or-failed : {p q a b t : Bool} → a ≡ p → a ≡ false → b ≡ q → t ≡ b → t ≡ (p || q)
+or-failed {p} {q} e h g f = f ∙ g ∙ sym (ap (λ (x : Bool). x || q) (sym e ∙ h))
+
+-- ---- `a && b && c && d` by nested ifs, by the test at which it is decided
+pub all : (a b c d : Bool) → a ≡ true → b ≡ true → c ≡ true → d ≡ (a && b && c && d)
+all true true true d p q r = refl
+all true true false d p q r = absurd (true≢false (sym r))
+all true false c d p q r = absurd (true≢false (sym q))
+all false b c d p q r = absurd (true≢false (sym p))
+
+pub third : (a b c d : Bool) → c ≡ false → false ≡ (a && b && c && d)
+third true true false d r = refl
+third true true true d r = absurd (true≢false r)
+third true false c d r = refl
+third false b c d r = refl
+
+pub second : (a b c d : Bool) → b ≡ false → false ≡ (a && b && c && d)
+second true false c d r = refl
+second true true c d r = absurd (true≢false r)
+second false b c d r = refl
+
+pub first : (a b c d : Bool) → a ≡ false → false ≡ (a && b && c && d)
+first false b c d r = refl
+first true b c d r = absurd (true≢false r)

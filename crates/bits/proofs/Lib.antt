@@ -1,0 +1,4 @@
+pub mod Bools
+pub mod Nan
+pub mod Zeros
+pub mod Back

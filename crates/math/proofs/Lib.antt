@@ -1,0 +1,2 @@
+pub mod Abs
+pub mod Held

@@ -1,0 +1,163 @@
+// Runs document 01's samples 6 to 8, and compares the root and the angle of each number that standard input names. Prints how much it compared and how much differed.
+// A line of standard input is 27 bytes: a number, its root and its angle, each as the eight digits of its word, with a blank or a line end behind.
+ghost use Prim.Native.Nat.{_+_, _<_, _≤_};
+ghost use lib.ListN.{length};
+
+// How many values were compared, and how many of them were not as expected.
+struct Tally {
+    compared: u64,
+    differed: u64,
+}
+
+impl Tally {
+    const NONE: Tally = Tally {
+        compared: 0,
+        differed: 0,
+    };
+
+    // One comparison more.
+    fn with(self, got: u32, expected: u32) -> Tally {
+        let compared = std::num::wrapping_add_u64(self.compared, 1);
+        if got == expected {
+            return Tally {
+                compared,
+                differed: self.differed,
+            };
+        }
+        Tally {
+            compared,
+            differed: std::num::wrapping_add_u64(self.differed, 1),
+        }
+    }
+}
+
+// The tallies of the lines of standard input.
+struct Lines {
+    roots: Tally,
+    angles: Tally,
+}
+
+// Whether a number counts, as a word.
+fn counts(w: u32) -> u32 {
+    if math::not_zero(bits::number(w)) {
+        1
+    } else {
+        0
+    }
+}
+
+fn root_of(w: u32) -> u32 {
+    bits::word(root::sqrt(bits::number(w)))
+}
+
+fn angle_of(w: u32) -> u32 {
+    bits::word(angle::acos(bits::number(w)))
+}
+
+// The value of a hexadecimal digit, upper case; 0 for any other byte.
+fn digit(b: u8) -> u32
+    ensures { λ r. ⌜ r < 16 ⌝ }
+{
+    if b >= b'0' {
+        if b <= b'9' {
+            return (b - b'0') as u32;
+        }
+    }
+    if b >= b'A' {
+        if b <= b'F' {
+            return (b - b'A') as u32 + 10;
+        }
+    }
+    0
+}
+
+fn octet_at(text: &[u8], at: usize) -> u32
+    requires { ⌜ at + 2 ≤ length (now text) ⌝ }
+    ensures { λ r. ⌜ r < 256 ⌝ }
+{
+    16 * digit(text[at]) + digit(text[at + 1])
+}
+
+fn half_at(text: &[u8], at: usize) -> u32
+    requires { ⌜ at + 4 ≤ length (now text) ⌝ }
+    ensures { λ r. ⌜ r < 65536 ⌝ }
+{
+    256 * octet_at(text, at) + octet_at(text, at + 2)
+}
+
+// The word whose eight digits stand at a place.
+fn word_at(text: &[u8], at: usize) -> u32
+    requires { ⌜ at + 8 ≤ length (now text) ⌝ }
+{
+    65536 * half_at(text, at) + half_at(text, at + 4)
+}
+
+// The line at a place, compared.
+fn line(text: &[u8], at: usize, so_far: Lines) -> Lines
+    requires { ⌜ at + 27 ≤ length (now text) ⌝ }
+{
+    let w = word_at(text, at);
+    let roots = so_far.roots;
+    let angles = so_far.angles;
+    let more_roots = roots.with(root_of(w), word_at(text, at + 9));
+    let more_angles = angles.with(angle_of(w), word_at(text, at + 18));
+    Lines {
+        roots: more_roots,
+        angles: more_angles,
+    }
+}
+
+fn all_lines(text: &[u8]) -> Lines {
+    let mut lines = Lines {
+        roots: Tally::NONE,
+        angles: Tally::NONE,
+    };
+    for i in 0..text.len() / 27 {
+        lines = line(text, 27 * i, lines);
+    }
+    lines
+}
+
+fn sample_6() -> Tally {
+    Tally::NONE
+        .with(counts(0x00800000), 0)
+        .with(counts(0x00800001), 1)
+}
+
+fn sample_7() -> Tally {
+    Tally::NONE
+        .with(root_of(0x40000000), 0x3fb504f3)
+        .with(root_of(0x40800000), 0x40000000)
+}
+
+fn sample_8() -> Tally {
+    Tally::NONE
+        .with(angle_of(0x3f800000), 0)
+        .with(angle_of(0), 0x3fc90fdb)
+        .with(angle_of(0xbf800000), 0x40490fdb)
+}
+
+fn print(name: &[u8], t: Tally) {
+    io::write_all(1, name);
+    io::print_decimal(1, t.compared);
+    io::write_all(1, b" compared, ");
+    io::print_decimal(1, t.differed);
+    io::write_all(1, b" differed\n");
+}
+
+fn print_lines(text: &[u8]) {
+    let lines = all_lines(text);
+    let roots = lines.roots;
+    let angles = lines.angles;
+    print(b"the oracle's roots: ", roots);
+    print(b"the oracle's angles: ", angles);
+}
+
+fn main() {
+    print(b"sample 6: ", sample_6());
+    print(b"sample 7: ", sample_7());
+    print(b"sample 8: ", sample_8());
+    let mut buf = io::large_buffer();
+    let n = io::read_full(0, &mut buf);
+    print_lines(&buf[..n]);
+}

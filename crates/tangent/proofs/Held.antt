@@ -1,0 +1,73 @@
+-- What single precision holds stays held: the zero, a combination, a reading reached once more, and whatever words tell of. Assumes nothing.
+use mathlib.Core.Bool.{Bool, true, false, cond}
+use mathlib.Core.List.{List}
+use Prim.Native.Nat.{ℕ}
+use lib.Dec.{eqb}
+use lib.Ieee.{binary32}
+use lib.Ieee.Fits.{mul-fits}
+use lib.ListN.{getD}
+use Rattle.bits.specs.Single.{_+ᶠ_, halfᶠ}
+use Rattle.bits.proofs.Back.{number-fits}
+use Rattle.math.specs.Vector as math
+use Rattle.math.specs.Held.{HeldVec}
+use Rattle.math.proofs.Held.{origin-held, added-held, unit-held}
+use Rattle.tangent.specs.declared.RawTangentSpace.{RawTangentSpace}
+use Rattle.tangent.specs.declared.Reading.{Reading}
+use Rattle.tangent.specs.declared.Reading.the-variants.{Absent, Single, Combined}
+use Rattle.tangent.specs.Space.{zeroTangent, equals, mean, combine, reached}
+use Rattle.tangent.specs.Slot.{vectorOf, spaceOf, readingOf}
+use Rattle.tangent.specs.Held.{HeldSpace, HeldReading, absent, single, combined}
+
+pub zero-held : HeldSpace zeroTangent
+zero-held = record { s-held = origin-held; t-held = origin-held; s-magnitude-held = number-fits 0; t-magnitude-held = number-fits 0 }
+
+pub combine-held : (a b : RawTangentSpace) → HeldSpace a → HeldSpace (combine a b)
+unfolding combine mean
+combine-held a b h = go (equals a b)
+  where
+    mixed : RawTangentSpace
+    mixed =
+        record {
+          s = math.unitOf (math.added (a .s) (b .s));
+          t = math.unitOf (math.added (a .t) (b .t));
+          «s_magnitude» = mean (a .«s_magnitude») (b .«s_magnitude»);
+          «t_magnitude» = mean (a .«t_magnitude») (b .«t_magnitude»);
+        }
+
+    go : (t : Bool) → HeldSpace (cond t a mixed)
+    go true = h
+    go false =
+        record {
+          s-held = unit-held (math.added (a .s) (b .s)) (added-held (a .s) (b .s));
+          t-held = unit-held (math.added (a .t) (b .t)) (added-held (a .t) (b .t));
+          s-magnitude-held = mul-fits binary32 halfᶠ (a .«s_magnitude» +ᶠ b .«s_magnitude»);
+          t-magnitude-held = mul-fits binary32 halfᶠ (a .«t_magnitude» +ᶠ b .«t_magnitude»);
+        }
+
+pub reached-held : (r : Reading) (v : RawTangentSpace) (o : Bool) → HeldReading r → HeldSpace v → HeldReading (reached r v o)
+unfolding reached
+reached-held Absent v o h k = single k
+reached-held (Single u w) v o (single h) k = combined (combine-held u v h)
+reached-held (Combined u w) v o (combined h) k = combined (combine-held u v h)
+
+vector-held : (x y z : ℕ) → HeldVec (vectorOf x y z)
+unfolding vectorOf
+vector-held x y z = record { x-held = number-fits x; y-held = number-fits y; z-held = number-fits z }
+
+pub space-held : (l : List ℕ) → HeldSpace (spaceOf l)
+unfolding spaceOf
+space-held l =
+    record {
+      s-held = vector-held (getD l 1 0) (getD l 2 0) (getD l 3 0);
+      t-held = vector-held (getD l 4 0) (getD l 5 0) (getD l 6 0);
+      s-magnitude-held = number-fits (getD l 7 0);
+      t-magnitude-held = number-fits (getD l 8 0);
+    }
+
+pub reading-held : (l : List ℕ) → HeldReading (readingOf l)
+unfolding readingOf
+reading-held l = go (eqb (getD l 0 0) 0)
+  where
+    go : (t : Bool) → HeldReading (cond t Absent (Single (spaceOf l) (eqb (getD l 9 0) 1)))
+    go true = absent
+    go false = single (space-held l)

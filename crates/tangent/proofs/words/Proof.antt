@@ -1,0 +1,46 @@
+-- `tangent::words` meets its contract: in each arm the reading is the constructor that the arm was chosen for. Assumes nothing.
+use borrow.Author.Needs.{needs}
+use mathlib.Core.Path.{sym, ap, _∙_}
+use Rattle.tangent.specs.Slot.{words}
+use Rattle.tangent.proofs.words.Statement.{statement}
+use Rattle.tangent.proofs.words.Tie as tie
+
+enum-told : tie.Need-enum-told
+enum-told c = search needs
+
+enum-known-r : tie.Need-enum-known-r
+enum-known-r c = search needs
+
+present-requires : tie.Need-present-requires
+present-requires c κs = search needs
+
+enum-known-r-2 : tie.Need-enum-known-r-2
+enum-known-r-2 c = search needs
+
+present-requires-2 : tie.Need-present-requires-2
+present-requires-2 c κs = search needs
+
+returns : tie.Need-returns
+unfolding words
+returns c = sym (ap words (c .enum-told .given .1))
+
+returns-2 : tie.Need-returns-2
+unfolding words
+returns-2 c = c .present .ensures ∙ sym (ap words (c .before .before .r .given .1))
+
+returns-3 : tie.Need-returns-3
+unfolding words
+returns-3 c = c .present2 .ensures ∙ sym (ap words (c .before .before .r2 .given .1))
+
+pub words-spec : {M : Type 1} → statement M
+words-spec =
+    tie.close
+    (tie.spec
+    enum-told
+    enum-known-r
+    present-requires
+    enum-known-r-2
+    present-requires-2
+    returns
+    returns-2
+    returns-3)
