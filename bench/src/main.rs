@@ -106,13 +106,14 @@ extern "C" fn our_angle(x: f32) -> f32 {
     dokphalun_acos(x)
 }
 
+/// One row a function; the first is what the others are compared with.
 fn report(xs: &[f32], rows: &[(&str, extern "C" fn(f32) -> f32)]) {
-    let base = cost(xs, rows[0].1);
-    for (name, f) in rows {
-        let (apart, chained) = cost(xs, *f);
+    let costs: Vec<(f64, f64)> = rows.iter().map(|(_, f)| cost(xs, *f)).collect();
+    for ((name, _), (apart, chained)) in rows.iter().zip(&costs) {
         println!(
-            "{name:34} {apart:6.2} ns a call ({:5.2} times), {chained:6.2} ns where each call waits for the last",
-            apart / base.0
+            "{name:34} {apart:6.2} ns a call ({:5.2} times), {chained:6.2} ns where each call waits for the last ({:5.2} times)",
+            apart / costs[0].0,
+            chained / costs[0].1
         );
     }
 }
