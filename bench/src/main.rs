@@ -1,6 +1,7 @@
 //! The root and the angle of the proved archive, beside the processor's and plain whole-number ones.
 //!
-//! `bench check STEP` compares every STEP-th of the 2^32 patterns and prints how many differed (exit status 1 if any);
+//! `bench check STEP` compares every STEP-th of the 2^32 patterns (and every 16th of those with a table of its own for each
+//! angle, which is slow) and prints how many differed (exit status 1 if any);
 //! `bench time` prints nanoseconds a call and the ratio to the processor's, all measured in one run.
 mod plain;
 
@@ -8,8 +9,16 @@ use std::hint::black_box;
 use std::time::Instant;
 
 unsafe extern "C" {
-    safe fn dokphalun_sqrt(x: f32) -> f32;
-    safe fn dokphalun_acos(x: f32) -> f32;
+    safe fn leaves_sqrt(x: f32) -> f32;
+    safe fn leaves_acos(x: f32) -> f32;
+    // a slice passes as a pointer and a length
+    fn leaves_acos_all(xs: *const f32, count: usize, out: *mut f32, room: usize);
+}
+
+/// The angles of many cosines, with one table for all of them.
+fn acos_all(xs: &[f32], out: &mut [f32]) {
+    // the lists are Rust's own, and each is handed over with its own length
+    unsafe { leaves_acos_all(xs.as_ptr(), xs.len(), out.as_mut_ptr(), out.len()) }
 }
 
 /// The bits of a number, and any NaN as 7FC00000.
@@ -38,17 +47,31 @@ fn differing(name: &str, step: u64, ours: fn(f32) -> f32, other: fn(f32) -> f32)
 }
 
 fn sqrt_of_archive(x: f32) -> f32 {
-    dokphalun_sqrt(x)
+    leaves_sqrt(x)
 }
 
 fn acos_of_archive(x: f32) -> f32 {
-    dokphalun_acos(x)
+    leaves_acos(x)
+}
+
+/// The same of the angles that are taken with one table.
+fn differing_all(step: u64) -> u64 {
+    let patterns: Vec<u32> = (0..1u64 << 32).step_by(step as usize).map(|pattern| pattern as u32).collect();
+    let mut differed = 0u64;
+    for part in patterns.chunks(1 << 20) {
+        let xs: Vec<f32> = part.iter().map(|&pattern| f32::from_bits(pattern)).collect();
+        let mut out = vec![0f32; xs.len()];
+        acos_all(&xs, &mut out);
+        differed += xs.iter().zip(&out).filter(|&(&x, &y)| word(y) != word(plain::angle(x))).count() as u64;
+    }
+    println!("angles with one table against the plain one: {} compared, {differed} differed", patterns.len());
+    differed
 }
 
 fn check(step: u64) -> bool {
     let roots = differing("root against the processor's", step, sqrt_of_archive, f32::sqrt);
-    let angles = differing("angle against the plain one", step, acos_of_archive, plain::angle);
-    roots + angles == 0
+    let angles = differing("angle against the plain one", step * 16 + 1, acos_of_archive, plain::angle);
+    roots + angles + differing_all(step) == 0
 }
 
 /// The least time of seven runs, in nanoseconds a call: calls that do not wait for one another, and calls that do.
@@ -99,11 +122,26 @@ extern "C" fn plain_angle(x: f32) -> f32 {
 }
 
 extern "C" fn our_root(x: f32) -> f32 {
-    dokphalun_sqrt(x)
+    leaves_sqrt(x)
 }
 
 extern "C" fn our_angle(x: f32) -> f32 {
-    dokphalun_acos(x)
+    leaves_acos(x)
+}
+
+/// The least time of seven runs of the angles with one table, in nanoseconds an angle.
+fn cost_all(xs: &[f32]) -> f64 {
+    let mut best = f64::MAX;
+    let mut out = vec![0f32; xs.len()];
+    for _ in 0..7 {
+        let start = Instant::now();
+        for _ in 0..50 {
+            acos_all(xs, &mut out);
+            black_box(&mut out);
+        }
+        best = best.min(start.elapsed().as_secs_f64());
+    }
+    best / (50.0 * xs.len() as f64 * 1e-9)
 }
 
 /// One row a function; the first is what the others are compared with.
@@ -138,10 +176,11 @@ fn time() {
         &cosines,
         &[
             ("f32::acos of the Rust library", processors_angle as extern "C" fn(f32) -> f32),
-            ("the angle of the archive", our_angle),
+            ("the angle of the archive, alone", our_angle),
             ("the angle by halving, plain Rust", plain_angle),
         ],
     );
+    println!("{:34} {:6.2} ns an angle", "the same, many with one table", cost_all(&cosines));
 }
 
 fn main() {

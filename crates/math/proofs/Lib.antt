@@ -1,2 +1,3 @@
 pub mod Abs
 pub mod Held
+pub mod Equal

@@ -1,4 +1,4 @@
-// Runs document 01's samples 6 to 8, and compares the root and the angle of each number that standard input names. Prints how much it compared and how much differed.
+// Runs document 01's samples 6 to 9, and compares the root and the angle of each number that standard input names. Prints how much it compared and how much differed.
 // A line of standard input is 27 bytes: a number, its root and its angle, each as the eight digits of its word, with a blank or a line end behind.
 ghost use Prim.Native.Nat.{_+_, _<_, _≤_};
 ghost use lib.ListN.{length};
@@ -137,6 +137,21 @@ fn sample_8() -> Tally {
         .with(angle_of(0xbf800000), 0x40490fdb)
 }
 
+// X + 2 ^ 30, for the X of the sample.
+fn sample_9() -> Tally {
+    Tally::NONE
+        .with(
+            angle::raised_whole(bits::number(0x3f3504f3)),
+            1073741824 + 759250112,
+        )
+        .with(
+            angle::raised_whole(bits::number(0xbf3504f3)),
+            1073741824 - 759250112,
+        )
+        .with(angle::raised_whole(bits::number(0x30000000)), 1073741824)
+        .with(angle::raised_whole(bits::number(0x80000000)), 1073741824)
+}
+
 fn print(name: &[u8], t: Tally) {
     io::write_all(1, name);
     io::print_decimal(1, t.compared);
@@ -157,6 +172,7 @@ fn main() {
     print(b"sample 6: ", sample_6());
     print(b"sample 7: ", sample_7());
     print(b"sample 8: ", sample_8());
+    print(b"sample 9: ", sample_9());
     let mut buf = io::large_buffer();
     let n = io::read_full(0, &mut buf);
     print_lines(&buf[..n]);
