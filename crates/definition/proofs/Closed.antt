@@ -1,0 +1,117 @@
+-- The links of a list of triangles stay among them; laws of links; a walk from a corner stays at its corner. Assumes nothing.
+use Prim.Native.Nat.{ℕ, zero, suc}
+use mathlib.Core.Path.{_≡_, refl, sym, _∙_, ap}
+use mathlib.Core.Bool.{Bool, true, false, cond, not, _&&_, _||_, true≢false, false≢true}
+use mathlib.Core.List.{List, [], _∷_, _++_, List·Memᴰ, List·Memᴰ·head, List·Memᴰ·tail}
+use mathlib.Core.Option.{Option, none, some}
+use Rattle.definition.specs.declared.Corner.{Corner}
+use Rattle.definition.specs.declared.Triangle.{Triangle}
+use Rattle.definition.specs.Lists.{keep, first, has}
+use Rattle.definition.specs.Mesh.{Third, one, two, three, Spot, next, prior, cornerOf, sameSpot}
+use Rattle.definition.specs.Step4Order.{welded, spots}
+use Rattle.definition.specs.Step5Links.{Link, opposite, linked, addLink, linkOne, linkAll, links, beyond}
+use Rattle.definition.specs.Step6Groups.{cornerIn, overTo, over}
+use Rattle.definition.proofs.Part.{Each, each-none, each-some, Every, every-nil, every-cons}
+use Rattle.definition.proofs.Enough.{Near}
+
+-- ---- the first that passes is one of the list, and passes
+
+pub record Found {X : Type 0} (p : X → Bool) (P : X → Type 0) (x : X) : Type 0 where
+  pub passes : p x ≡ true
+  pub known : P x
+
+pub first-found : {X : Type 0} (p : X → Bool) {P : X → Type 0} {l : List X} → Every P l → Each (Found p P) (first p l)
+unfolding first
+first-found p every-nil = each-none
+first-found p {P} (every-cons {x} {l} o r) = go (p x) refl (first-found p r)
+  where
+    go : (b : Bool) → p x ≡ b → Each (Found p P) (first p l) → Each (Found p P) (cond b (some x) (first p l))
+    go true e h = each-some (record { passes = e; known = o })
+    go false e h = h
+
+pub each-map : {X : Type 0} {P Q : X → Type 0} → ((x : X) → P x → Q x) → {o : Option X} → Each P o → Each Q o
+each-map f each-none = each-none
+each-map f (each-some {x} h) = each-some (f x h)
+
+pub and-left : (a b : Bool) → (a && b) ≡ true → a ≡ true
+and-left true b e = refl
+and-left false b e = e
+
+pub and-right : (a b : Bool) → (a && b) ≡ true → b ≡ true
+and-right true b e = e
+and-right false b e = absurd (false≢true e)
+
+-- ---- links
+
+module _ (P : Spot → Type 0) where
+  -- what is known of every link: both sides are known, and they run opposite ways
+  pub record Sound (l : Link) : Type 0 where
+    pub from : P (l .near)
+    pub to : P (l .far)
+    pub across : opposite (l .near) (l .far) ≡ true
+
+  add-sound : (s : Spot) (o : Option Spot) (ls : List Link) → P s → Each (λ t. P t × (opposite s t ≡ true)) o → Every Sound ls → Every Sound (addLink s o ls)
+  unfolding addLink
+  add-sound s none ls h each-none r = r
+  add-sound s (some t) ls h (each-some k) r = every-cons (record { from = h; to = k .0; across = k .1 }) r
+
+  every-cond : (b : Bool) {l k : List Link} → Every Sound l → Every Sound k → Every Sound (cond b l k)
+  every-cond true r s = r
+  every-cond false r s = s
+
+  one-sound : (ls : List Link) (s : Spot) (later : List Spot) → P s → Every P later → Every Sound ls → Every Sound (linkOne ls s later)
+  unfolding linkOne
+  one-sound ls s later h k r =
+      every-cond (linked ls s) r
+      (add-sound s _ ls h (each-map (λ t f. (f .known, and-left (opposite s t) _ (f .passes))) (first-found (λ t. opposite s t && not (linked ls t)) k)) r)
+
+  pub all-sound : {ss : List Spot} → Every P ss → (ls : List Link) → Every Sound ls → Every Sound (linkAll ls ss)
+  unfolding linkAll
+  all-sound every-nil ls r = r
+  all-sound (every-cons {x = s} {l = later} h k) ls r = all-sound k (linkOne ls s later) (one-sound ls s later h k r)
+
+  cond-each₂ : (Q : Spot → Type 0) (b c : Bool) (x y : Spot) {o : Option Spot} → Q x → Q y → Each Q o → Each Q (cond b (some x) (cond c (some y) o))
+  cond-each₂ Q true c x y p q r = each-some p
+  cond-each₂ Q false true x y p q r = each-some q
+  cond-each₂ Q false false x y p q r = r
+
+  pub beyond-known : {ls : List Link} → Every Sound ls → (s : Spot) → Each P (beyond ls s)
+  unfolding beyond
+  beyond-known every-nil s = each-none
+  beyond-known (every-cons {x = l} h r) s = cond-each₂ P (sameSpot (l .near) s) (sameSpot (l .far) s) (l .far) (l .near) (h .to) (h .from) (beyond-known r s)
+
+-- ---- corners
+
+-- every corner of the triangle is among the corners of the triangles
+pub record Whole (ss : List Triangle) (t : Triangle) : Type 0 where
+  pub at : (i : Third) → List·Memᴰ (record { tri = t; at = i }) (spots ss)
+
+module _ (ss : List Triangle) where
+  pub spots-whole : (ts : List Triangle) → ((s : Spot) → List·Memᴰ s (spots ts) → List·Memᴰ s (spots ss)) → Every (λ s. Whole ss (s .tri)) (spots ts)
+  unfolding spots
+  spots-whole [] f = every-nil
+  spots-whole (t ∷ ts) f =
+      let h : Whole ss t =
+      record { at = λ i. elim i [ one ↦ f _ (List·Memᴰ·head refl) | two ↦ f _ (List·Memᴰ·tail (List·Memᴰ·head refl)) | three ↦ f _ (List·Memᴰ·tail (List·Memᴰ·tail (List·Memᴰ·head refl))) ] } in
+      every-cons h (every-cons h (every-cons h (spots-whole ts (λ s m. f s (List·Memᴰ·tail (List·Memᴰ·tail (List·Memᴰ·tail m)))))))
+
+  -- links among the triangles, run opposite ways
+  pub links-sound : Every (Sound (λ s. Whole ss (s .tri))) (links ss)
+  unfolding links
+  links-sound = all-sound (λ s. Whole ss (s .tri)) (spots-whole ss (λ s m. m)) [] every-nil
+
+  cornerIn-near : (c : Corner) (t : Triangle) → Whole ss t → Each (Near ss c) (cornerIn c t)
+  unfolding cornerIn spots
+  cornerIn-near c t h =
+      each-map (λ s f. record { inside = f .known; joined = f .passes })
+      (first-found (λ s. welded c (cornerOf s)) {P = λ s. List·Memᴰ s (spots ss)} (every-cons (h .at one) (every-cons (h .at two) (every-cons (h .at three) every-nil))))
+
+  overTo-near : (c : Corner) (o : Option Spot) → Each (λ s. Whole ss (s .tri)) o → Each (Near ss c) (overTo c o)
+  unfolding overTo
+  overTo-near c none each-none = each-none
+  overTo-near c (some s) (each-some h) = cornerIn-near c (s .tri) h
+
+  -- over a side to a corner of the triangles, welded to c
+  pub over-near : (c : Corner) (s : Spot) → Each (Near ss c) (over (links ss) c s)
+  unfolding over
+  over-near c s = overTo-near c (beyond (links ss) s) (beyond-known (λ t. Whole ss (t .tri)) links-sound s)

@@ -1,0 +1,43 @@
+-- Document 01, 'What is handed in and what comes back': the lists handed in, as a mesh. Definitions only.
+use Prim.Native.Nat.{ℕ, zero, suc, _+_, _*_}
+use mathlib.Core.Bool.{Bool, cond, _||_}
+use mathlib.Core.List.{List, [], _∷_}
+use lib.Dec.{eqb}
+use lib.ListN.{getD}
+use lib.Ieee.{Float, nan}
+use Rattle.math.specs.Vector.{vec}
+use Rattle.definition.specs.declared.Corner.{Corner}
+
+-- corner number i: 'positions and normals (three single-precision numbers a corner), texture coordinates (two)'
+unfoldable pub cornerAt : List Float → List Float → List Float → ℕ → Corner
+cornerAt ps ns ts i =
+    record {
+      place = vec (getD ps (i * 3) nan) (getD ps (i * 3 + 1) nan) (getD ps (i * 3 + 2) nan);
+      normal = vec (getD ns (i * 3) nan) (getD ns (i * 3 + 1) nan) (getD ns (i * 3 + 2) nan);
+      u = getD ts (i * 2) nan;
+      v = getD ts (i * 2 + 1) nan;
+    }
+
+-- n corners from number i on
+unfoldable pub cornersFrom : List Float → List Float → List Float → ℕ → ℕ → List Corner
+cornersFrom ps ns ts i zero = []
+cornersFrom ps ns ts i (suc n) = cornerAt ps ns ts i ∷ cornersFrom ps ns ts (suc i) n
+
+-- 'Corners stand in face order and a face of size n has n of them': the faces of these sizes, from corner number i on
+unfoldable pub meshFrom : List Float → List Float → List Float → ℕ → List ℕ → List (List Corner)
+meshFrom ps ns ts i [] = []
+meshFrom ps ns ts i (n ∷ sizes) = cornersFrom ps ns ts i n ∷ meshFrom ps ns ts (i + n) sizes
+
+-- the sizes that take slots: 3 and 4
+unfoldable pub used : ℕ → Bool
+used n = eqb n 3 || eqb n 4
+
+-- 'C is the sum of all sizes'
+unfoldable pub cornerCount : List ℕ → ℕ
+cornerCount [] = 0
+cornerCount (n ∷ sizes) = n + cornerCount sizes
+
+-- 'S, the number of slots, is the sum of the sizes that are 3 or 4'
+unfoldable pub slotCount : List ℕ → ℕ
+slotCount [] = 0
+slotCount (n ∷ sizes) = cond (used n) n 0 + slotCount sizes

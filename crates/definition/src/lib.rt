@@ -1,0 +1,36 @@
+// The values that document 01 speaks of, as structs: the definitions and the code have the same types.
+use math::Vec3;
+use tangent::RawTangentSpace;
+
+// A corner: its position, its normal, its texture coordinates.
+pub struct Corner {
+    pub place: Vec3,
+    pub normal: Vec3,
+    pub u: f32,
+    pub v: f32,
+}
+
+// A corner that a triangle keeps: which one of its face it is, and its values.
+pub struct Kept {
+    pub which: u32,
+    pub corner: Corner,
+}
+
+// A triangle: its face's number, whether it is the second of a quad, the corner of the face that it misses, and the three that it keeps, in order.
+// Then what steps 2 and 3 say of it.
+pub struct Triangle {
+    pub face: u32,
+    pub second: bool,
+    pub missing: u32,
+    pub a: Kept,
+    pub b: Kept,
+    pub c: Kept,
+    // two of its positions compare equal
+    pub degenerate: bool,
+    // it belongs to a quad with exactly one degenerate triangle
+    pub marked: bool,
+    // `group_with_any`
+    pub any: bool,
+    pub orientation: bool,
+    pub tangent: RawTangentSpace,
+}

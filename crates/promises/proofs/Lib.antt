@@ -1,0 +1,5 @@
+pub mod Acceptance
+pub mod Demand1
+pub mod Determined
+pub mod Impostors
+pub mod Demand3

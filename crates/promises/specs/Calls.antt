@@ -1,0 +1,51 @@
+-- A call, for the promises to speak of: what is handed in, what is lent, and what it leaves behind. Definitions only.
+use Prim.Native.Nat.{ℕ, zero, suc, _+_, _*_}
+use mathlib.Core.Path.{_≡_}
+use mathlib.Core.Bool.{cond}
+use mathlib.Core.List.{List, [], _∷_}
+use lib.ListN.{take, drop, getD}
+use lib.Ieee.{Float}
+use Rattle.tangent.specs.Slot.{slotWords}
+use Rattle.definition.specs.declared.Corner.{Corner}
+use Rattle.definition.specs.Handed.{meshFrom, used, slotCount}
+use Rattle.definition.specs.Outcome.{Result, outcome}
+
+-- a mesh as it is handed in: face sizes, positions, normals, texture coordinates
+pub record Handed : Type 0 where
+  pub sizes : List ℕ
+  pub places : List Float
+  pub normals : List Float
+  pub texture : List Float
+
+-- a call: a mesh, a threshold, the answer list and the work list that are lent
+pub record Call : Type 0 where
+  pub mesh : Handed
+  pub threshold : Float
+  pub answer : List ℕ
+  pub work : List ℕ
+
+-- the faces of a mesh
+unfoldable pub meshOf : Handed → List (List Corner)
+meshOf x = meshFrom (x .places) (x .normals) (x .texture) 0 (x .sizes)
+
+-- what a call leaves behind, by the definition
+unfoldable pub leaves : Call → Result
+leaves x = outcome (x .mesh .sizes) (x .mesh .places) (x .mesh .normals) (x .mesh .texture) (x .threshold) (x .answer) (x .work)
+
+-- the call is accepted: its number is 0
+unfoldable pub Accepted : Call → Type 0
+Accepted x = leaves x .number ≡ 0
+
+-- how many slots a face of size n takes
+unfoldable pub slotsOf : ℕ → ℕ
+slotsOf n = cond (used n) n 0
+
+-- how many slots the first n faces take
+unfoldable pub slotsBefore : List ℕ → ℕ → ℕ
+slotsBefore sizes zero = 0
+slotsBefore [] (suc n) = 0
+slotsBefore (k ∷ sizes) (suc n) = slotsOf k + slotsBefore sizes n
+
+-- the words that a call answers for face number n: 'Slots run by face, then by corner', ten words each
+unfoldable pub faceAnswer : Call → ℕ → List ℕ
+faceAnswer x n = take (slotWords * slotsOf (getD (x .mesh .sizes) n 0)) (drop (slotWords * slotsBefore (x .mesh .sizes) n) (leaves x .answer))

@@ -1,0 +1,1 @@
+// What the user is promised: statements in specs/, their proofs in proofs/. There is no code here.

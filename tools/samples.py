@@ -1,0 +1,285 @@
+#!/usr/bin/env python3
+"""Writes crates/definition/proofs/Samples.antt: document 01's samples, computed by the checker from the definitions.
+
+Run it in the repository, with no argument: `python3 tools/samples.py`, then `rt fmt` (which leaves the file as it is).
+Each number stands as its bits. The proofs unfold every definition that is marked `unfoldable` in the specs/ of the crates
+below, so the script reads those names from the files; add a sample here, never in the file."""
+import re
+import struct
+
+CRATES = {
+    "root": ["Root"],
+    "angle": ["Table", "Angle"],
+    "math": ["Vector"],
+    "tangent": ["Space", "Slot"],
+    "bits": ["Word"],
+    "definition": [
+        "Lists", "Mesh", "Handed", "Step1Cut", "Step2Degenerate", "Step3Tangents", "Triangles", "Step4Order", "Step5Links",
+        "Step6Groups", "Step7Sums", "Step8Slots", "Step9Copies", "Frames", "Desk", "Outcome", "Shuffle",
+    ],
+}
+IEEE = "isNan add sub mul div neg lt le eq toBits ofBits round toUnsigned toSigned ofInt size units"
+
+
+def bits(x):
+    """The bits of a number, given as a number or as its bits in hexadecimal."""
+    return int(x, 16) if isinstance(x, str) else struct.unpack("<I", struct.pack("<f", x))[0]
+
+
+def numeral(n):
+    return str(n) if n < 10 else f"0x{n >> 16:04x}_{n & 0xFFFF:04x}"
+
+
+def words(xs):
+    """A list of words."""
+    return "(" + " ∷ ".join([numeral(x) for x in xs] + ["[]"]) + ")"
+
+
+def numbers(xs):
+    """A list of numbers, by their bits."""
+    return "(numbers " + words([bits(x) for x in xs]) + ")"
+
+
+def vector(v):
+    return "(vec " + " ".join(f"(number {numeral(bits(x))})" for x in v) + ")"
+
+
+def corner(place, normal, texture):
+    u, v = (f"number {numeral(bits(x))}" for x in texture)
+    return f"(record {{ place = {vector(place)}; normal = {vector(normal)}; u = {u}; v = {v} }})"
+
+
+def sizes(ns):
+    return "(" + " ∷ ".join([str(n) for n in ns] + ["[]"]) + ")"
+
+
+class Mesh:
+    """A mesh as it is handed in: faces, each a list of (position, normal, texture coordinate)."""
+
+    def __init__(self, faces, threshold=-1.0):
+        self.sizes = [len(f) for f in faces]
+        corners = [c for f in faces for c in f]
+        self.places = [x for c in corners for x in c[0]]
+        self.normals = [x for c in corners for x in c[1]]
+        self.texture = [x for c in corners for x in c[2]]
+        self.threshold = threshold
+
+    def slots(self):
+        return sum(n for n in self.sizes if n in (3, 4))
+
+    def call(self, answer=None, work=None):
+        """The call of this mesh with lent lists of that many words (just enough, unless said), filled with 7 and 9."""
+        answer = 10 * self.slots() if answer is None else answer
+        work = 128 * len(self.sizes) if work is None else work
+        return (
+            f"Outcome′.outcome {sizes(self.sizes)} {numbers(self.places)} {numbers(self.normals)} {numbers(self.texture)} "
+            f"(number {numeral(bits(self.threshold))}) (replicate {answer} 7) (replicate {work} 9)"
+        )
+
+    def taken(self, answer):
+        """What an accepted call of this mesh leaves behind: 0, 0, S, the answer's words, and zeros in the work list."""
+        return f"record {{ number = 0; place = 0; slots = {self.slots()}; answer = {words(answer)}; work = replicate {128 * len(self.sizes)} 0 }}"
+
+
+UP = (0, 0, 1)
+ONE = 0x3F80_0000
+MINUS_ONE = 0xBF80_0000
+
+
+def triangle(texture):
+    return Mesh([[((0, 0, 0), UP, texture[0]), ((1, 0, 0), UP, texture[1]), ((0, 1, 0), UP, texture[2])]])
+
+
+SAMPLE_1 = triangle([(0, 0), (1, 0), (0, 1)])
+SAMPLE_2 = triangle([(0, 0), (-1, 0), (0, 1)])
+SAMPLE_3 = triangle([(0, 0), (0, 0), (0, 0)])
+
+
+def square(x, width):
+    """A unit square whose lower left corner is (x, 0), as a quad, with its texture `width` wide."""
+    return [((x + i, j, 0), UP, ((x + i) * width, j)) for i, j in [(0, 0), (1, 0), (1, 1), (0, 1)]]
+
+
+TWO_QUADS = Mesh([square(0, 0.5), square(1, 0.5)])
+
+
+def frame(s, t, s_magnitude, t_magnitude, orientation):
+    """The ten words of a slot that is there."""
+    return [1] + [bits(x) for x in (*s, *t, s_magnitude, t_magnitude)] + [orientation]
+
+
+EAST_FRAME = frame((1, 0, 0), (0, 1, 0), 1, 1, 1)
+ABSENT = [0] * 10
+
+# sample 1 beside its mirror image, whose texture runs the other way: two orientations at one corner
+MIRROR = Mesh([[((0, 0, 0), UP, (0, 0)), ((1, 0, 0), UP, (1, 0)), ((0, 1, 0), UP, (0, 1))], [((0, 0, 0), UP, (0, 0)), ((0, -1, 0), UP, (0, 1)), ((1, 0, 0), UP, (1, 0))]])
+# a unit square whose texture crosses itself: its two triangles disagree in orientation and have the same area
+CROSSED = Mesh([[((0, 0, 0), UP, (0, 0)), ((1, 0, 0), UP, (1, 0)), ((1, 1, 0), UP, (0, 1)), ((0, 1, 0), UP, (1, 1))]])
+# a face whose three corners are the first corner of sample 1; alone, and behind sample 1
+POINT = [((0, 0, 0), UP, (0, 0))] * 3
+POINT_ALONE = Mesh([POINT])
+POINT_SHARED = Mesh([[((0, 0, 0), UP, (0, 0)), ((1, 0, 0), UP, (1, 0)), ((0, 1, 0), UP, (0, 1))], POINT])
+
+# three triangles round a hub, in an order that the walk does not keep
+HUB = ((0, 0, 0), UP, (0, 0))
+EAST, NORTH, WEST, SOUTH = (((1, 0, 0), UP, (1, 0)), ((0, 1, 0), UP, (0, 3)), ((-1, 0, 0), UP, (-1, 0)), ((0, -1, 0), UP, (0, -2)))
+FAN = Mesh([[HUB, EAST, NORTH], [HUB, SOUTH, EAST], [HUB, NORTH, WEST]])
+FAN_FRAME = [1, ONE, 0, 0, 0, ONE, 0, ONE, 0x3EC7_1C72, 1]
+HALF_ROOT = "3f3504f3"
+
+# whole calls: a name, a comment, the call or a part of it, what it is
+WHOLE = [
+    ("sample-1", "sample 1", SAMPLE_1.call(), SAMPLE_1.taken(EAST_FRAME * 3)),
+    ("sample-2", "sample 2", SAMPLE_2.call(), SAMPLE_2.taken(frame((-1, 0, 0), (0, 1, 0), 1, 1, 0) * 3)),
+    ("sample-3", "sample 3: 30 zero words", SAMPLE_3.call(), SAMPLE_3.taken(ABSENT * 3)),
+    ("past", "sample 1 with both lists two words longer: nothing past 10S and 128F is altered", f"behind ({SAMPLE_1.call(32, 130)})", words([7, 7, 9, 9])),
+    ("refused", "sample 1 with an answer list one word short: refusal 5 alters nothing", SAMPLE_1.call(29, 128), "record { number = 5; place = 0; slots = 0; answer = replicate 29 7; work = replicate 128 9 }"),
+    ("two-quads", "two quads that share a side", TWO_QUADS.call(), TWO_QUADS.taken(frame((1, 0, 0), (0, 1, 0), 2, 1, 1) * 8)),
+    ("fan", "three triangles round a hub: the hub's frame is that of the sum in triangle order", f"take 10 ({FAN.call()} .answer)", words(FAN_FRAME)),
+    ("mirror", "sample 1 beside its mirror image: a triangle of the other orientation stops the walk", MIRROR.call(), MIRROR.taken(EAST_FRAME * 3 + frame((1, 0, 0), (0, -1, 0), 1, 1, 0) * 3)),
+    (
+        "crossed",
+        "a square whose texture crosses itself: its triangles disagree, and the first's area is as large, so the orientation is the first's",
+        CROSSED.call(),
+        CROSSED.taken([w for s in ((0, 0, 0), (1, 0, 0), (0, 0, 0), (-1, 0, 0)) for w in frame(s, (HALF_ROOT, HALF_ROOT, 0), 1, "3fb504f3", 1)]),
+    ),
+    ("point-alone", "a face whose corners are all one: absent", POINT_ALONE.call(), POINT_ALONE.taken(ABSENT * 3)),
+    ("point-shared", "the same behind sample 1, whose first corner it shares: it copies that corner's frame. So demand 3 counts corners of degenerate faces too", POINT_SHARED.call(), POINT_SHARED.taken(EAST_FRAME * 6)),
+]
+
+ZERO = corner((0, 0, 0), (0, 0, 0), (0, 0))
+MINUS_ZERO = corner(("80000000", 0, 0), (0, 0, 0), (0, 0))
+EAST_CORNER = corner((1, 0, 0), (0, 0, 0), (0, 0))
+SQUARE = " ".join(corner(*c) for c in square(0, 1))
+
+
+def fan_triangle(face, a, b):
+    return f"Triangles′.make {face} false 3 (Triangles′.nook 0 {corner(*HUB)}) (Triangles′.nook 1 {corner(*a)}) (Triangles′.nook 2 {corner(*b)})"
+
+
+FAN_TRIANGLES = [f"({fan_triangle(0, EAST, NORTH)})", f"({fan_triangle(1, SOUTH, EAST)})", f"({fan_triangle(2, NORTH, WEST)})"]
+
+
+def summed(order):
+    """The words of the hub's frame, the fan's triangles summed in an order."""
+    return f"Slot′.present (Step7Sums′.evaluate {corner(*HUB)} (" + " ∷ ".join([FAN_TRIANGLES[i] for i in order] + ["[]"]) + ")) true"
+
+
+def nan_mesh(ns):
+    """Faces of these sizes, all zeros but the last position's last number, a NaN."""
+    count = sum(ns)
+    return f"Outcome′.outcome {sizes(ns)} {numbers([0] * (3 * count - 1) + ['7fc00000'])} {numbers([0] * 3 * count)} {numbers([0] * 2 * count)} (number {numeral(MINUS_ONE)}) [] (replicate 256 9)"
+
+
+def is_true(t):
+    return t
+
+
+def is_false(t):
+    return f"not ({t})"
+
+
+def is_number(t, n):
+    return f"eqb ({t}) {n}"
+
+
+def is_word(t, w):
+    return f"eqb (word ({t})) {numeral(w)}"
+
+
+# the samples marked *, in document 01's order, then the slips: a comment and a test
+STARRED = [
+    ("4: position pair (0,0,0), (-0,0,0): degenerate, not welded", is_true(f"Step2Degenerate′.flat {ZERO} {MINUS_ZERO} {EAST_CORNER}")),
+    ("", is_false(f"Step4Order′.welded {ZERO} {MINUS_ZERO}")),
+    ("5: a unit square with the same texture square: cut 02", is_true(f"Step1Cut′.cut02 {SQUARE}")),
+    ("6: 00800000 counts as zero; 00800001 doesn't", is_false("Vector′.counts (number 0x0080_0000)")),
+    ("", is_true("Vector′.counts (number 0x0080_0001)")),
+    ("7: root of 2 is 3FB504F3; of 4, 40000000", is_word("Root′.sqrt (number 0x4000_0000)", 0x3FB5_04F3)),
+    ("", is_word("Root′.sqrt (number 0x4080_0000)", 0x4000_0000)),
+    ("8: angle of 1 is 0, of 0 is 3FC90FDB, of -1 is 40490FDB", is_word("Angle′.angle (number 0x3f80_0000)", 0)),
+    ("", is_word("Angle′.angle (number 0)", 0x3FC9_0FDB)),
+    ("", is_word("Angle′.angle (number 0xbf80_0000)", 0x4049_0FDB)),
+    ("9: X of 3F3504F3 is 759,250,112; of BF3504F3 the negative; of 2^-31 and of -0.0, zero", "sameWhole (Angle′.wholeOf (number 0x3f35_04f3)) (pos 759250112)"),
+    ("", "sameWhole (Angle′.wholeOf (number 0xbf35_04f3)) (negℤ (pos 759250112))"),
+    ("", "sameWhole (Angle′.wholeOf (number 0x3000_0000)) (pos 0)"),
+    ("", "sameWhole (Angle′.wholeOf (number 0x8000_0000)) (pos 0)"),
+    ("10: F of 4,097 is refused with 1; 4,096 isn't", is_number("Outcome′.outcome (replicate 4097 3) [] [] [] nan [] [] .number", 1)),
+    ("", is_number("Outcome′.outcome (replicate 4096 3) [] [] [] nan [] [] .number", 2)),
+    ("11: sizes 5, 2 and 0 only: S is 0", is_number("Handed′.slotCount (5 ∷ 2 ∷ 0 ∷ [])", 0)),
+    ("12: a NaN in a face of 5 is no ground for 4; in a face of 3 it is, and 4 is given if 1 to 3 don't apply", is_number(f"{nan_mesh([5])} .number", 0)),
+    ("", is_number(f"{nan_mesh([3])} .number", 4)),
+    ("", is_number(f"{nan_mesh([5, 3])} .place", 7)),
+    ("slip 'Welding by float comparison: -0.0 and 0.0 would join': they compare equal", is_true(f"Vector′.equals {vector((0, 0, 0))} {vector(('80000000', 0, 0))}")),
+    ("slip '`>` for the position diagonals: the tie goes the wrong way': neither diagonal of the square is longer", is_false(f"lt (Step1Cut′.apart² {corner(*square(0, 1)[2])} {corner(*square(0, 1)[0])}) (Step1Cut′.apart² {corner(*square(0, 1)[3])} {corner(*square(0, 1)[1])})")),
+    ("slip 'Summing a subgroup in walk order: last bits change': in triangle order the frame above, in walk order another", is_true(f"sameWords ({summed([0, 1, 2])}) {words(FAN_FRAME)}")),
+    ("", is_false(f"sameWords ({summed([0, 2, 1])}) {words(FAN_FRAME)}")),
+    ("slip 'Storing zeros with word 0 = 1 for an absent corner': its words are ten zeros", is_true("sameWords (Slot′.words Absent) (replicate 10 0)")),
+]
+
+HEAD = """-- Document 01's samples, computed from the definitions. Written by tools/samples.py. Assumes nothing.
+use Prim.Native.Nat.{ℕ}
+use mathlib.Core.Path.{_≡_, refl}
+use mathlib.Core.Bool.{Bool, true, false, not, _&&_, xor}
+use mathlib.Core.List.{List, [], _∷_, _++_, map, flatMap}
+use lib.Dec.{eqb}
+use lib.ListN.{take, drop, replicate}
+use lib.IntN.{ℤ, pos, negsuc, negℤ}
+use lib.Signed.{leZ}
+use lib.Ieee.{Float, nan, isNan, add, sub, mul, div, neg, lt, le, eq, toBits, ofBits, round, toUnsigned, toSigned, ofInt, size, units}
+use Rattle.bits.specs.Word.{word, number}
+use Rattle.math.specs.Vector.{vec}
+use Rattle.tangent.specs.declared.Reading.the-variants.{Absent}
+"""
+
+
+def unfolded():
+    uses, names = [], []
+    for crate, modules in CRATES.items():
+        for module in modules:
+            text = open(f"crates/{crate}/specs/{module}.antt", encoding="utf-8").read()
+            found = re.findall(r"^ *unfoldable pub (\S+)", text, re.M)
+            if found:
+                path = "Rattle.definition.specs." if crate == "definition" else f"Rattle.{crate}.specs."
+                uses.append(f"use {path}{module} as {module}′\n")
+                names += [f"{module}′.{name}" for name in found]
+    return "".join(uses), " ".join(names)
+
+
+def listed(rows):
+    """The rows of a list, each below its comment."""
+    return "".join(f"    -- {note}\n    {row}\n" if note else f"    {row}\n" for note, row in rows)
+
+
+def main():
+    uses, names = unfolded()
+    out = HEAD + uses
+    out += """
+-- numbers, by their bits
+abbrev numbers : List ℕ → List Float
+numbers l = map number l
+
+-- the same words
+unfoldable sameWords : List ℕ → List ℕ → Bool
+sameWords [] [] = true
+sameWords [] (y ∷ m) = false
+sameWords (x ∷ l) [] = false
+sameWords (x ∷ l) (y ∷ m) = eqb x y && sameWords l m
+
+-- what stands past 30 words of the answer list and 128 of the work list
+abbrev behind : Outcome′.Result → List ℕ
+behind r = drop 30 (r .answer) ++ drop 128 (r .work)
+
+-- the same whole number
+abbrev sameWhole : ℤ → ℤ → Bool
+sameWhole a b = leZ a b && leZ b a
+
+"""
+    out += "-- the samples marked *, as tests, in document 01's order; then, for each slip that was seen coming, what tells it from the rule\npub starred : List Bool\nstarred =\n"
+    out += "    " + " ∷\n    ".join(f"({test})" for _, test in STARRED) + " ∷ []\n\n"
+    out += f"-- one proof over all of them: no test fails\npub starred-hold : Lists′.has not starred ≡ false\nunfolding starred sameWords {names} {IEEE} xor flatMap\nstarred-hold = refl\n\n"
+    for name, note, call, result in WHOLE:
+        out += f"-- {note}\npub {name} : {call} ≡ {result}\nunfolding {names} {IEEE} xor flatMap\n{name} = refl\n\n"
+    open("crates/definition/proofs/Samples.antt", "w", encoding="utf-8").write(out.rstrip("\n") + "\n")
+
+
+main()
