@@ -1,3 +1,112 @@
 -- Demand 1 holds of the definition. Assumes nothing.
-use mathlib.Core.Path.{_≡_, refl}
+use Prim.Native.Nat.{ℕ, _+_, _*_, _≤_, _<_}
+use native.Mathlib.Nat.{zero-lt-suc, le-trans}
+use native.Mathlib.Omega.{arith}
+use mathlib.Core.Path.{_≡_, refl, sym, _∙_, ap, subst}
+use mathlib.Core.Bool.{Bool, false}
+use mathlib.Core.Logic.{_⊎_, inl, inr}
+use mathlib.Core.List.{List, [], _∷_, _++_}
+use mathlib.Core.Option.{Option, none, some}
+use lib.Dec.{ltb, lit≤}
+use lib.ListN.{length, take, drop, replicate, length-append, length-drop, length-replicate}
+use lib.Seq.{take-at, drop-at}
+use borrow.Author.Tests.{ltb-false}
+use Rattle.tangent.specs.Slot.{slotWords}
+use Rattle.definition.specs.Limits.{workWords}
+use Rattle.definition.specs.Lists.{has}
+use Rattle.definition.specs.Handed.{meshFrom, slotCount}
+use Rattle.definition.specs.Frames.{frames}
+use Rattle.definition.specs.Desk.{Row, table, verdict}
+use Rattle.definition.specs.Outcome.{Result, answerWords, accepted, answered, outcome}
+use Rattle.definition.proofs.Part.{Each, each-none, each-some, Every, every-nil, every-cons}
+use Rattle.definition.proofs.Closed.{Found, first-found}
+use Rattle.definition.proofs.Laws.{or-left, or-right}
+use Rattle.definition.proofs.Bridge.{answer-length}
+use Rattle.promises.specs.Calls.{Call, leaves, Accepted}
 use Rattle.promises.specs.Demand1.{Refused, Taken, Promised}
+use Rattle.promises.specs.Impostors.{rowsOf}
+use Rattle.promises.proofs.Acceptance.{verdictOf, accepted-only}
+
+-- the numbers of the table are 1 to 6
+between : (x : Call) → Every (λ r. (0 < r .number) × (r .number ≤ 6)) (rowsOf x)
+unfolding table rowsOf
+between x =
+    every-cons (zero-lt-suc 0, lit≤ tt) (every-cons (zero-lt-suc 1, lit≤ tt) (every-cons (zero-lt-suc 2, lit≤ tt)
+    (every-cons (zero-lt-suc 3, lit≤ tt) (every-cons (zero-lt-suc 4, lit≤ tt) (every-cons (zero-lt-suc 5, lit≤ tt) every-nil)))))
+
+-- what a call leaves behind, by the verdict
+abbrev by : Call → Option Row → Result
+by x o = answered o (accepted (x .mesh .sizes) (x .mesh .places) (x .mesh .normals) (x .mesh .texture) (x .threshold) (x .answer) (x .work)) (x .answer) (x .work)
+
+leaves-is : (x : Call) (o : Option Row) → verdictOf x ≡ o → leaves x ≡ by x o
+unfolding leaves outcome
+leaves-is x o e = ap (by x) e
+
+-- ---- a refusal
+refused : (x : Call) (r : Row) → verdictOf x ≡ some r → (0 < r .number) × (r .number ≤ 6) → Refused x
+unfolding answered
+refused x r e h =
+    let is = leaves-is x (some r) e in
+    record {
+      low = subst (λ (y : Result). 0 < y .number) (sym is) (h .0);
+      high = subst (λ (y : Result). y .number ≤ 6) (sym is) (h .1);
+      no-slots = ap (λ (y : Result). y .slots) is;
+      same-answer = ap (λ (y : Result). y .answer) is;
+      same-work = ap (λ (y : Result). y .work) is;
+    }
+
+-- ---- acceptance: the lent lists are long enough, since rows 5 and 6 do not apply
+every-none : {X : Type 0} (p : X → Bool) (l : List X) → has p l ≡ false → Every (λ x. p x ≡ false) l
+unfolding has
+every-none p [] e = every-nil
+every-none p (x ∷ l) e = every-cons (or-left (p x) (has p l) e) (every-none p l (or-right (p x) (has p l) e))
+
+last-two : {X : Type 0} {P : X → Type 0} {a b c d e f : X} → Every P (a ∷ b ∷ c ∷ d ∷ e ∷ f ∷ []) → P e × P f
+last-two (every-cons a (every-cons b (every-cons c (every-cons d (every-cons e (every-cons f every-nil)))))) = (e, f)
+
+long-enough : (x : Call) → Accepted x → (slotWords * slotCount (x .mesh .sizes) ≤ length (x .answer)) × (workWords * length (x .mesh .sizes) ≤ length (x .work))
+unfolding rowsOf table
+long-enough x e =
+    let k = last-two (every-none (λ r. r .applies) (rowsOf x) (accepted-only x e)) in
+    (ltb-false (length (x .answer)) (slotWords * slotCount (x .mesh .sizes)) (k .0), ltb-false (length (x .work)) (workWords * length (x .mesh .sizes)) (k .1))
+
+-- a list whose first n words were written
+front : (n : ℕ) (new old : List ℕ) → length new ≡ n → n ≤ length old → (drop n (new ++ drop n old) ≡ drop n old) × (take n (new ++ drop n old) ≡ new) × (length (new ++ drop n old) ≡ length old)
+front n new old e h =
+    let a = length-append new (drop n old) in
+    let b = length-drop n old in
+    (drop-at new (drop n old) n e, take-at new (drop n old) n e, omega arith)
+
+taken : (x : Call) → verdictOf x ≡ none → Accepted x → Taken x
+unfolding answered accepted
+taken x e ok =
+    let is = leaves-is x none e in
+    let long = long-enough x ok in
+    let sizes = x .mesh .sizes in
+    let n = slotWords * slotCount sizes in
+    let k = workWords * length sizes in
+    let a = front n (answerWords (frames (x .threshold) (meshFrom (x .mesh .places) (x .mesh .normals) (x .mesh .texture) 0 sizes))) (x .answer) (answer-length (x .mesh .places) (x .mesh .normals) (x .mesh .texture) (x .threshold) sizes) (long .0) in
+    let w = front k (replicate k 0) (x .work) (length-replicate k 0) (long .1) in
+    record {
+      number-0 = ap (λ (y : Result). y .number) is;
+      place-0 = ap (λ (y : Result). y .place) is;
+      slots-S = ap (λ (y : Result). y .slots) is;
+      answer-past = ap (λ (y : Result). drop n (y .answer)) is ∙ a .0;
+      answer-length = ap (λ (y : Result). length (y .answer)) is ∙ a .2;
+      work-zero = ap (λ (y : Result). take k (y .work)) is ∙ w .1;
+      work-past = ap (λ (y : Result). drop k (y .work)) is ∙ w .0;
+      work-length = ap (λ (y : Result). length (y .work)) is ∙ w .2;
+    }
+
+accepted-none : (x : Call) → verdictOf x ≡ none → Accepted x
+unfolding Accepted answered accepted
+accepted-none x e = ap (λ (y : Result). y .number) (leaves-is x none e)
+
+-- ---- the promise
+pub demand1 : Promised
+unfolding Promised verdict rowsOf
+demand1 x = go (verdictOf x) refl (first-found (λ r. r .applies) (between x))
+  where
+    go : (o : Option Row) → verdictOf x ≡ o → Each (Found (λ r. r .applies) (λ r. (0 < r .number) × (r .number ≤ 6))) o → Refused x ⊎ Taken x
+    go none e each-none = inr (taken x e (accepted-none x e))
+    go (some r) e (each-some h) = inl (refused x r e (h .known))
