@@ -3,7 +3,7 @@ use mathlib.Core.Bool.{Bool, not, _&&_}
 use mathlib.Core.List.{List, [], _∷_, _++_}
 use mathlib.Core.Option.{Option}
 use lib.Dec.{eqb}
-use lib.Ieee.{Float}
+use lib.Ieee as Ieee
 use Rattle.bits.specs.Word.{word}
 use Rattle.math.specs.declared.Vec3.{Vec3}
 use Rattle.definition.specs.declared.Corner.{Corner}
@@ -33,7 +33,7 @@ unfoldable pub ordered : List Triangle → List Spot
 ordered ts = spots (sound ts) ++ spots (broken ts)
 
 -- 'the same bits': 'here -0.0 and 0.0 differ'
-unfoldable pub sameBits : Float → Float → Bool
+unfoldable pub sameBits : Ieee.Float → Ieee.Float → Bool
 sameBits x y = eqb (word x) (word y)
 
 -- the same bits in all three components

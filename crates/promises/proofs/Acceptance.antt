@@ -10,8 +10,8 @@ use lib.ListN.{length}
 use Rattle.definition.specs.Lists.{first, has}
 use Rattle.definition.specs.Desk.{Row, table, verdict}
 use Rattle.definition.specs.Outcome.{Result, accepted, answered, outcome}
-use Rattle.definition.proofs.Part.{Each, each-none, each-some, Every, every-nil, every-cons}
-use Rattle.definition.proofs.Closed.{Found, first-found}
+use Rattle.laws.proofs.Part.{Each, each-none, each-some, Every, every-nil, every-cons}
+use Rattle.laws.proofs.Closed.{Found, first-found}
 use Rattle.promises.specs.Calls.{Call, leaves, Accepted}
 use Rattle.promises.specs.Impostors.{rowsOf}
 

@@ -18,10 +18,10 @@ use Rattle.definition.specs.Handed.{meshFrom, slotCount}
 use Rattle.definition.specs.Frames.{frames}
 use Rattle.definition.specs.Desk.{Row, table, verdict}
 use Rattle.definition.specs.Outcome.{Result, answerWords, accepted, answered, outcome}
-use Rattle.definition.proofs.Part.{Each, each-none, each-some, Every, every-nil, every-cons}
-use Rattle.definition.proofs.Closed.{Found, first-found}
-use Rattle.definition.proofs.Laws.{or-left, or-right}
-use Rattle.definition.proofs.Bridge.{answer-length}
+use Rattle.laws.proofs.Part.{Each, each-none, each-some, Every, every-nil, every-cons}
+use Rattle.laws.proofs.Closed.{Found, first-found}
+use Rattle.laws.proofs.Laws.{or-left, or-right}
+use Rattle.laws.proofs.Bridge.{answer-length}
 use Rattle.promises.specs.Calls.{Call, leaves, Accepted}
 use Rattle.promises.specs.Demand1.{Refused, Taken, Promised}
 use Rattle.promises.specs.Impostors.{rowsOf}

@@ -21,8 +21,8 @@ use Rattle.definition.specs.Frames.{numbered, framesFrom, framesOf, frames}
 use Rattle.definition.specs.Desk.{Row}
 use Rattle.definition.specs.Outcome.{Result, answerWords, accepted, answered, outcome}
 use Rattle.definition.specs.Shuffle.{Shuffle, done, left, right, shares}
-use Rattle.definition.proofs.Bridge.{face-length}
-use Rattle.definition.proofs.Shuffled.{shuffled}
+use Rattle.laws.proofs.Bridge.{face-length}
+use Rattle.laws.proofs.Shuffled.{shuffled}
 use Rattle.promises.specs.Calls.{Handed, Call, meshOf, leaves, Accepted, slotsOf, slotsBefore, faceAnswer}
 use Rattle.promises.proofs.Acceptance.{no-row}
 use Rattle.promises.specs.Demand3.{leftAt, rightAt, Demand3, Promised}

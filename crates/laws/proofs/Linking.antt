@@ -4,15 +4,15 @@ use mathlib.Core.Path.{_≡_, refl, sym, _∙_, ap}
 use mathlib.Core.Bool.{Bool, true, false, cond, not, _&&_, _||_}
 use mathlib.Core.List.{List, [], _∷_, _++_, map}
 use mathlib.Core.Option.{Option, none, some}
 use Rattle.definition.specs.declared.Corner.{Corner}
 use Rattle.definition.specs.declared.Triangle.{Triangle}
 use Rattle.definition.specs.Lists.{keep, first, has}
 use Rattle.definition.specs.Mesh.{Spot, next, cornerOf, sameSpot}
 use Rattle.definition.specs.Step4Order.{welded, spots}
 use Rattle.definition.specs.Step5Links.{Link, endOf, opposite, linked, addLink, linkOne, linkAll, links, beyond}
-use Rattle.definition.proofs.Part.{Part, nothing, mine, other, Each, each-none, each-some, mapped, part-first, first-ours, first-theirs, part-has, part-cond, part-cond-other}
-use Rattle.definition.proofs.World.{World, OursT, TheirsT, moved, movedSpot, OursS, TheirsS, next-moved, next-ours, next-theirs, corner-moved, spot-moved, spot-theirs, theirs-spot, corner-ours, corner-theirs, weld-theirs, weld-ours}
-use Rattle.definition.proofs.Pieces.{Triangles, Spots, spots-part}
+use Rattle.laws.proofs.Part.{Part, nothing, mine, other, Each, each-none, each-some, mapped, part-first, first-ours, first-theirs, part-has, part-cond, part-cond-other}
+use Rattle.laws.proofs.World.{World, OursT, TheirsT, moved, movedSpot, OursS, TheirsS, next-moved, next-ours, next-theirs, corner-moved, spot-moved, spot-theirs, theirs-spot, corner-ours, corner-theirs, weld-theirs, weld-ours}
+use Rattle.laws.proofs.Pieces.{Triangles, Spots, spots-part}
 
 and-false : (b : Bool) → (b && false) ≡ false
 and-false true = refl

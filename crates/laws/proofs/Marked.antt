@@ -8,17 +8,17 @@ use lib.Dec.{eqb}
 use native.Mathlib.Omega.{arith}
 use Rattle.math.specs.Vector.{equals}
 use Rattle.math.proofs.Equal.{equals-sym}
 use Rattle.definition.specs.declared.Corner.{Corner}
 use Rattle.definition.specs.declared.Kept.{Kept}
 use Rattle.definition.specs.declared.Triangle.{Triangle}
 use Rattle.definition.specs.Lists.{first, has}
 use Rattle.definition.specs.Mesh.{Third, one, two, three, Spot, kept, cornerOf}
 use Rattle.definition.specs.Step1Cut.{cut02}
 use Rattle.definition.specs.Step2Degenerate.{flat, exactlyOne}
 use Rattle.definition.specs.Triangles.{nook, make, settled, pair, quad}
 use Rattle.definition.specs.Step4Order.{isSound, spots}
 use Rattle.definition.specs.Step9Copies.{nooks}
-use Rattle.definition.proofs.Part.{Every, every-nil, every-cons}
+use Rattle.laws.proofs.Part.{Every, every-nil, every-cons}
 
 -- the triangle t keeps a corner at c's position
 unfoldable pub keepsAt : Triangle → Corner → Bool

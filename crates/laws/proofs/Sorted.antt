@@ -7,19 +7,19 @@ use mathlib.Core.Bool.{Bool, true, false, cond, _&&_, _||_, true≢false}
 use mathlib.Core.List.{List, [], _∷_, map, List·Memᴰ, Memᴰ·map}
 use lib.Dec.{eqb, ltb}
 use borrow.Author.Tests.{lt-ltb, le-ltb, le-leb, eq-eqb, ltb-true, ltb-false, eqb-true, eqb-false, leb-true, leb-false}
 use Rattle.definition.specs.declared.Corner.{Corner}
 use Rattle.definition.specs.declared.Triangle.{Triangle}
 use Rattle.definition.specs.Lists.{keep}
 use Rattle.definition.specs.Mesh.{Third, one, two, three, Spot, cornerOf}
 use Rattle.definition.specs.Step4Order.{welded, sound, spots}
 use Rattle.definition.specs.Step5Links.{endOf, opposite, links, beyond}
 use Rattle.definition.specs.Step5Sorted.{numberOf, vertexOf, Side, sideOf, sidesFrom, sides, mayPrecede, setIn, sortedBy, sortedSides, sortedLinks, alike}
-use Rattle.definition.proofs.Part.{Every, every-nil, every-cons, every-map}
-use Rattle.definition.proofs.Closed.{and-left, and-right}
-use Rattle.definition.proofs.Weld.{weld-one}
-use Rattle.definition.proofs.Shuffled.{every-mem}
-use Rattle.definition.proofs.Mutual.{Names, spots-apart}
-use Rattle.definition.proofs.Buckets.{sameEnds, ends-as, any-order}
+use Rattle.laws.proofs.Part.{Every, every-nil, every-cons, every-map}
+use Rattle.laws.proofs.Closed.{and-left, and-right}
+use Rattle.laws.proofs.Weld.{weld-one}
+use Rattle.laws.proofs.Shuffled.{every-mem}
+use Rattle.laws.proofs.Mutual.{Names, spots-apart}
+use Rattle.laws.proofs.Buckets.{sameEnds, ends-as, any-order}
 
 -- each element of the list may precede all that follow it
 pub data InOrder {X : Type 0} (p : X → X → Bool) : List X → Type 0 where

@@ -8,14 +8,14 @@ use lib.Dec.{eqb}
 use lib.Ieee.{Float, binary32, toBits}
 use borrow.Author.Tests.{eq-eqb, eqb-true}
 use Rattle.math.specs.declared.Vec3.{Vec3}
 use Rattle.definition.specs.declared.Corner.{Corner}
 use Rattle.definition.specs.declared.Triangle.{Triangle}
 use Rattle.definition.specs.Lists.{first}
 use Rattle.definition.specs.Mesh.{Spot, cornerOf}
 use Rattle.definition.specs.Step4Order.{sameBits, sameVector, welded, sound, broken, spots, weldedTo}
-use Rattle.definition.proofs.Part.{Each, each-none, each-some, Every, every-nil, every-cons}
-use Rattle.definition.proofs.World.{welded-sym}
-use Rattle.definition.proofs.Closed.{Found, first-found, and-left, and-right}
+use Rattle.laws.proofs.Part.{Each, each-none, each-some, Every, every-nil, every-cons}
+use Rattle.laws.proofs.World.{welded-sym}
+use Rattle.laws.proofs.Closed.{Found, first-found, and-left, and-right}
 
 bits-refl : (x : Float) → sameBits x x ≡ true
 unfolding sameBits

@@ -5,16 +5,16 @@ use mathlib.Core.Path.{_≡_, refl, sym, _∙_, ap, subst}
 use mathlib.Core.Bool.{Bool, true, false, cond, not, _&&_, _||_, Bool·beq, true≢false, false≢true}
 use mathlib.Core.List.{List, [], _∷_, _++_, List·Memᴰ, List·Memᴰ·head, List·Memᴰ·tail}
 use mathlib.Core.Option.{Option, none, some}
 use Rattle.definition.specs.declared.Triangle.{Triangle}
 use Rattle.definition.specs.Lists.{first, has}
 use Rattle.definition.specs.Mesh.{Third, one, two, three, Spot, sameThird, sameTriangle, sameSpot}
 use Rattle.definition.specs.Step4Order.{spots}
 use Rattle.definition.specs.Step5Links.{Link, opposite, linked, addLink, linkOne, linkAll, links, beyond}
-use Rattle.definition.proofs.Part.{Each, each-none, each-some, Every, every-nil, every-cons}
-use Rattle.definition.proofs.World.{eqb-sym}
-use Rattle.definition.proofs.Enough.{spot-refl}
-use Rattle.definition.proofs.Closed.{Found, first-found, and-left, and-right, Sound, all-sound, beyond-known, each-map}
-use Rattle.definition.proofs.Shuffled.{every-mem}
+use Rattle.laws.proofs.Part.{Each, each-none, each-some, Every, every-nil, every-cons}
+use Rattle.laws.proofs.World.{eqb-sym}
+use Rattle.laws.proofs.Enough.{spot-refl}
+use Rattle.laws.proofs.Closed.{Found, first-found, and-left, and-right, Sound, all-sound, beyond-known, each-map}
+use Rattle.laws.proofs.Shuffled.{every-mem}
 
 -- ---- names
 

@@ -4,15 +4,15 @@ use mathlib.Core.Path.{_≡_, refl, sym, _∙_, ap}
 use mathlib.Core.Bool.{Bool, true, false, cond, not, _&&_, _||_, true≢false, false≢true}
 use mathlib.Core.List.{List, [], _∷_, _++_, List·Memᴰ, List·Memᴰ·head, List·Memᴰ·tail}
 use mathlib.Core.Option.{Option, none, some}
 use Rattle.definition.specs.declared.Corner.{Corner}
 use Rattle.definition.specs.declared.Triangle.{Triangle}
 use Rattle.definition.specs.Lists.{keep, first, has}
 use Rattle.definition.specs.Mesh.{Third, one, two, three, Spot, next, prior, cornerOf, sameSpot}
 use Rattle.definition.specs.Step4Order.{welded, spots}
 use Rattle.definition.specs.Step5Links.{Link, opposite, linked, addLink, linkOne, linkAll, links, beyond}
 use Rattle.definition.specs.Step6Groups.{cornerIn, overTo, over}
-use Rattle.definition.proofs.Part.{Each, each-none, each-some, Every, every-nil, every-cons}
-use Rattle.definition.proofs.Enough.{Near}
+use Rattle.laws.proofs.Part.{Each, each-none, each-some, Every, every-nil, every-cons}
+use Rattle.laws.proofs.Enough.{Near}
 
 -- ---- the first that passes is one of the list, and passes
 

@@ -8,24 +8,24 @@ use lib.Dec.{eqb}
 use lib.ListN.{length, length-map}
 use borrow.Author.Tests.{eqb-true, eq-eqb}
 use lib.Ieee.{Float}
 use Rattle.definition.specs.declared.Corner.{Corner}
 use Rattle.definition.specs.declared.Triangle.{Triangle}
 use Rattle.definition.specs.Lists.{keep}
 use Rattle.definition.specs.Mesh.{Face, Third, one, two, three, Spot, kept, slotOf, sameThird, sameTriangle, sameSpot}
 use Rattle.definition.specs.Step1Cut.{cut02}
 use Rattle.definition.specs.Triangles.{make, settled, pair, nook, quad, pieces, triangles}
 use Rattle.definition.specs.Step4Order.{isSound, sound, spots}
 use Rattle.definition.specs.Step5Links.{links}
 use Rattle.definition.specs.Step6Groups.{Mark, marks}
 use Rattle.definition.specs.Step7Sums.{Brought, bring, broughtAll}
 use Rattle.definition.specs.Frames.{numbered}
-use Rattle.definition.proofs.Part.{Every, every-nil, every-cons, every-append, every-map, every-keep}
-use Rattle.definition.proofs.Closed.{and-left, and-right, Whole}
-use Rattle.definition.proofs.Mutual.{Names, spots-apart, apart-inj, every-at}
-use Rattle.definition.proofs.Laws.{Once, once-nil, once-cons, at-most-one, marks-inv, beq-refl}
-use Rattle.definition.proofs.Numbers.{names-keep, triangles-names}
-use Rattle.definition.proofs.Enough.{third-refl}
-use Rattle.definition.proofs.Closed.{spots-whole}
+use Rattle.laws.proofs.Part.{Every, every-nil, every-cons, every-append, every-map, every-keep}
+use Rattle.laws.proofs.Closed.{and-left, and-right, Whole}
+use Rattle.laws.proofs.Mutual.{Names, spots-apart, apart-inj, every-at}
+use Rattle.laws.proofs.Laws.{Once, once-nil, once-cons, at-most-one, marks-inv, beq-refl}
+use Rattle.laws.proofs.Numbers.{names-keep, triangles-names}
+use Rattle.laws.proofs.Enough.{third-refl}
+use Rattle.laws.proofs.Closed.{spots-whole}
 
 -- ---- a triangle's three corners are three of its face
 pub record Plain (t : Triangle) : Type 0 where

@@ -7,18 +7,18 @@ use mathlib.Core.List.{List, [], _∷_, _++_, List·Memᴰ}
 use mathlib.Core.Option.{Option, none, some}
 use lib.Dec.{eqb}
 use borrow.Author.Tests.{ne-eqb}
 use Rattle.definition.specs.declared.Corner.{Corner}
 use Rattle.definition.specs.declared.Triangle.{Triangle}
 use Rattle.definition.specs.Frames.{numbered}
 use Rattle.definition.specs.Lists.{keep}
 use Rattle.definition.specs.Mesh.{Face, Spot, sameTriangle}
 use Rattle.definition.specs.Step1Cut.{cut02}
 use Rattle.definition.specs.Step4Order.{isSound, sound, spots}
 use Rattle.definition.specs.Step5Links.{links, beyond}
 use Rattle.definition.specs.Triangles.{make, settled, pair, nook, quad, usable, pieces, triangles}
-use Rattle.definition.proofs.Part.{Every, every-nil, every-cons, every-map, every-append, every-keep}
-use Rattle.definition.proofs.Pieces.{Of, pieces-of}
-use Rattle.definition.proofs.Mutual.{Names, names-nil, names-cons, mutual′}
+use Rattle.laws.proofs.Part.{Every, every-nil, every-cons, every-map, every-append, every-keep}
+use Rattle.laws.proofs.Pieces.{Of, pieces-of}
+use Rattle.laws.proofs.Mutual.{Names, names-nil, names-cons, mutual′}
 
 and-false : (b : Bool) → (b && false) ≡ false
 and-false true = refl

@@ -4,16 +4,16 @@ use mathlib.Core.Path.{_≡_, refl, sym, _∙_, ap, subst}
 use mathlib.Core.Bool.{Bool, true, false, cond, not, _&&_, _||_, true≢false, false≢true}
 use mathlib.Core.List.{List, [], _∷_, _++_, List·Memᴰ, List·Memᴰ·head, List·Memᴰ·tail}
 use mathlib.Core.Option.{Option, none, some}
 use Rattle.definition.specs.declared.Corner.{Corner}
 use Rattle.definition.specs.Lists.{keep, first, has}
 use Rattle.definition.specs.Mesh.{Spot, cornerOf, sameSpot}
 use Rattle.definition.specs.Step4Order.{welded}
 use Rattle.definition.specs.Step5Links.{Link, endOf, opposite, linked, addLink, linkOne, linkAll, beyond}
-use Rattle.definition.proofs.Part.{Part, nothing, mine, other, Each, each-none, each-some, mapped, Every, every-nil, every-cons, part-first, first-ours, first-theirs, part-has, part-cond, part-cond-other}
-use Rattle.definition.proofs.World.{welded-sym}
-use Rattle.definition.proofs.Closed.{and-left, and-right}
-use Rattle.definition.proofs.Weld.{welded-refl, welded-as}
-use Rattle.definition.proofs.Mutual.{Apart, apart-inj}
+use Rattle.laws.proofs.Part.{Part, nothing, mine, other, Each, each-none, each-some, mapped, Every, every-nil, every-cons, part-first, first-ours, first-theirs, part-has, part-cond, part-cond-other}
+use Rattle.laws.proofs.World.{welded-sym}
+use Rattle.laws.proofs.Closed.{and-left, and-right}
+use Rattle.laws.proofs.Weld.{welded-refl, welded-as}
+use Rattle.laws.proofs.Mutual.{Apart, apart-inj}
 
 -- the same two ends, run either way
 unfoldable pub sameEnds : Spot → Spot → Bool

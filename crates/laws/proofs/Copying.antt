@@ -9,22 +9,22 @@ use lib.Ieee.{Float}
 use Rattle.tangent.specs.declared.Reading.{Reading}
 use Rattle.tangent.specs.declared.Reading.the-variants.{Absent, Single, Combined}
 use Rattle.math.specs.Vector.{equals}
 use Rattle.definition.specs.declared.Corner.{Corner}
 use Rattle.definition.specs.declared.Kept.{Kept}
 use Rattle.definition.specs.declared.Triangle.{Triangle}
 use Rattle.definition.specs.Lists.{keep, first}
 use Rattle.definition.specs.Mesh.{Face, Spot, cornerOf, slotOf}
 use Rattle.definition.specs.Step4Order.{welded, isSound, sound, spots}
 use Rattle.definition.specs.Step5Links.{links}
 use Rattle.definition.specs.Step6Groups.{marks}
 use Rattle.definition.specs.Step7Sums.{Brought, broughtAll}
 use Rattle.definition.specs.Step8Slots.{reading}
 use Rattle.definition.specs.Step9Copies.{copied, fromSound, fromKept, fromMarked, finalOf, nooks, faceReadings}
 use Rattle.definition.specs.Triangles.{usable, pieces, triangles, nook}
-use Rattle.definition.proofs.Part.{Part, nothing, mine, other, mapped, Every, every-nil, every-cons, part-first, first-map, map-cong, every-map}
-use Rattle.definition.proofs.World.{World, OursT, TheirsT, moved, movedSpot, OursS, TheirsS, corner-moved, slot-moved, weld-theirs}
-use Rattle.definition.proofs.Pieces.{Triangles, Spots, spots-part, pieces-moved, movedFace, OursF, TheirsF}
-use Rattle.definition.proofs.Bringing.{Broughts, reading-moved}
+use Rattle.laws.proofs.Part.{Part, nothing, mine, other, mapped, Every, every-nil, every-cons, part-first, first-map, map-cong, every-map}
+use Rattle.laws.proofs.World.{World, OursT, TheirsT, moved, movedSpot, OursS, TheirsS, corner-moved, slot-moved, weld-theirs}
+use Rattle.laws.proofs.Pieces.{Triangles, Spots, spots-part, pieces-moved, movedFace, OursF, TheirsF}
+use Rattle.laws.proofs.Bringing.{Broughts, reading-moved}
 
 module _ (w : World) where
   module _ {bs cs : List Brought} (q : Broughts w bs cs) where

@@ -10,25 +10,25 @@ use lib.Dec.{eqb, eqb·zero-suc, eqb·suc-zero, eqb·suc-suc}
 use lib.Ieee.{Float}
 use borrow.Author.Tests.{ne-eqb}
 use Rattle.tangent.specs.declared.Reading.{Reading}
 use Rattle.definition.specs.declared.Corner.{Corner}
 use Rattle.definition.specs.declared.Triangle.{Triangle}
 use Rattle.definition.specs.Frames.{numbered, framesFrom, framesOf, frames}
 use Rattle.definition.specs.Lists.{has}
 use Rattle.definition.specs.Mesh.{Face}
 use Rattle.definition.specs.Shuffle.{Shuffle, done, left, right, cornersOf, shares}
 use Rattle.definition.specs.Step4Order.{welded, sound}
 use Rattle.definition.specs.Step5Links.{links}
 use Rattle.definition.specs.Step6Groups.{marks}
 use Rattle.definition.specs.Step7Sums.{Brought, broughtAll}
 use Rattle.definition.specs.Step9Copies.{faceReadings}
 use Rattle.definition.specs.Triangles.{usable, triangles}
-use Rattle.definition.proofs.Part.{Part, nothing, mine, other, Every, every-nil, every-cons}
-use Rattle.definition.proofs.World.{World, welded-sym}
-use Rattle.definition.proofs.Pieces.{OursF, TheirsF, movedFace, triangles-part, sound-part}
-use Rattle.definition.proofs.Linking.{links-part}
-use Rattle.definition.proofs.Walking.{marks-part}
-use Rattle.definition.proofs.Bringing.{brought-part}
-use Rattle.definition.proofs.Copying.{face-moved}
+use Rattle.laws.proofs.Part.{Part, nothing, mine, other, Every, every-nil, every-cons}
+use Rattle.laws.proofs.World.{World, welded-sym}
+use Rattle.laws.proofs.Pieces.{OursF, TheirsF, movedFace, triangles-part, sound-part}
+use Rattle.laws.proofs.Linking.{links-part}
+use Rattle.laws.proofs.Walking.{marks-part}
+use Rattle.laws.proofs.Bringing.{brought-part}
+use Rattle.laws.proofs.Copying.{face-moved}
 
 -- ---- membership
 

@@ -12,24 +12,24 @@ use Rattle.tangent.specs.declared.Reading.{Reading}
 use Rattle.tangent.specs.Slot as slot
 use Rattle.tangent.specs.Slot.{slotWords}
 use Rattle.tangent.proofs.Slots.{words-length}
 use Rattle.definition.specs.declared.Corner.{Corner}
 use Rattle.definition.specs.declared.Kept.{Kept}
 use Rattle.definition.specs.declared.Triangle.{Triangle}
 use Rattle.definition.specs.Frames.{numbered, framesFrom, framesOf, frames}
 use Rattle.definition.specs.Handed.{cornersFrom, meshFrom, used, slotCount}
 use Rattle.definition.specs.Mesh.{Face, Spot, prior, cornerOf, sameTriangle}
 use Rattle.definition.specs.Outcome.{answerWords}
 use Rattle.definition.specs.Step4Order.{sound}
 use Rattle.definition.specs.Step5Links.{links}
 use Rattle.definition.specs.Step6Groups.{Mark, stops, over, going, marks}
 use Rattle.definition.specs.Step7Sums.{Brought, broughtAll}
 use Rattle.definition.specs.Step9Copies.{nooks, faceReadings}
 use Rattle.definition.specs.Triangles.{usable, nook, pieces, triangles}
-use Rattle.definition.proofs.Part.{Every, every-nil, every-cons}
-use Rattle.definition.proofs.World.{eqb-sym}
-use Rattle.definition.proofs.Enough.{Near, walked, walked-eq}
-use Rattle.definition.proofs.Closed.{over-near}
-use Rattle.definition.proofs.Mutual.{Names, names-nil, names-cons}
+use Rattle.laws.proofs.Part.{Every, every-nil, every-cons}
+use Rattle.laws.proofs.World.{eqb-sym}
+use Rattle.laws.proofs.Enough.{Near, walked, walked-eq}
+use Rattle.laws.proofs.Closed.{over-near}
+use Rattle.laws.proofs.Mutual.{Names, names-nil, names-cons}
 
 -- ---- ten words a slot
 

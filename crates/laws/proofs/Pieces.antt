@@ -4,16 +4,16 @@ use mathlib.Core.Path.{_≡_, refl, sym, _∙_, ap}
 use mathlib.Core.Bool.{Bool, true, false, cond}
 use mathlib.Core.List.{List, [], _∷_, _++_, map}
 use lib.Dec.{eqb}
 use Rattle.definition.specs.declared.Corner.{Corner}
 use Rattle.definition.specs.declared.Kept.{Kept}
 use Rattle.definition.specs.declared.Triangle.{Triangle}
 use Rattle.definition.specs.Mesh.{Face, Third, one, two, three, Spot, kept}
 use Rattle.definition.specs.Step1Cut.{cut02}
 use Rattle.definition.specs.Step3Tangents.{quadWay, area}
 use Rattle.definition.specs.Step4Order.{isSound, sound, broken, spots}
 use Rattle.definition.specs.Triangles.{make, settled, agree, pair, nook, quad, usable, pieces, triangles}
-use Rattle.definition.proofs.Part.{Part, nothing, mine, other, Every, every-nil, every-cons, all-mine, all-other, part-append, part-keep, every-map, every-append}
-use Rattle.definition.proofs.World.{World, OursT, TheirsT, moved, movedSpot, OursS, TheirsS}
+use Rattle.laws.proofs.Part.{Part, nothing, mine, other, Every, every-nil, every-cons, all-mine, all-other, part-append, part-keep, every-map, every-append}
+use Rattle.laws.proofs.World.{World, OursT, TheirsT, moved, movedSpot, OursS, TheirsS}
 
 -- a triangle of face n whose corners are all Q
 pub record Of (n : ℕ) (Q : Corner → Type 0) (t : Triangle) : Type 0 where
