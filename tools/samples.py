@@ -282,4 +282,5 @@ sameWhole a b = leZ a b && leZ b a
     open("crates/definition/proofs/Samples.antt", "w", encoding="utf-8").write(out.rstrip("\n") + "\n")
 
 
-main()
+if __name__ == "__main__":
+    main()

@@ -37,14 +37,23 @@ unfoldable pub badCorner : ℕ → List (List Corner) → Option ℕ
 badCorner i [] = none
 badCorner i (f ∷ m) = let r = badCorner (i + length f) m in orElse (cond (used (length f)) (badIn i f) none) r
 
--- whether there is one, and which (0 where there is none)
+-- whether there is one
 unfoldable pub isThere : Option ℕ → Bool
 isThere none = false
 isThere (some i) = true
 
+-- which one it is, and 0 where there is none
 unfoldable pub orZero : Option ℕ → ℕ
 orZero none = 0
 orZero (some i) = i
+
+-- 1: 'F is above 4,096'
+unfoldable pub tooMany : List ℕ → Bool
+tooMany sizes = ltb faceLimit (length sizes)
+
+-- 2: 'positions or normals aren't 3C long, or texture coordinates 2C'
+unfoldable pub misfit : List ℕ → List Float → List Float → List Float → Bool
+misfit sizes ps ns ts = not (eqb (length ps) (3 * cornerCount sizes) && eqb (length ns) (3 * cornerCount sizes) && eqb (length ts) (2 * cornerCount sizes))
 
 -- a row of the table: its number, whether it applies, its place
 pub record Row : Type 0 where
@@ -56,8 +65,8 @@ pub record Row : Type 0 where
 unfoldable pub table : List ℕ → List Float → List Float → List Float → Float → ℕ → ℕ → List Row
 table sizes ps ns ts h answer work =
     let bad = badCorner 0 (meshFrom ps ns ts 0 sizes) in
-    record { number = 1; applies = ltb faceLimit (length sizes); place = 0 }
-    ∷ record { number = 2; applies = not (eqb (length ps) (3 * cornerCount sizes) && eqb (length ns) (3 * cornerCount sizes) && eqb (length ts) (2 * cornerCount sizes)); place = 0 }
+    record { number = 1; applies = tooMany sizes; place = 0 }
+    ∷ record { number = 2; applies = misfit sizes ps ns ts; place = 0 }
     ∷ record { number = 3; applies = not (isFinite h); place = 0 }
     ∷ record { number = 4; applies = isThere bad; place = orZero bad }
     ∷ record { number = 5; applies = ltb answer (slotWords * slotCount sizes); place = 0 }
