@@ -1,0 +1,124 @@
+// What is handed in, read: a corner of the lists, the sums of the sizes, the part of a list that belongs to a face.
+// FaceVertex is carried over from mikktspace/face_vertex.rs of the Rust crate bevy_mikktspace and ALTERED: written anew in Rattle. See NOTICE.
+ghost use mathlib.Core.Path.{_≡_};
+ghost use Prim.Native.Nat.{_+_, _*_, _%_, _^_, _≤_, _<_, min};
+ghost use lib.ListN.{getD, take};
+ghost use lib.Ieee.{nan};
+ghost use Rattle.definition.specs.Handed.{cornerAt, cornerCount, slotCount};
+ghost use Rattle.definition.specs.Limits.{faceLimit};
+ghost use Rattle.math.specs.Vector.{vec};
+ghost use Rattle.mesh.specs.Parts as spec;
+use definition::Corner;
+use math::Vec3;
+
+// A corner of a face as one number: face times 4 plus corner.
+pub struct FaceVertex {
+    pub value: u32,
+}
+
+impl FaceVertex {
+    // The crate's debug panics, as bounds that always hold: the face's number is below 2 ^ 30 and the corner's below 4.
+    pub fn new(face: u32, vertex: u32) -> Self
+        ensures { λ r. ⌜ r .value ≡ 4 * (face % 2 ^ 30) + vertex % 4 ⌝ }
+    {
+        FaceVertex {
+            value: 4 * (face % 0x4000_0000) + vertex % 4,
+        }
+    }
+
+    pub fn face(self) -> u32
+        ensures { λ r. ⌜ r ≡ spec.faceOf (self .value) ⌝ }
+    {
+        self.value / 4
+    }
+
+    pub fn vertex(self) -> u32
+        ensures { λ r. ⌜ r ≡ spec.vertexIn (self .value) ⌝ }
+    {
+        self.value % 4
+    }
+}
+
+// The number at a place, and a NaN past the end.
+pub fn number_at(xs: &[f32], i: usize) -> f32
+    ensures { λ r. ⌜ r ≡ getD (now (xs .entry)) i nan ⌝ }
+{
+    if i < xs.len() {
+        return xs[i];
+    }
+    0.0 / 0.0
+}
+
+// The three numbers of corner number i, of positions or normals.
+pub fn vector_at(xs: &[f32], i: u32) -> Vec3
+    ensures { λ r. ⌜ r ≡ spec.vectorAt (now (xs .entry)) i ⌝ }
+{
+    let at = (i as usize) * 3;
+    Vec3 {
+        x: number_at(xs, at),
+        y: number_at(xs, at + 1),
+        z: number_at(xs, at + 2),
+    }
+}
+
+// Corner number i of the three lists.
+pub fn corner_at(positions: &[f32], normals: &[f32], texture: &[f32], i: u32) -> Corner
+    ensures { λ r. ⌜ r ≡ cornerAt (now (positions .entry)) (now (normals .entry)) (now (texture .entry)) i ⌝ }
+{
+    let place = vector_at(positions, i);
+    let normal = vector_at(normals, i);
+    let at = (i as usize) * 2;
+    Corner {
+        place,
+        normal,
+        u: number_at(texture, at),
+        v: number_at(texture, at + 1),
+    }
+}
+
+fn least(a: usize, b: usize) -> usize
+    ensures { λ r. ⌜ r ≡ min a b ⌝ }
+{
+    if a <= b { a } else { b }
+}
+
+// How many corners stand before a face, among the first 4,096 faces: no sum of so many bytes overflows.
+pub fn corners_before(sizes: &[u8], face: usize) -> usize
+    ensures { λ r. ⌜ (r ≡ cornerCount (take (min face faceLimit) (now (sizes .entry)))) × (r ≤ 255 * faceLimit) ⌝ }
+{
+    let end = least(least(face, 4096), sizes.len());
+    let mut sum: usize = 0;
+    let mut f: usize = 0;
+    while f < end {
+        sum += sizes[f] as usize;
+        f += 1;
+    }
+    sum
+}
+
+// How many slots a face of a size takes.
+pub fn slots_of(size: u8) -> usize
+    ensures { λ r. ⌜ (r ≡ spec.slotsOf size) × (r ≤ 4) ⌝ }
+{
+    if size == 3 {
+        return 3;
+    }
+    if size == 4 {
+        return 4;
+    }
+    0
+}
+
+// How many slots stand before a face, among the first 4,096 faces.
+pub fn slots_before(sizes: &[u8], face: usize) -> usize
+    ensures { λ r. ⌜ (r ≡ slotCount (take (min face faceLimit) (now (sizes .entry)))) × (r ≤ 4 * faceLimit) ⌝ }
+{
+    let end = least(least(face, 4096), sizes.len());
+    let mut sum: usize = 0;
+    let mut f: usize = 0;
+    while f < end {
+        sum += slots_of(sizes[f]);
+        f += 1;
+    }
+    sum
+}
