@@ -18,13 +18,16 @@ sumOf : (ℕ → ℕ) → List ℕ → ℕ
 sumOf g [] = 0
 sumOf g (n ∷ l) = g n + sumOf g l
 
-sum-last : (g : ℕ → ℕ) (l : List ℕ) (n : ℕ) → sumOf g (l ++ (n ∷ [])) ≡ sumOf g l + g n
+sum-append : (g : ℕ → ℕ) (l k : List ℕ) → sumOf g (l ++ k) ≡ sumOf g l + sumOf g k
 unfolding sumOf
-sum-last g [] n = omega arith
-sum-last g (k ∷ l) n = ap (λ (x : ℕ). g k + x) (sum-last g l n) ∙ sym (add-assoc (g k) (sumOf g l) (g n))
+sum-append g [] k = omega arith
+sum-append g (n ∷ l) k = ap (λ (x : ℕ). g n + x) (sum-append g l k) ∙ sym (add-assoc (g n) (sumOf g l) (sumOf g k))
 
 sum-more : (g : ℕ → ℕ) (l : List ℕ) (i : ℕ) → i < length l → sumOf g (take (i + 1) l) ≡ sumOf g (take i l) + g (getD l i 0)
-sum-more g l i h = ap (λ (k : ℕ). sumOf g (take k l)) (add-one i) ∙ ap (sumOf g) (take-suc l i 0 h) ∙ sum-last g (take i l) (getD l i 0)
+sum-more g l i h = ap (λ (k : ℕ). sumOf g (take k l)) (add-one i) ∙ ap (sumOf g) (take-suc l i 0 h) ∙ (sum-append g (take i l) (getD l i 0 ∷ []) ∙ one g (sumOf g (take i l)) (getD l i 0))
+  where
+    one : (g : ℕ → ℕ) (s n : ℕ) → s + sumOf g (n ∷ []) ≡ s + g n
+    one g s n = unfold sumOf in omega arith
 
 corners-are : (l : List ℕ) → cornerCount l ≡ sumOf (λ n. n) l
 unfolding cornerCount sumOf
@@ -35,6 +38,9 @@ slots-are : (l : List ℕ) → slotCount l ≡ sumOf slotsOf l
 unfolding slotCount sumOf slotsOf
 slots-are [] = refl
 slots-are (n ∷ l) = ap (λ (x : ℕ). slotsOf n + x) (slots-are l)
+
+pub corners-append : (l k : List ℕ) → cornerCount (l ++ k) ≡ cornerCount l + cornerCount k
+corners-append l k = corners-are (l ++ k) ∙ (sum-append (λ n. n) l k ∙ sym (λ i. corners-are l i + corners-are k i))
 
 -- one face more
 pub corners-more : (l : List ℕ) (i : ℕ) → i < length l → cornerCount (take (i + 1) l) ≡ cornerCount (take i l) + getD l i 0

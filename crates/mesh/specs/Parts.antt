@@ -30,6 +30,14 @@ slotsOf n = cond (used n) n 0
 unfoldable pub partOf : ℕ → List Float → List ℕ → ℕ → List Float
 partOf width xs sizes f = take (width * getD sizes f 0) (drop (width * cornerCount (take f sizes)) xs)
 
+-- 'a face number of F or above .. get[s] the empty part'
+unfoldable pub partOrNone : ℕ → List Float → List ℕ → ℕ → List Float
+partOrNone width xs sizes f = cond (leb (length sizes) f) [] (partOf width xs sizes f)
+
+-- 'lists that 1 or 2 below would catch'
+unfoldable pub caught : List ℕ → List Float → List Float → List Float → Bool
+caught sizes ps ns ts = tooMany sizes || misfit sizes ps ns ts
+
 -- 'a face number of F or above, or lists that 1 or 2 below would catch, get the empty part'
 unfoldable pub handedBack : ℕ → List Float → List ℕ → List Float → List Float → List Float → ℕ → List Float
-handedBack width xs sizes ps ns ts f = cond (tooMany sizes || misfit sizes ps ns ts || leb (length sizes) f) [] (partOf width xs sizes f)
+handedBack width xs sizes ps ns ts f = cond (caught sizes ps ns ts) [] (partOrNone width xs sizes f)

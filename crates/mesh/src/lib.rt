@@ -1,8 +1,10 @@
 // What is handed in, read: a corner of the lists, the sums of the sizes, the part of a list that belongs to a face.
 // FaceVertex is carried over from mikktspace/face_vertex.rs of the Rust crate bevy_mikktspace and ALTERED: written anew in Rattle. See NOTICE.
 ghost use mathlib.Core.Path.{_≡_};
+ghost use mathlib.Core.Bool.{false, cond};
+ghost use mathlib.Core.List.{[]};
 ghost use Prim.Native.Nat.{_+_, _*_, _%_, _^_, _≤_, _<_, min};
-ghost use lib.ListN.{getD, take};
+ghost use lib.ListN.{length, getD, take};
 ghost use lib.Ieee.{nan};
 ghost use Rattle.definition.specs.Handed.{cornerAt, cornerCount, slotCount};
 ghost use Rattle.definition.specs.Limits.{faceLimit};
@@ -121,4 +123,87 @@ pub fn slots_before(sizes: &[u8], face: usize) -> usize
         f += 1;
     }
     sum
+}
+
+// Whether refusal 1 or 2 would catch the lists.
+pub fn caught(sizes: &[u8], positions: &[f32], normals: &[f32], texture: &[f32]) -> bool
+    ensures { λ r. ⌜ r ≡ spec.caught (now (sizes .entry)) (now (positions .entry)) (now (normals .entry)) (now (texture .entry)) ⌝ }
+{
+    if 4096 < sizes.len() {
+        return true;
+    }
+    let corners = corners_before(sizes, 4096);
+    if positions.len() != 3 * corners {
+        return true;
+    }
+    if normals.len() != 3 * corners {
+        return true;
+    }
+    texture.len() != 2 * corners
+}
+
+// The part of a list, width numbers a corner, where the numbers of a face stand.
+fn part<'a>(sizes: &[u8], xs: &'a [f32], width: usize, face: usize) -> &'a [f32]
+    requires { ⌜ (width ≤ 3) × (length (now sizes) ≤ faceLimit) × (length (now xs) ≡ width * cornerCount (now sizes)) ⌝ }
+    ensures { λ r. ⌜ now r ≡ spec.partOrNone width (now (xs .entry)) (now (sizes .entry)) face ⌝ }
+{
+    if sizes.len() <= face {
+        return &xs[..0];
+    }
+    let start = width * corners_before(sizes, face);
+    let end = start + width * (sizes[face] as usize);
+    &xs[start..end]
+}
+
+// The same, and the empty part for lists that were caught.
+fn unless<'a>(stopped: bool, sizes: &[u8], xs: &'a [f32], width: usize, face: usize) -> &'a [f32]
+    requires { ⌜ (stopped ≡ false → (width ≤ 3) × (length (now sizes) ≤ faceLimit) × (length (now xs) ≡ width * cornerCount (now sizes))) ⌝ }
+    ensures { λ r. ⌜ now r ≡ cond stopped [] (spec.partOrNone width (now (xs .entry)) (now (sizes .entry)) face) ⌝ }
+{
+    if stopped {
+        return &xs[..0];
+    }
+    part(sizes, xs, width, face)
+}
+
+// The positions of a face, where they stand in the caller's list: the empty part for a face number of F or above, and for lists that refusal 1 or 2 would catch.
+pub fn positions_of<'a>(
+    sizes: &[u8],
+    positions: &'a [f32],
+    normals: &[f32],
+    texture: &[f32],
+    face: usize,
+) -> &'a [f32]
+    ensures { λ r. ⌜ now r ≡ spec.handedBack 3 (now (positions .entry)) (now (sizes .entry)) (now (positions .entry)) (now (normals .entry)) (now (texture .entry)) face ⌝ }
+{
+    let stopped = caught(sizes, positions, normals, texture);
+    unless(stopped, sizes, positions, 3, face)
+}
+
+// The normals of a face, in the same way.
+pub fn normals_of<'a>(
+    sizes: &[u8],
+    positions: &[f32],
+    normals: &'a [f32],
+    texture: &[f32],
+    face: usize,
+) -> &'a [f32]
+    ensures { λ r. ⌜ now r ≡ spec.handedBack 3 (now (normals .entry)) (now (sizes .entry)) (now (positions .entry)) (now (normals .entry)) (now (texture .entry)) face ⌝ }
+{
+    let stopped = caught(sizes, positions, normals, texture);
+    unless(stopped, sizes, normals, 3, face)
+}
+
+// The texture coordinates of a face, in the same way.
+pub fn texture_of<'a>(
+    sizes: &[u8],
+    positions: &[f32],
+    normals: &[f32],
+    texture: &'a [f32],
+    face: usize,
+) -> &'a [f32]
+    ensures { λ r. ⌜ now r ≡ spec.handedBack 2 (now (texture .entry)) (now (sizes .entry)) (now (positions .entry)) (now (normals .entry)) (now (texture .entry)) face ⌝ }
+{
+    let stopped = caught(sizes, positions, normals, texture);
+    unless(stopped, sizes, texture, 2, face)
 }
