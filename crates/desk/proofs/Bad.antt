@@ -1,0 +1,118 @@
+-- The lowest corner that holds a NaN or infinity, one corner after the other and one face after the other. Assumes nothing.
+use Prim.Native.Nat.{ℕ, zero, suc, _+_, _*_, _-_, _≤_, _<_}
+use native.Mathlib.Numerals.{add-one}
+use native.Mathlib.Omega.{arith}
+use mathlib.Core.Path.{_≡_, refl, sym, ap, _∙_}
+use mathlib.Core.Bool.{Bool, true, false, cond, true≢false}
+use mathlib.Core.List.{List, [], _∷_}
+use mathlib.Core.Option.{Option, none, some}
+use lib.ListN.{length, getD, drop, drop-of-length-le}
+use lib.Seq.{drop-cons}
+use lib.Ieee.{Float}
+use Rattle.definition.specs.Handed.{cornerAt, cornersFrom, meshFrom, used}
+use Rattle.definition.specs.Desk.{finiteCorner, badIn, badCorner, orElse}
+use Rattle.mesh.specs.Parts.{slotsOf}
+use Rattle.desk.specs.declared.Found.{Found}
+use Rattle.desk.specs.declared.Found.the-variants.{At, Nothing}
+use Rattle.desk.specs.Verdict.{found}
+
+one-less : (n : ℕ) → suc n - 1 ≡ n
+one-less n = omega arith
+
+module _ (ps ns ts : List Float) where
+  -- the lowest of n corners from number i on
+  abbrev pub lowest : ℕ → ℕ → Option ℕ
+  lowest i n = badIn i (cornersFrom ps ns ts i n)
+
+  -- ---- one corner after the other
+  pub none-left : (i : ℕ) → lowest i 0 ≡ none
+  unfolding badIn cornersFrom
+  none-left i = refl
+
+  pub bad-here : (i n : ℕ) → 0 < n → finiteCorner (cornerAt ps ns ts i) ≡ false → lowest i n ≡ some i
+  unfolding badIn cornersFrom
+  bad-here i zero h e = absurd (omega arith)
+  bad-here i (suc n) h e = rw (e)
+
+  pub bad-later : (i n : ℕ) → 0 < n → finiteCorner (cornerAt ps ns ts i) ≡ true → lowest (i + 1) (n - 1) ≡ lowest i n
+  unfolding badIn cornersFrom
+  bad-later i zero h e = absurd (omega arith)
+  bad-later i (suc n) h e = rw (e, add-one i, one-less n)
+
+  -- ---- one face after the other
+  corners-length : (i n : ℕ) → length (cornersFrom ps ns ts i n) ≡ n
+  unfolding cornersFrom
+  corners-length i zero = refl
+  corners-length i (suc n) = ap suc (corners-length (suc i) n)
+
+  -- the lowest of a face of n corners, and of the faces of these sizes, from corner number i on
+  abbrev pub inFace : ℕ → ℕ → Option ℕ
+  inFace i n = cond (used n) (lowest i n) none
+
+  abbrev pub inFaces : ℕ → List ℕ → Option ℕ
+  inFaces i sizes = badCorner i (meshFrom ps ns ts i sizes)
+
+  pub no-face : (i : ℕ) → inFaces i [] ≡ none
+  unfolding badCorner meshFrom
+  no-face i = refl
+
+  pub face-first : (i n : ℕ) (sizes : List ℕ) → inFaces i (n ∷ sizes) ≡ orElse (inFace i n) (inFaces (i + n) sizes)
+  unfolding badCorner meshFrom
+  face-first i n sizes = rw (corners-length i n)
+
+-- ---- a face of no slots
+pub takes-none : (n : ℕ) → slotsOf n ≡ 0 → used n ≡ false
+takes-none n h = go (used n) refl
+  where
+    go : (b : Bool) → used n ≡ b → used n ≡ false
+    go false e = e
+    go true e = let z : n ≡ 0 = unfold slotsOf in rw (sym h, e) in ap used z ∙ unfold used in refl
+
+pub takes-some : (n : ℕ) → (slotsOf n ≡ 0 → ⊥) → used n ≡ true
+takes-some n h = go (used n) refl
+  where
+    go : (b : Bool) → used n ≡ b → used n ≡ true
+    go true e = e
+    go false e = absurd (h (unfold slotsOf in rw (e)))
+
+-- ---- what was found
+isAt : Found → Bool
+isAt (At i) = true
+isAt Nothing = false
+
+pub at-first : (a b : Option ℕ) (i : ℕ) → At i ≡ found a → At i ≡ found (orElse a b)
+unfolding found orElse isAt
+at-first none b i e = absurd (true≢false (ap isAt e))
+at-first (some j) b i e = e
+
+pub nothing-first : (a b : Option ℕ) → Nothing ≡ found a → orElse a b ≡ b
+unfolding found orElse isAt
+nothing-first none b e = refl
+nothing-first (some j) b e = absurd (true≢false (sym (ap isAt e)))
+
+pub is-some : (o : Option ℕ) (i : ℕ) → At i ≡ found o → o ≡ some i
+unfolding found isAt
+is-some none i e = absurd (true≢false (ap isAt e))
+is-some (some j) i e = let s : At i ≡ At j = e in ap some (cc)
+
+pub is-none : (o : Option ℕ) → Nothing ≡ found o → o ≡ none
+unfolding found isAt
+is-none none e = refl
+is-none (some j) e = absurd (true≢false (sym (ap isAt e)))
+
+-- ---- the faces from number f on
+module _ (ps ns ts : List Float) (sizes : List ℕ) (f from : ℕ) (h : f < length sizes) where
+  abbrev here : Option ℕ
+  here = inFace ps ns ts from (getD sizes f 0)
+
+  from-here : inFaces ps ns ts from (drop f sizes) ≡ orElse here (inFaces ps ns ts (from + getD sizes f 0) (drop (f + 1) sizes))
+  from-here = rw (drop-cons sizes f 0 h, add-one f) (face-first ps ns ts from (getD sizes f 0) (drop (suc f) sizes))
+
+  pub found-here : (i : ℕ) → At i ≡ found here → At i ≡ found (inFaces ps ns ts from (drop f sizes))
+  found-here i e = at-first here _ i e ∙ ap found (sym from-here)
+
+  pub found-later : Nothing ≡ found here → inFaces ps ns ts (from + getD sizes f 0) (drop (f + 1) sizes) ≡ inFaces ps ns ts from (drop f sizes)
+  found-later e = sym (from-here ∙ nothing-first here _ e)
+
+pub past-end : (ps ns ts : List Float) (sizes : List ℕ) (f from : ℕ) → length sizes ≤ f → inFaces ps ns ts from (drop f sizes) ≡ none
+past-end ps ns ts sizes f from h = rw (drop-of-length-le sizes h) (no-face ps ns ts from)

@@ -1,0 +1,2 @@
+mod Bad
+mod Telling

@@ -1,0 +1,152 @@
+// The desk: refusals 1 to 6 of document 01, checked in the table's order; the first that applies is given, and none otherwise.
+ghost use mathlib.Core.Path.{_≡_};
+ghost use mathlib.Core.Bool.{cond};
+ghost use mathlib.Core.Option.{none};
+ghost use Prim.Native.Nat.{_+_, _*_, _≤_, _<_, _^_};
+ghost use lib.ListN.{length};
+ghost use Rattle.definition.specs.Desk as desk;
+ghost use Rattle.definition.specs.Handed.{cornersFrom, meshFrom, used};
+ghost use Rattle.definition.specs.Limits.{faceLimit};
+ghost use Rattle.desk.specs.Verdict as spec;
+use definition::Corner;
+use math::Vec3;
+
+// What the desk says: the number of a refusal and its place; 0 and 0 where there is none.
+pub struct Verdict {
+    pub number: u32,
+    pub place: u32,
+}
+
+// A corner that holds a NaN or infinity, by its number, or that none was found.
+pub enum Found {
+    At(u32),
+    Nothing,
+}
+
+fn finite_vector(v: Vec3) -> bool
+    ensures { λ r. ⌜ r ≡ desk.finiteVector v ⌝ }
+{
+    if bits::is_finite(v.x) {
+        if bits::is_finite(v.y) {
+            return bits::is_finite(v.z);
+        }
+    }
+    false
+}
+
+fn finite_corner(c: Corner) -> bool
+    ensures { λ r. ⌜ r ≡ desk.finiteCorner c ⌝ }
+{
+    if finite_vector(c.place) {
+        if finite_vector(c.normal) {
+            if bits::is_finite(c.u) {
+                return bits::is_finite(c.v);
+            }
+        }
+    }
+    false
+}
+
+// The lowest of count corners from number from on that holds a NaN or infinity.
+fn bad_in(positions: &[f32], normals: &[f32], texture: &[f32], from: u32, count: u32) -> Found
+    requires { ⌜ from + count < 2 ^ 32 ⌝ }
+    ensures { λ r. ⌜ r ≡ spec.found (desk.badIn from (cornersFrom (now (positions .entry)) (now (normals .entry)) (now (texture .entry)) from count)) ⌝ }
+{
+    let mut i = from;
+    let mut left = count;
+    while 0 < left {
+        if !finite_corner(mesh::corner_at(positions, normals, texture, i)) {
+            return Found::At(i);
+        }
+        i += 1;
+        left -= 1;
+    }
+    Found::Nothing
+}
+
+// The same of a face of a size, which counts only if it is 3 or 4.
+fn bad_face(positions: &[f32], normals: &[f32], texture: &[f32], from: u32, size: u8) -> Found
+    requires { ⌜ from + size < 2 ^ 32 ⌝ }
+    ensures { λ r. ⌜ r ≡ spec.found (cond (used size) (desk.badIn from (cornersFrom (now (positions .entry)) (now (normals .entry)) (now (texture .entry)) from size)) none) ⌝ }
+{
+    if mesh::slots_of(size) == 0 {
+        return Found::Nothing;
+    }
+    bad_in(positions, normals, texture, from, size as u32)
+}
+
+// The lowest such corner of all faces of 3 or 4, counted over all C. C is at most 255 * 4,096, so no count overflows.
+fn bad_corner(sizes: &[u8], positions: &[f32], normals: &[f32], texture: &[f32]) -> Found
+    requires { ⌜ length (now sizes) ≤ faceLimit ⌝ }
+    ensures { λ r. ⌜ r ≡ spec.found (desk.badCorner 0 (meshFrom (now (positions .entry)) (now (normals .entry)) (now (texture .entry)) 0 (now (sizes .entry)))) ⌝ }
+{
+    let mut from: u32 = 0;
+    let mut f: usize = 0;
+    while f < sizes.len() {
+        let size = sizes[f];
+        let found = bad_face(positions, normals, texture, from, size);
+        if let Found::At(i) = found {
+            return Found::At(i);
+        }
+        from += size as u32;
+        f += 1;
+    }
+    Found::Nothing
+}
+
+// Refusals 5 and 6, and 0 where neither applies.
+fn lent(sizes: &[u8], answer: usize, work: usize) -> u32
+    requires { ⌜ length (now sizes) ≤ faceLimit ⌝ }
+    ensures { λ r. ⌜ r ≡ spec.lentNumber (now (sizes .entry)) answer work ⌝ }
+{
+    if answer < 10 * mesh::slots_before(sizes, 4096) {
+        return 5;
+    }
+    if work < 128 * sizes.len() {
+        return 6;
+    }
+    0
+}
+
+// The verdict on a mesh, a threshold, and the lengths of the lists that are lent.
+pub fn judge(
+    sizes: &[u8],
+    positions: &[f32],
+    normals: &[f32],
+    texture: &[f32],
+    threshold: f32,
+    answer: usize,
+    work: usize,
+) -> Verdict
+    ensures { λ r. ⌜ r ≡ spec.told (desk.verdict (now (sizes .entry)) (now (positions .entry)) (now (normals .entry)) (now (texture .entry)) threshold answer work) ⌝ }
+{
+    if 4096 < sizes.len() {
+        return Verdict {
+            number: 1,
+            place: 0,
+        };
+    }
+    if mesh::caught(sizes, positions, normals, texture) {
+        return Verdict {
+            number: 2,
+            place: 0,
+        };
+    }
+    if !bits::is_finite(threshold) {
+        return Verdict {
+            number: 3,
+            place: 0,
+        };
+    }
+    let bad = bad_corner(sizes, positions, normals, texture);
+    if let Found::At(i) = bad {
+        return Verdict {
+            number: 4,
+            place: i,
+        };
+    }
+    Verdict {
+        number: lent(sizes, answer, work),
+        place: 0,
+    }
+}
