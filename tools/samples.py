@@ -124,6 +124,7 @@ POINT_SHARED = Mesh([[((0, 0, 0), UP, (0, 0)), ((1, 0, 0), UP, (1, 0)), ((0, 1, 
 HUB = ((0, 0, 0), UP, (0, 0))
 EAST, NORTH, WEST, SOUTH = (((1, 0, 0), UP, (1, 0)), ((0, 1, 0), UP, (0, 3)), ((-1, 0, 0), UP, (-1, 0)), ((0, -1, 0), UP, (0, -2)))
 FAN = Mesh([[HUB, EAST, NORTH], [HUB, SOUTH, EAST], [HUB, NORTH, WEST]])
+FAN_FIRST = Mesh([[HUB, EAST, NORTH]])
 FAN_FRAME = [1, ONE, 0, 0, 0, ONE, 0, ONE, 0x3EC7_1C72, 1]
 HALF_ROOT = "3f3504f3"
 
@@ -133,9 +134,11 @@ WHOLE = [
     ("sample-2", "sample 2", SAMPLE_2.call(), SAMPLE_2.taken(frame((-1, 0, 0), (0, 1, 0), 1, 1, 0) * 3)),
     ("sample-3", "sample 3: 30 zero words", SAMPLE_3.call(), SAMPLE_3.taken(ABSENT * 3)),
     ("past", "sample 1 with both lists two words longer: nothing past 10S and 128F is altered", f"behind ({SAMPLE_1.call(32, 130)})", words([7, 7, 9, 9])),
+    ("no-face", "'F = 0 by itself is no ground for refusal': nothing is altered", Mesh([]).call(3, 2), "record { number = 0; place = 0; slots = 0; answer = replicate 3 7; work = replicate 2 9 }"),
     ("refused", "sample 1 with an answer list one word short: refusal 5 alters nothing", SAMPLE_1.call(29, 128), "record { number = 5; place = 0; slots = 0; answer = replicate 29 7; work = replicate 128 9 }"),
     ("two-quads", "two quads that share a side", TWO_QUADS.call(), TWO_QUADS.taken(frame((1, 0, 0), (0, 1, 0), 2, 1, 1) * 8)),
     ("fan", "three triangles round a hub: the hub's frame is that of the sum in triangle order", f"take 10 ({FAN.call()} .answer)", words(FAN_FRAME)),
+    ("fan-first", "the first of them alone: another frame", FAN_FIRST.call(), FAN_FIRST.taken([1, ONE, 0, 0, 0, ONE, 0, ONE, 0x3EAA_AAAB, 1] * 3)),
     ("mirror", "sample 1 beside its mirror image: a triangle of the other orientation stops the walk", MIRROR.call(), MIRROR.taken(EAST_FRAME * 3 + frame((1, 0, 0), (0, -1, 0), 1, 1, 0) * 3)),
     (
         "crossed",

@@ -1,4 +1,4 @@
--- Document 01: 'All float work is IEEE 754 single precision, one rounding per operation.' Definitions only.
+-- Document 01: 'All float work is IEEE 754 single precision, one rounding per operation, ..' Definitions only.
 use lib.Ieee as Ieee
 use lib.Ieee.{Float, binary32}
 use Rattle.bits.specs.Word.{number}

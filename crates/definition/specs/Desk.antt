@@ -61,7 +61,7 @@ pub record Row : Type 0 where
   pub applies : Bool
   pub place : ℕ
 
--- the table, in its order: positions, normals, texture coordinates, the threshold, and the lengths of the answer list and of the work list
+-- the six rows in the table's order, for these face sizes, positions, normals, texture coordinates, threshold, and lengths of the answer list and of the work list
 unfoldable pub table : List ℕ → List Float → List Float → List Float → Float → ℕ → ℕ → List Row
 table sizes ps ns ts h answer work =
     let bad = badCorner 0 (meshFrom ps ns ts 0 sizes) in

@@ -26,17 +26,17 @@ rawT c d e = added (scaledBy (subtracted (d .place) (c .place)) (Ieee.neg (e .u 
 unfoldable pub signOf : Float → Float
 signOf w = cond (Ieee.lt zeroᶠ w) oneᶠ minusOneᶠ
 
--- the tangent from twice the signed area w and the raw s and t: both to unit length, times the sign; their lengths over the area
+-- the tangent from twice the signed area w and the raw s and t: both to unit length, times the sign; their lengths over the absolute value of w
 unfoldable pub tangentAt : Float → Vec3 → Vec3 → RawTangentSpace
 tangentAt w s t =
     let k = signOf w in
     record { s = scaledBy (unitOf s) k; t = scaledBy (unitOf t) k; «s_magnitude» = lengthOf s /ᶠ abs w; «t_magnitude» = lengthOf t /ᶠ abs w }
 
--- the first-order tangent of a sound triangle: the zero tangent where the area counts as zero
+-- the first-order tangent of a sound triangle: the zero tangent where w, twice the signed area, doesn't count (a NaN doesn't)
 unfoldable pub firstOrder : Corner → Corner → Corner → RawTangentSpace
 firstOrder c d e = let r = tangentAt (turn c d e) (rawS c d e) (rawT c d e) in cond (counts (turn c d e)) r zeroTangent
 
--- `group_with_any` of a sound triangle: its area or one of its two magnitudes counts as zero
+-- `group_with_any` of a sound triangle: w or one of its two magnitudes doesn't count (a NaN doesn't)
 unfoldable pub unsure : Float → RawTangentSpace → Bool
 unsure w g = not (counts w && counts (g .«s_magnitude») && counts (g .«t_magnitude»))
 

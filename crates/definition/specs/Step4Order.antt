@@ -44,6 +44,6 @@ sameVector a b = sameBits (a .x) (b .x) && sameBits (a .y) (b .y) && sameBits (a
 unfoldable pub welded : Corner → Corner → Bool
 welded c d = sameVector (c .place) (d .place) && sameVector (c .normal) (d .normal) && sameBits (c .u) (d .u) && sameBits (c .v) (d .v)
 
--- 'Corners are welded to the first in that list with the same bits in all eight numbers'. Two corners are welded to one exactly where they are `welded` (proofs/Weld.antt), which is what the steps below ask.
+-- 'Corners are welded to the first in that list with the same bits in all eight numbers'. Two corners are welded to one exactly where they are `welded` (laws/proofs/Weld.antt), which is what the steps below ask.
 unfoldable pub weldedTo : List Triangle → Corner → Option Spot
 weldedTo ts c = first (λ s. welded c (cornerOf s)) (ordered ts)

@@ -39,7 +39,7 @@ unfoldable pub linkAll : List Link → List Spot → List Link
 linkAll ls [] = ls
 linkAll ls (s ∷ later) = linkAll (linkOne ls s later) later
 
--- the links of the sound triangles, their sides in triangle order. Sides with other ends never meet, so that 'sorted by lower corner, higher corner, triangle' gives the same links (proofs/Sorted.antt)
+-- the links of the sound triangles, their sides in triangle order. Only sides with the same two ends are ever linked, and 'sorted by lower corner, higher corner, triangle' leaves those in triangle order: the same links (`sorted-same` in laws/proofs/Sorted.antt)
 unfoldable pub links : List Triangle → List Link
 links ss = linkAll [] (spots ss)
 

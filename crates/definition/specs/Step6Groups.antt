@@ -58,7 +58,7 @@ going f ms none = ms
 going f ms (some s) = f ms s
 
 -- 'The walk goes from a corner to its two sides, and over a side to the same corner beyond, the side before the corner first.'
--- g is the corner at which the group started and w its orientation. Each step marks one more corner welded to g, so n, their number, is enough (proofs/Enough.antt).
+-- g is the corner at which the group started and w its orientation. Each step marks one more corner welded to g, so n, their number, is enough (laws/proofs/Enough.antt), and the walk never stops for want of n.
 unfoldable pub walk : ℕ → List Link → Spot → Bool → List Mark → Spot → List Mark
 walk zero ls g w ms s = ms
 walk (suc n) ls g w ms s =

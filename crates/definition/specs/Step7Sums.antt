@@ -18,7 +18,7 @@ use Rattle.definition.specs.Lists.{keep, has, run}
 use Rattle.definition.specs.Mesh.{Spot, next, prior, cornerOf, slotOf, sameTriangle}
 use Rattle.definition.specs.Step6Groups.{Mark, members, cornerIn}
 
--- v projected: without its part along n, and brought to unit length
+-- v projected: v less n times their dot product, brought to unit length
 unfoldable pub projected : Vec3 → Vec3 → Vec3
 projected n v = unitOf (subtracted v (scaledBy n (dot n v)))
 
@@ -69,7 +69,7 @@ unfoldable pub addSpot : Sum → Option Spot → Sum
 addSpot z none = z
 addSpot z (some s) = weighed z (opening s) (cornerOf s .normal) (s .tri .tangent)
 
--- a triangle's contribution, at its corner welded to c; 'only valid triangles get to add': none of a `group_with_any` one
+-- a triangle's contribution, at its corner welded to c; none of a `group_with_any` one (the crate's 'only valid triangles get to add')
 unfoldable pub contribute : Corner → Sum → Triangle → Sum
 contribute c z t = let r = addSpot z (cornerIn c t) in cond (t .any) z r
 

@@ -13,6 +13,6 @@ use Rattle.definition.specs.Step7Sums.{Brought}
 unfoldable pub put : Reading → Brought → Reading
 put r b = reached r (b .value) (b .orientation)
 
--- the reading of slot number i of face f: absent until something is brought to it, then reached by one after the other
+-- the reading of slot number i of face f: absent until something is brought to it, then reached by one after the other; step 9 comes after
 unfoldable pub reading : List Brought → ℕ → ℕ → Reading
 reading bs f i = run put Absent (keep (λ b. eqb (b .face) f && eqb (b .slot) i) bs)

@@ -57,7 +57,7 @@ settled t m o =
 unfoldable pub agree : Triangle → Triangle → Bool
 agree s t = s .degenerate || t .degenerate || Bool·beq (s .orientation) (t .orientation)
 
--- the two triangles of a quad: marked by step 2; of one orientation by step 3
+-- the two triangles of a quad: marked by step 2; where both are sound, of one orientation by step 3
 unfoldable pub pair : Triangle → Triangle → List Triangle
 pair s t =
     let m = exactlyOne (s .degenerate) (t .degenerate) in

@@ -16,7 +16,7 @@ pub struct Kept {
     pub corner: Corner,
 }
 
-// A triangle: its face's number, whether it is the second of a quad, the corner of the face that it misses, and the three that it keeps, in order.
+// A triangle: its face's number, whether it is the second of a quad, the corner of the face that it misses (3 for a face of three, which misses none), and the three that it keeps, in order.
 // Then what steps 2 and 3 say of it.
 pub struct Triangle {
     pub face: u32,
@@ -31,6 +31,7 @@ pub struct Triangle {
     pub marked: bool,
     // `group_with_any`
     pub any: bool,
+    // true where the texture runs the way of the surface: twice its signed area is above 0
     pub orientation: bool,
     pub tangent: RawTangentSpace,
 }

@@ -1,4 +1,4 @@
--- Demand 1: 'Any lists whatever may be handed in. Each call ends, with frames or with one of the numbered refusals. A refusal alters no buffer.' Definitions only.
+-- Demand 1 (README): 'Any lists whatever may be handed in. Each call ends, with frames or with one of the numbered refusals. A refusal alters no buffer.' Definitions only.
 -- (That a call ends is part of what every contract says; here is what it leaves behind.)
 use Prim.Native.Nat.{ℕ, _*_, _≤_, _<_}
 use mathlib.Core.Path.{_≡_}

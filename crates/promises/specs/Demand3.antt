@@ -1,4 +1,4 @@
--- Demand 3: 'Shuffle two meshes that share no welded corner into one: each face gets, word for word, the frames it had alone.' Definitions only.
+-- Demand 3 (README): 'Shuffle two meshes that share no welded corner into one: each face gets, word for word, the frames it had alone.' Definitions only.
 use Prim.Native.Nat.{ℕ, zero, suc, _<_}
 use mathlib.Core.Path.{_≡_}
 use mathlib.Core.Bool.{Bool, true, false}

@@ -7,6 +7,6 @@ use Rattle.promises.specs.Calls.{Call, leaves}
 abbrev pub Answers : Call → Result → Type 0
 Answers x r = r ≡ leaves x
 
--- 'Any pair of outcomes satisfying it is shown identical'
+-- 'Any pair of outcomes satisfying it is shown identical'. (It says something of a program only where the program's contract is `Answers`.)
 unfoldable pub Promised : Type 0
 Promised = (x : Call) (r s : Result) → Answers x r → Answers x s → r ≡ s

@@ -1,4 +1,5 @@
 pub mod Calls
+pub mod Small
 pub mod Demand1
 pub mod Determined
 pub mod Impostors

@@ -20,7 +20,7 @@ equals a b = math.equals (a .s) (b .s) && math.equals (a .t) (b .t) && Ieee.eq (
 unfoldable pub mean : Float → Float → Float
 mean x y = halfᶠ *ᶠ (x +ᶠ y)
 
--- 'if the two are equal by float comparison, the earlier stays as it is'; else directions are added and brought to unit length, and magnitudes halved in sum
+-- 'if the two are equal by float comparison, the earlier stays as it is'; else directions are added and brought to unit length, and each magnitude is half the sum of the two
 unfoldable pub combine : RawTangentSpace → RawTangentSpace → RawTangentSpace
 combine a b =
     cond (equals a b) a
