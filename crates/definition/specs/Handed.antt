@@ -5,15 +5,20 @@ use mathlib.Core.List.{List, [], _∷_}
 use lib.Dec.{eqb}
 use lib.ListN.{getD}
 use lib.Ieee.{Float, nan}
+use Rattle.math.specs.declared.Vec3.{Vec3}
 use Rattle.math.specs.Vector.{vec}
 use Rattle.definition.specs.declared.Corner.{Corner}
+
+-- the three numbers of corner number i, of positions or normals. (Past a list's end there is a NaN; such lists are refused.)
+unfoldable pub vectorAt : List Float → ℕ → Vec3
+vectorAt xs i = vec (getD xs (i * 3) nan) (getD xs (i * 3 + 1) nan) (getD xs (i * 3 + 2) nan)
 
 -- corner number i: 'positions and normals (three single-precision numbers a corner), texture coordinates (two)'
 unfoldable pub cornerAt : List Float → List Float → List Float → ℕ → Corner
 cornerAt ps ns ts i =
     record {
-      place = vec (getD ps (i * 3) nan) (getD ps (i * 3 + 1) nan) (getD ps (i * 3 + 2) nan);
-      normal = vec (getD ns (i * 3) nan) (getD ns (i * 3 + 1) nan) (getD ns (i * 3 + 2) nan);
+      place = vectorAt ps i;
+      normal = vectorAt ns i;
       u = getD ts (i * 2) nan;
       v = getD ts (i * 2 + 1) nan;
     }
@@ -32,6 +37,10 @@ meshFrom ps ns ts i (n ∷ sizes) = cornersFrom ps ns ts i n ∷ meshFrom ps ns 
 unfoldable pub used : ℕ → Bool
 used n = eqb n 3 || eqb n 4
 
+-- the slots of a face of size n: n where n is 3 or 4, and none else
+unfoldable pub slotsOf : ℕ → ℕ
+slotsOf n = cond (used n) n 0
+
 -- 'C is the sum of all sizes'
 unfoldable pub cornerCount : List ℕ → ℕ
 cornerCount [] = 0
@@ -40,4 +49,4 @@ cornerCount (n ∷ sizes) = n + cornerCount sizes
 -- 'S, the number of slots, is the sum of the sizes that are 3 or 4'
 unfoldable pub slotCount : List ℕ → ℕ
 slotCount [] = 0
-slotCount (n ∷ sizes) = cond (used n) n 0 + slotCount sizes
+slotCount (n ∷ sizes) = slotsOf n + slotCount sizes

@@ -9,9 +9,8 @@ use mathlib.Core.Option.{Option, none, some}
 use lib.ListN.{length, getD, drop, drop-of-length-le}
 use lib.Seq.{drop-cons}
 use lib.Ieee.{Float}
-use Rattle.definition.specs.Handed.{cornerAt, cornersFrom, meshFrom, used}
+use Rattle.definition.specs.Handed.{cornerAt, cornersFrom, meshFrom, used, slotsOf}
 use Rattle.definition.specs.Desk.{finiteCorner, badIn, badCorner, orElse}
-use Rattle.mesh.specs.Parts.{slotsOf}
 use Rattle.desk.specs.declared.Found.{Found}
 use Rattle.desk.specs.declared.Found.the-variants.{At, Nothing}
 use Rattle.desk.specs.Verdict.{found}

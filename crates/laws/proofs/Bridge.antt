@@ -16,7 +16,7 @@ use Rattle.definition.specs.declared.Corner.{Corner}
 use Rattle.definition.specs.declared.Kept.{Kept}
 use Rattle.definition.specs.declared.Triangle.{Triangle}
 use Rattle.definition.specs.Frames.{numbered, framesFrom, framesOf, frames}
-use Rattle.definition.specs.Handed.{cornersFrom, meshFrom, used, slotCount}
+use Rattle.definition.specs.Handed.{cornersFrom, meshFrom, used, slotsOf, slotCount}
 use Rattle.definition.specs.Mesh.{Face, Spot, prior, cornerOf, sameTriangle}
 use Rattle.definition.specs.Outcome.{answerWords}
 use Rattle.definition.specs.Step4Order.{sound}
@@ -71,7 +71,7 @@ module _ (ps ns ts : List Float) where
       omega arith
 
   all-length : (bs : List Brought) (ss : List Triangle) (k i : ℕ) (sizes : List ℕ) → length (answerWords (framesFrom (numbered k (meshFrom ps ns ts i sizes)) ss bs)) ≡ slotWords * slotCount sizes
-  unfolding answerWords framesFrom numbered meshFrom slotCount flatMap
+  unfolding answerWords framesFrom numbered meshFrom slotCount slotsOf flatMap
   all-length bs ss k i [] = refl
   all-length bs ss k i (n ∷ sizes) =
       let f : Face = record { number = k; corners = cornersFrom ps ns ts i n } in

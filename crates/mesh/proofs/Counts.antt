@@ -10,8 +10,7 @@ use lib.Dec.{leb}
 use borrow.Author.Tests.{leb-true, leb-false}
 use lib.ListN.{length, getD, take}
 use lib.Seq.{take-suc, take-all}
-use Rattle.definition.specs.Handed.{cornerCount, slotCount}
-use Rattle.mesh.specs.Parts.{slotsOf}
+use Rattle.definition.specs.Handed.{cornerCount, slotsOf, slotCount}
 
 -- the sum of g over a list
 sumOf : (ℕ → ℕ) → List ℕ → ℕ

@@ -1,13 +1,11 @@
--- A face's corner as one number, a corner's vector, and the part of a list that belongs to a face. Definitions only.
+-- A face's corner as one number, and the part of a list that belongs to a face. Definitions only.
 use Prim.Native.Nat.{ℕ, _+_, _*_, _/_, _%_}
 use mathlib.Core.Bool.{Bool, cond, _||_}
 use mathlib.Core.List.{List, []}
 use lib.Dec.{leb}
 use lib.ListN.{length, getD, take, drop}
-use lib.Ieee.{Float, nan}
-use Rattle.math.specs.declared.Vec3.{Vec3}
-use Rattle.math.specs.Vector.{vec}
-use Rattle.definition.specs.Handed.{used, cornerCount}
+use lib.Ieee.{Float}
+use Rattle.definition.specs.Handed.{cornerCount}
 use Rattle.definition.specs.Desk.{tooMany, misfit}
 
 -- of 'face times 4 plus corner, one number': the face
@@ -17,14 +15,6 @@ faceOf n = n / 4
 -- and the corner
 abbrev pub vertexIn : ℕ → ℕ
 vertexIn n = n % 4
-
--- the three numbers of corner number i
-unfoldable pub vectorAt : List Float → ℕ → Vec3
-vectorAt xs i = vec (getD xs (i * 3) nan) (getD xs (i * 3 + 1) nan) (getD xs (i * 3 + 2) nan)
-
--- the slots of a face of size n: n where n is 3 or 4, and none else
-unfoldable pub slotsOf : ℕ → ℕ
-slotsOf n = cond (used n) n 0
 
 -- the part of a list, `width` numbers a corner, where the numbers of face number f stand
 unfoldable pub partOf : ℕ → List Float → List ℕ → ℕ → List Float

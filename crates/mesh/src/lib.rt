@@ -6,7 +6,7 @@ ghost use mathlib.Core.List.{[]};
 ghost use Prim.Native.Nat.{_+_, _*_, _%_, _^_, _≤_, _<_, min};
 ghost use lib.ListN.{length, getD, take};
 ghost use lib.Ieee.{nan};
-ghost use Rattle.definition.specs.Handed.{cornerAt, cornerCount, slotCount};
+ghost use Rattle.definition.specs.Handed.{vectorAt, cornerAt, cornerCount, slotsOf, slotCount};
 ghost use Rattle.definition.specs.Limits.{faceLimit};
 ghost use Rattle.math.specs.Vector.{vec};
 ghost use Rattle.mesh.specs.Parts as spec;
@@ -53,7 +53,7 @@ pub fn number_at(xs: &[f32], i: usize) -> f32
 
 // The three numbers of corner number i, of positions or normals.
 pub fn vector_at(xs: &[f32], i: u32) -> Vec3
-    ensures { λ r. ⌜ r ≡ spec.vectorAt (now (xs .entry)) i ⌝ }
+    ensures { λ r. ⌜ r ≡ vectorAt (now (xs .entry)) i ⌝ }
 {
     let at = (i as usize) * 3;
     Vec3 {
@@ -100,7 +100,7 @@ pub fn corners_before(sizes: &[u8], face: usize) -> usize
 
 // How many slots a face of a size takes.
 pub fn slots_of(size: u8) -> usize
-    ensures { λ r. ⌜ (r ≡ spec.slotsOf size) × (r ≤ 4) ⌝ }
+    ensures { λ r. ⌜ (r ≡ slotsOf size) × (r ≤ 4) ⌝ }
 {
     if size == 3 {
         return 3;

@@ -14,7 +14,7 @@ use Rattle.tangent.specs.Slot as slot
 use Rattle.tangent.specs.Slot.{slotWords}
 use Rattle.definition.specs.declared.Corner.{Corner}
 use Rattle.definition.specs.declared.Triangle.{Triangle}
-use Rattle.definition.specs.Handed.{cornersFrom, meshFrom, used, slotCount}
+use Rattle.definition.specs.Handed.{cornersFrom, meshFrom, used, slotsOf, slotCount}
 use Rattle.definition.specs.Step7Sums.{Brought}
 use Rattle.definition.specs.Step9Copies.{faceReadings}
 use Rattle.definition.specs.Frames.{numbered, framesFrom, framesOf, frames}
@@ -23,7 +23,7 @@ use Rattle.definition.specs.Outcome.{Result, answerWords, accepted, answered, o
 use Rattle.definition.specs.Shuffle.{Shuffle, done, left, right, shares}
 use Rattle.laws.proofs.Bridge.{face-length}
 use Rattle.laws.proofs.Shuffled.{shuffled}
-use Rattle.promises.specs.Calls.{Handed, Call, meshOf, leaves, Accepted, slotsOf, slotsBefore, faceAnswer}
+use Rattle.promises.specs.Calls.{Handed, Call, meshOf, leaves, Accepted, slotsBefore, faceAnswer}
 use Rattle.promises.proofs.Acceptance.{no-row}
 use Rattle.promises.specs.Demand3.{leftAt, rightAt, Demand3, Promised}
 
@@ -58,7 +58,7 @@ faces-of x = faces-from (x .mesh .places) (x .mesh .normals) (x .mesh .texture) 
 
 -- the words of face number n, where those of all faces stand one after the other
 part : {ks : List ℕ} {ws : List (List ℕ)} → Faces ks ws → (rest : List ℕ) (n : ℕ) → n < length ks → take (slotWords * slotsOf (getD ks n 0)) (drop (slotWords * slotsBefore ks n) (join ws ++ rest)) ≡ getD ws n []
-unfolding join slotsBefore
+unfolding join slotsBefore slotCount
 part no-face rest n h = absurd (not-suc-le-zero h)
 part (one-face {k} {ks} {w} {ws} e r) rest zero h = ap (take (slotWords * slotsOf k)) (append-assoc w (join ws) rest) ∙ take-at w (join ws ++ rest) (slotWords * slotsOf k) e
 part (one-face {k} {ks} {w} {ws} e r) rest (suc n) h =

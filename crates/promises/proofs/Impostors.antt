@@ -6,7 +6,7 @@ use mathlib.Core.List.{[], _∷_, _++_}
 use mathlib.Core.Logic.{_⊎_, inl, inr}
 use lib.ListN.{take}
 use Rattle.tangent.specs.Slot.{slotWords}
-use Rattle.definition.specs.Handed.{used, cornerCount, slotCount}
+use Rattle.definition.specs.Handed.{used, cornerCount, slotsOf, slotCount}
 use Rattle.definition.proofs.Samples as samples
 use Rattle.promises.specs.Calls.{Call, leaves, Accepted}
 use Rattle.promises.specs.Small.{one, minusOne, up, lying, triangle, sample1, sample2, fan, fanFirst, mirror, there, thrice, takenWith}
@@ -18,23 +18,23 @@ use Rattle.promises.proofs.Demand1.{demand1}
 
 -- ---- the five calls, as the definition's samples give them
 sample-1 : leaves sample1 ≡ takenWith (3 ∷ []) (thrice (there one one one 1))
-unfolding leaves sample1 triangle lying up there thrice takenWith cornerCount slotCount used
+unfolding leaves sample1 triangle lying up there thrice takenWith cornerCount slotCount slotsOf used
 sample-1 = samples.sample-1
 
 sample-2 : leaves sample2 ≡ takenWith (3 ∷ []) (thrice (there minusOne one one 0))
-unfolding leaves sample2 triangle lying up there thrice takenWith cornerCount slotCount used
+unfolding leaves sample2 triangle lying up there thrice takenWith cornerCount slotCount slotsOf used
 sample-2 = samples.sample-2
 
 grouped : take slotWords (leaves fan .answer) ≡ there one one 0x3ec7_1c72 1
-unfolding leaves fan lying up there cornerCount slotCount used
+unfolding leaves fan lying up there cornerCount slotCount slotsOf used
 grouped = samples.fan
 
 alone : leaves fanFirst ≡ takenWith (3 ∷ []) (thrice (there one one 0x3eaa_aaab 1))
-unfolding leaves fanFirst triangle lying up there thrice takenWith cornerCount slotCount used
+unfolding leaves fanFirst triangle lying up there thrice takenWith cornerCount slotCount slotsOf used
 alone = samples.fan-first
 
 mirrored : leaves mirror ≡ takenWith (3 ∷ 3 ∷ []) (thrice (there one one one 1) ++ thrice (there one minusOne one 0))
-unfolding leaves mirror lying up there thrice takenWith cornerCount slotCount used
+unfolding leaves mirror lying up there thrice takenWith cornerCount slotCount slotsOf used
 mirrored = samples.mirror
 
 slots-S : (x : Call) → Accepted x → leaves x .slots ≡ slotCount (x .mesh .sizes)

@@ -1,13 +1,12 @@
 -- A call, for the promises to speak of: what is handed in, what is lent, and what it leaves behind. Definitions only.
-use Prim.Native.Nat.{ℕ, zero, suc, _+_, _*_}
+use Prim.Native.Nat.{ℕ, _*_}
 use mathlib.Core.Path.{_≡_}
-use mathlib.Core.Bool.{cond}
-use mathlib.Core.List.{List, [], _∷_}
+use mathlib.Core.List.{List}
 use lib.ListN.{take, drop, getD}
 use lib.Ieee.{Float}
 use Rattle.tangent.specs.Slot.{slotWords}
 use Rattle.definition.specs.declared.Corner.{Corner}
-use Rattle.definition.specs.Handed.{meshFrom, used, slotCount}
+use Rattle.definition.specs.Handed.{meshFrom, slotsOf, slotCount}
 use Rattle.definition.specs.Outcome.{Result, outcome}
 
 -- a mesh as it is handed in: face sizes, positions, normals, texture coordinates
@@ -36,15 +35,9 @@ leaves x = outcome (x .mesh .sizes) (x .mesh .places) (x .mesh .normals) (x .mes
 unfoldable pub Accepted : Call → Type 0
 Accepted x = leaves x .number ≡ 0
 
--- how many slots a face of size n takes
-unfoldable pub slotsOf : ℕ → ℕ
-slotsOf n = cond (used n) n 0
-
 -- how many slots the first n faces take
 unfoldable pub slotsBefore : List ℕ → ℕ → ℕ
-slotsBefore sizes zero = 0
-slotsBefore [] (suc n) = 0
-slotsBefore (k ∷ sizes) (suc n) = slotsOf k + slotsBefore sizes n
+slotsBefore sizes n = slotCount (take n sizes)
 
 -- the words that a call answers for face number n: 'Slots run by face, then by corner', ten words each
 unfoldable pub faceAnswer : Call → ℕ → List ℕ

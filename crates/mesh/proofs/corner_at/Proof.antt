@@ -1,6 +1,5 @@
 -- `mesh::corner_at` meets its contract: the calls are the definition. Assumes nothing.
-use Rattle.definition.specs.Handed.{cornerAt}
-use Rattle.mesh.specs.Parts.{vectorAt}
+use Rattle.definition.specs.Handed.{cornerAt, vectorAt}
 use borrow.Author.Needs.{needs}
 use Rattle.mesh.proofs.corner_at.Statement.{statement}
 use Rattle.mesh.proofs.corner_at.Tie as tie

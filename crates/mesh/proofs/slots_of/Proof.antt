@@ -1,8 +1,7 @@
 -- `mesh::slots_of` meets its contract: each way out is what the tests pick. Assumes nothing.
 use native.Mathlib.Omega.{arith}
 use borrow.Author.Tests.{ne-eqb}
-use Rattle.definition.specs.Handed.{used}
-use Rattle.mesh.specs.Parts.{slotsOf}
+use Rattle.definition.specs.Handed.{used, slotsOf}
 use Rattle.mesh.proofs.slots_of.Statement.{statement}
 use Rattle.mesh.proofs.slots_of.Tie as tie
 

@@ -1,5 +1,5 @@
 -- `mesh::vector_at` meets its contract: the calls are the definition. Assumes nothing.
-use Rattle.mesh.specs.Parts.{vectorAt}
+use Rattle.definition.specs.Handed.{vectorAt}
 use borrow.Author.Needs.{needs}
 use Rattle.mesh.proofs.vector_at.Statement.{statement}
 use Rattle.mesh.proofs.vector_at.Tie as tie
