@@ -128,6 +128,26 @@ FAN_FIRST = Mesh([[HUB, EAST, NORTH]])
 FAN_FRAME = [1, ONE, 0, 0, 0, ONE, 0, ONE, 0x3EC7_1C72, 1]
 HALF_ROOT = "3f3504f3"
 
+# quads in the plane x = 0, bent by the least numbers and by signs of zero: threshold 2 leaves each triangle to its own face
+LEAST, MINUS_LEAST, MINUS_0 = "00000001", "80000001", "80000000"
+
+
+def standing(faces):
+    """Faces of (x, y, z, u, v), their normals (1, 0, 0), at threshold 2."""
+    return Mesh([[((x, y, z), (1, 0, 0), (u, v)) for x, y, z, u, v in f] for f in faces], 2)
+
+
+LEFT_BELOW = [(0, 0, LEAST, 0, 0), (MINUS_0, 1, 0, 1, 0), (0, 1, 1, 1, 1), (0, MINUS_0, 1, 0, 1)]
+RIGHT_BELOW = [(MINUS_LEAST, 2, 1, 2, 1), (0, 1, 1, 1, 1), (MINUS_0, 1, 0, 1, 0), (0, 2, 0, 2, 0)]
+LEFT_ABOVE = [(0, 1, 1, 1, 1), (0, 1, 2, 2, 0), (0, 0, 2, 0, 2), (0, MINUS_0, 1, 0, 1)]
+RIGHT_ABOVE = [(0, 1, 1, 1, 1), (MINUS_LEAST, 2, 1, 2, 1), (0, 2, 2, 1, 1), (0, 1, 2, 2, 0)]
+EARLIER = standing([LEFT_BELOW, LEFT_ABOVE])
+SIDES = standing([LEFT_BELOW, RIGHT_BELOW, LEFT_ABOVE, RIGHT_ABOVE])
+
+
+def north(z):
+    return frame((0, 1, z), (0, 0, 1), 1, 1, 1)
+
 # whole calls: a name, a comment, the call or a part of it, what it is
 WHOLE = [
     ("sample-1", "sample 1", SAMPLE_1.call(), SAMPLE_1.taken(EAST_FRAME * 3)),
@@ -146,6 +166,8 @@ WHOLE = [
         CROSSED.call(),
         CROSSED.taken([w for s in ((0, 0, 0), (1, 0, 0), (0, 0, 0), (-1, 0, 0)) for w in frame(s, (HALF_ROOT, HALF_ROOT, 0), 1, "3fb504f3", 1)]),
     ),
+    ("earlier", "'if the two are equal by float comparison, the earlier stays as it is'", EARLIER.call(), EARLIER.taken(north(MINUS_LEAST) * 3 + north(0) * 2 + ABSENT + north(0) * 2)),
+    ("sides", "'the side before the corner first': the sign of a zero in slot 8 tells", f"take 10 (drop 80 ({SIDES.call()} .answer))", words(north(MINUS_0))),
     ("point-alone", "a face whose corners are all one: absent", POINT_ALONE.call(), POINT_ALONE.taken(ABSENT * 3)),
     ("point-shared", "the same behind sample 1, whose first corner it shares: it copies that corner's frame. So demand 3 counts corners of degenerate faces too", POINT_SHARED.call(), POINT_SHARED.taken(EAST_FRAME * 6)),
 ]
