@@ -1,24 +1,26 @@
-//! The root and the angle of the proved archive, beside the processor's and plain whole-number ones.
+//! The root, the angle and the desk of the proved archive, beside the processor's, plain whole-number ones and the oracle's.
 //!
 //! `bench check STEP` compares every STEP-th of the 2^32 patterns (and every 16th of those with a table of its own for each
 //! angle, which is slow) and prints how many differed (exit status 1 if any);
+//! `bench desk MESHES ANSWERS` compares the desk with the oracle's answers (tools/desk makes both files);
 //! `bench time` prints nanoseconds a call and the ratio to the processor's, all measured in one run.
+mod desk;
 mod plain;
 
 use std::hint::black_box;
 use std::time::Instant;
 
 unsafe extern "C" {
-    safe fn leaves_sqrt(x: f32) -> f32;
-    safe fn leaves_acos(x: f32) -> f32;
+    safe fn export_sqrt(x: f32) -> f32;
+    safe fn export_acos(x: f32) -> f32;
     // a slice passes as a pointer and a length
-    fn leaves_acos_all(xs: *const f32, count: usize, out: *mut f32, room: usize);
+    fn export_acos_all(xs: *const f32, count: usize, out: *mut f32, room: usize);
 }
 
 /// The angles of many cosines, with one table for all of them.
 fn acos_all(xs: &[f32], out: &mut [f32]) {
     // the lists are Rust's own, and each is handed over with its own length
-    unsafe { leaves_acos_all(xs.as_ptr(), xs.len(), out.as_mut_ptr(), out.len()) }
+    unsafe { export_acos_all(xs.as_ptr(), xs.len(), out.as_mut_ptr(), out.len()) }
 }
 
 /// The bits of a number, and any NaN as 7FC00000.
@@ -47,11 +49,11 @@ fn differing(name: &str, step: u64, ours: fn(f32) -> f32, other: fn(f32) -> f32)
 }
 
 fn sqrt_of_archive(x: f32) -> f32 {
-    leaves_sqrt(x)
+    export_sqrt(x)
 }
 
 fn acos_of_archive(x: f32) -> f32 {
-    leaves_acos(x)
+    export_acos(x)
 }
 
 /// The same of the angles that are taken with one table, a million at a time.
@@ -126,11 +128,11 @@ extern "C" fn plain_angle(x: f32) -> f32 {
 }
 
 extern "C" fn our_root(x: f32) -> f32 {
-    leaves_sqrt(x)
+    export_sqrt(x)
 }
 
 extern "C" fn our_angle(x: f32) -> f32 {
-    leaves_acos(x)
+    export_acos(x)
 }
 
 /// The least time of seven runs of the angles with one table, in nanoseconds an angle.
@@ -192,12 +194,13 @@ fn main() {
     let given: Vec<&str> = words.iter().map(String::as_str).collect();
     let right = match given.as_slice() {
         ["check", step] => check(step.parse().expect("STEP is a number above 0")),
+        ["desk", meshes, answers] => desk::check(meshes, answers),
         ["time"] => {
             time();
             true
         }
         _ => {
-            eprintln!("usage: bench check STEP | bench time");
+            eprintln!("usage: bench check STEP | bench desk MESHES ANSWERS | bench time");
             std::process::exit(2);
         }
     };

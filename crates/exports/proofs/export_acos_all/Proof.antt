@@ -1,11 +1,11 @@
--- `leaves::leaves_acos_all` is safe and ends: the list keeps its length, and the table stays the table. Assumes nothing.
+-- `exports::export_acos_all` is safe and ends: the list keeps its length, and the table stays the table. Assumes nothing.
 use Prim.Native.Nat.{_-_}
 use mathlib.Core.Path.{_≡_}
 use borrow.Author.Needs.{needs}
 use lib.ListN.{length, length-set}
 use Rattle.angle.specs.Table.{cosines}
-use Rattle.leaves.proofs.leaves_acos_all.Statement.{statement}
-use Rattle.leaves.proofs.leaves_acos_all.Tie as tie
+use Rattle.exports.proofs.export_acos_all.Statement.{statement}
+use Rattle.exports.proofs.export_acos_all.Tie as tie
 
 abbrev Inv-loop : tie.InvT-loop
 Inv-loop xs out₀ table i₀ out i = (length out ≡ length out₀) × (table ≡ cosines)
@@ -55,8 +55,8 @@ same-length-2 c = search needs
 returns-2 : tie.Need-returns-2 Inv-loop μ-loop
 returns-2 c = search needs
 
-pub leaves-acos-all-spec : {M : Type 1} → statement M
-leaves-acos-all-spec =
+pub export-acos-all-spec : {M : Type 1} → statement M
+export-acos-all-spec =
     tie.close
     (tie.spec
     Inv-loop
