@@ -13,7 +13,7 @@ use Rattle.definition.specs.Handed.{cornerAt, cornersFrom, meshFrom, used, slot
 use Rattle.definition.specs.Desk.{finiteCorner, badIn, badCorner, orElse}
 use Rattle.desk.specs.declared.Found.{Found}
 use Rattle.desk.specs.declared.Found.the-variants.{At, Nothing}
-use Rattle.desk.specs.Verdict.{found}
+use Rattle.desk.specs.Verdict.{found, unlessFound}
 
 one-less : (n : ℕ) → suc n - 1 ≡ n
 one-less n = omega arith
@@ -79,15 +79,23 @@ isAt : Found → Bool
 isAt (At i) = true
 isAt Nothing = false
 
-pub at-first : (a b : Option ℕ) (i : ℕ) → At i ≡ found a → At i ≡ found (orElse a b)
-unfolding found orElse isAt
-at-first none b i e = absurd (true≢false (ap isAt e))
-at-first (some j) b i e = e
+-- found before, or else in this face; and then in the faces behind it
+pub then : (bad : Found) (here rest : Option ℕ) → unlessFound (found (unlessFound bad here)) rest ≡ unlessFound bad (orElse here rest)
+unfolding found unlessFound orElse
+then (At i) here rest = refl
+then Nothing none rest = refl
+then Nothing (some j) rest = refl
 
-pub nothing-first : (a b : Option ℕ) → Nothing ≡ found a → orElse a b ≡ b
-unfolding found orElse isAt
-nothing-first none b e = refl
-nothing-first (some j) b e = absurd (true≢false (sym (ap isAt e)))
+-- nothing is left
+pub at-last : (bad : Found) → bad ≡ found (unlessFound bad none)
+unfolding found unlessFound
+at-last (At i) = refl
+at-last Nothing = refl
+
+-- nothing was found yet
+pub at-once : (o : Option ℕ) → unlessFound Nothing o ≡ o
+unfolding unlessFound
+at-once o = refl
 
 pub is-some : (o : Option ℕ) (i : ℕ) → At i ≡ found o → o ≡ some i
 unfolding found isAt
@@ -100,18 +108,13 @@ is-none none e = refl
 is-none (some j) e = absurd (true≢false (sym (ap isAt e)))
 
 -- ---- the faces from number f on
-module _ (ps ns ts : List Float) (sizes : List ℕ) (f from : ℕ) (h : f < length sizes) where
-  abbrev here : Option ℕ
-  here = inFace ps ns ts from (getD sizes f 0)
+module _ (ps ns ts : List Float) (sizes : List ℕ) where
+  pub face-more : (bad : Found) (f from : ℕ) → f < length sizes
+      → unlessFound (found (unlessFound bad (inFace ps ns ts from (getD sizes f 0)))) (inFaces ps ns ts (from + getD sizes f 0) (drop (f + 1) sizes)) ≡ unlessFound bad (inFaces ps ns ts from (drop f sizes))
+  face-more bad f from h = then bad (inFace ps ns ts from (getD sizes f 0)) (inFaces ps ns ts (from + getD sizes f 0) (drop (f + 1) sizes)) ∙ ap (unlessFound bad) (sym from-here)
+    where
+      from-here : inFaces ps ns ts from (drop f sizes) ≡ orElse (inFace ps ns ts from (getD sizes f 0)) (inFaces ps ns ts (from + getD sizes f 0) (drop (f + 1) sizes))
+      from-here = rw (drop-cons sizes f 0 h, add-one f) (face-first ps ns ts from (getD sizes f 0) (drop (suc f) sizes))
 
-  from-here : inFaces ps ns ts from (drop f sizes) ≡ orElse here (inFaces ps ns ts (from + getD sizes f 0) (drop (f + 1) sizes))
-  from-here = rw (drop-cons sizes f 0 h, add-one f) (face-first ps ns ts from (getD sizes f 0) (drop (suc f) sizes))
-
-  pub found-here : (i : ℕ) → At i ≡ found here → At i ≡ found (inFaces ps ns ts from (drop f sizes))
-  found-here i e = at-first here _ i e ∙ ap found (sym from-here)
-
-  pub found-later : Nothing ≡ found here → inFaces ps ns ts (from + getD sizes f 0) (drop (f + 1) sizes) ≡ inFaces ps ns ts from (drop f sizes)
-  found-later e = sym (from-here ∙ nothing-first here _ e)
-
-pub past-end : (ps ns ts : List Float) (sizes : List ℕ) (f from : ℕ) → length sizes ≤ f → inFaces ps ns ts from (drop f sizes) ≡ none
-past-end ps ns ts sizes f from h = rw (drop-of-length-le sizes h) (no-face ps ns ts from)
+  pub past-end : (f from : ℕ) → length sizes ≤ f → inFaces ps ns ts from (drop f sizes) ≡ none
+  past-end f from h = rw (drop-of-length-le sizes h) (no-face ps ns ts from)

@@ -1,7 +1,7 @@
 -- The verdict, by the first row of the table that applies. Assumes nothing.
 use Prim.Native.Nat.{ℕ, _*_, _≤_, _<_}
-use mathlib.Core.Path.{_≡_, refl, sym, ap, _∙_}
-use mathlib.Core.Bool.{Bool, true, false, cond, _||_}
+use mathlib.Core.Path.{_≡_, refl}
+use mathlib.Core.Bool.{Bool, true, false, cond}
 use mathlib.Core.List.{List}
 use mathlib.Core.Option.{Option, none, some}
 use lib.Dec.{ltb}
@@ -12,11 +12,10 @@ use Rattle.bits.specs.Word.{isFinite}
 use Rattle.tangent.specs.Slot.{slotWords}
 use Rattle.definition.specs.Limits.{workWords}
 use Rattle.definition.specs.Lists.{first}
-use Rattle.definition.specs.Handed.{meshFrom, slotCount}
+use Rattle.definition.specs.Handed.{meshFrom, cornerCount, slotCount}
 use Rattle.definition.specs.Desk.{tooMany, misfit, badCorner, isThere, orZero, table, verdict}
-use Rattle.mesh.specs.Parts.{caught}
 use Rattle.desk.specs.declared.Verdict.{Verdict}
-use Rattle.desk.specs.Verdict.{told, lentNumber}
+use Rattle.desk.specs.Verdict.{told, unfit, lentNumber}
 
 -- a number and a place
 abbrev pub said : ℕ → ℕ → Verdict
@@ -57,9 +56,9 @@ module _ (q : Asked) where
   unfolding tooMany
   few l = le-ltb 4096 (length (q .sizes)) l
 
-  pub fits : (b : Bool) → IsMany false → caught (q .sizes) (q .ps) (q .ns) (q .ts) ≡ b → IsMisfit b
-  unfolding caught
-  fits b e c = sym (ap (λ (t : Bool). t || misfit (q .sizes) (q .ps) (q .ns) (q .ts)) e) ∙ c
+  pub fits : (n : ℕ) → n ≡ cornerCount (q .sizes) → misfit (q .sizes) (q .ps) (q .ns) (q .ts) ≡ unfit n (length (q .ps)) (length (q .ns)) (length (q .ts))
+  unfolding misfit unfit
+  fits n e = rw (e)
 
   -- ---- the first that applies
   pub row1 : IsMany true → Told (said 1 0)
@@ -78,7 +77,7 @@ module _ (q : Asked) where
   unfolding told verdict table first isThere orZero
   row4 m f t i b = rw (m, f, t, b)
 
-  pub rows56 : IsMany false → IsMisfit false → IsFinite true → Lowest none → Told (said (lentNumber (q .sizes) (q .answer) (q .work)) 0)
+  pub rows56 : IsMany false → IsMisfit false → IsFinite true → Lowest none → Told (said (lentNumber (slotCount (q .sizes)) (length (q .sizes)) (q .answer) (q .work)) 0)
   unfolding told verdict table first isThere orZero lentNumber
   rows56 m f t b = rw (m, f, t, b) (last (ltb (q .answer) (slotWords * slotCount (q .sizes))) (ltb (q .work) (workWords * length (q .sizes))))
     where

@@ -1,13 +1,10 @@
 -- The numbers and places that the desk's answers stand for. Definitions only.
 use Prim.Native.Nat.{ℕ, _*_}
-use mathlib.Core.Bool.{cond}
-use mathlib.Core.List.{List}
+use mathlib.Core.Bool.{Bool, cond, not, _&&_}
 use mathlib.Core.Option.{Option, none, some}
-use lib.Dec.{ltb}
-use lib.ListN.{length}
+use lib.Dec.{eqb, ltb}
 use Rattle.tangent.specs.Slot.{slotWords}
 use Rattle.definition.specs.Limits.{workWords}
-use Rattle.definition.specs.Handed.{slotCount}
 use Rattle.definition.specs.Desk.{Row}
 use Rattle.desk.specs.declared.Verdict.{Verdict}
 use Rattle.desk.specs.declared.Found.{Found}
@@ -23,6 +20,15 @@ unfoldable pub found : Option ℕ → Found
 found none = Nothing
 found (some i) = At i
 
--- rows 5 and 6 of the table, where no row before them applies
-unfoldable pub lentNumber : List ℕ → ℕ → ℕ → ℕ
-lentNumber sizes answer work = cond (ltb answer (slotWords * slotCount sizes)) 5 (cond (ltb work (workWords * length sizes)) 6 0)
+-- what was found before, and else what is there now
+unfoldable pub unlessFound : Found → Option ℕ → Option ℕ
+unlessFound (At i) o = some i
+unlessFound Nothing o = o
+
+-- row 2 of the table, for C corners and lists of these lengths
+unfoldable pub unfit : ℕ → ℕ → ℕ → ℕ → Bool
+unfit corners positions normals texture = not (eqb positions (3 * corners) && eqb normals (3 * corners) && eqb texture (2 * corners))
+
+-- rows 5 and 6 of the table, for S slots and F faces, where no row before them applies
+unfoldable pub lentNumber : ℕ → ℕ → ℕ → ℕ → ℕ
+lentNumber slots faces answer work = cond (ltb answer (slotWords * slots)) 5 (cond (ltb work (workWords * faces)) 6 0)

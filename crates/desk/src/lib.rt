@@ -5,7 +5,7 @@ ghost use mathlib.Core.Option.{none};
 ghost use Prim.Native.Nat.{_+_, _*_, _≤_, _<_, _^_};
 ghost use lib.ListN.{length};
 ghost use Rattle.definition.specs.Desk as desk;
-ghost use Rattle.definition.specs.Handed.{cornersFrom, meshFrom, used};
+ghost use Rattle.definition.specs.Handed.{cornersFrom, meshFrom, used, cornerCount, slotCount};
 ghost use Rattle.definition.specs.Limits.{faceLimit};
 ghost use Rattle.desk.specs.Verdict as spec;
 use definition::Corner;
@@ -21,6 +21,13 @@ pub struct Verdict {
 pub enum Found {
     At(u32),
     Nothing,
+}
+
+// What one pass over the lists tells: C, S, and the lowest corner of a face of 3 or 4 that holds a NaN or infinity.
+struct Seen {
+    corners: u32,
+    slots: u32,
+    bad: Found,
 }
 
 fn finite_vector(v: Vec3) -> bool
@@ -75,31 +82,67 @@ fn bad_face(positions: &[f32], normals: &[f32], texture: &[f32], from: u32, size
     bad_in(positions, normals, texture, from, size as u32)
 }
 
-// The lowest such corner of all faces of 3 or 4, counted over all C. C is at most 255 * 4,096, so no count overflows.
-fn bad_corner(sizes: &[u8], positions: &[f32], normals: &[f32], texture: &[f32]) -> Found
-    requires { ⌜ length (now sizes) ≤ faceLimit ⌝ }
-    ensures { λ r. ⌜ r ≡ spec.found (desk.badCorner 0 (meshFrom (now (positions .entry)) (now (normals .entry)) (now (texture .entry)) 0 (now (sizes .entry)))) ⌝ }
+// The first of the two, if there is one: a corner that was found before, and the lowest such corner of a face.
+fn bad_by_now(
+    bad: Found,
+    positions: &[f32],
+    normals: &[f32],
+    texture: &[f32],
+    from: u32,
+    size: u8,
+) -> Found
+    requires { ⌜ from + size < 2 ^ 32 ⌝ }
+    ensures { λ r. ⌜ r ≡ spec.found (spec.unlessFound bad (cond (used size) (desk.badIn from (cornersFrom (now (positions .entry)) (now (normals .entry)) (now (texture .entry)) from size)) none)) ⌝ }
 {
-    let mut from: u32 = 0;
+    if let Found::At(i) = bad {
+        return Found::At(i);
+    }
+    bad_face(positions, normals, texture, from, size)
+}
+
+// One pass over all lists: C, S, and the lowest such corner of all faces of 3 or 4, counted over all C. C is at most 255 * 4,096, so no sum overflows.
+fn look_over(sizes: &[u8], positions: &[f32], normals: &[f32], texture: &[f32]) -> Seen
+    requires { ⌜ length (now sizes) ≤ faceLimit ⌝ }
+    ensures { λ r. ⌜ (r .corners ≡ cornerCount (now (sizes .entry))) × (r .slots ≡ slotCount (now (sizes .entry))) × (r .bad ≡ spec.found (desk.badCorner 0 (meshFrom (now (positions .entry)) (now (normals .entry)) (now (texture .entry)) 0 (now (sizes .entry))))) ⌝ }
+{
+    let mut corners: u32 = 0;
+    let mut slots: u32 = 0;
+    let mut bad = Found::Nothing;
     let mut f: usize = 0;
     while f < sizes.len() {
         let size = sizes[f];
-        let found = bad_face(positions, normals, texture, from, size);
-        if let Found::At(i) = found {
-            return Found::At(i);
-        }
-        from += size as u32;
+        bad = bad_by_now(bad, positions, normals, texture, corners, size);
+        corners += size as u32;
+        slots += mesh::slots_of(size) as u32;
         f += 1;
     }
-    Found::Nothing
+    Seen {
+        corners,
+        slots,
+        bad,
+    }
 }
 
-// Refusals 5 and 6, and 0 where neither applies.
-fn lent(sizes: &[u8], answer: usize, work: usize) -> u32
-    requires { ⌜ length (now sizes) ≤ faceLimit ⌝ }
-    ensures { λ r. ⌜ r ≡ spec.lentNumber (now (sizes .entry)) answer work ⌝ }
+// Whether refusal 2 applies, for so many corners and lists of these lengths.
+fn unfit(corners: u32, positions: usize, normals: usize, texture: usize) -> bool
+    ensures { λ r. ⌜ r ≡ spec.unfit corners positions normals texture ⌝ }
 {
-    if answer < 10 * mesh::slots_before(sizes, 4096) {
+    let triple = 3 * (corners as usize);
+    if positions != triple {
+        return true;
+    }
+    if normals != triple {
+        return true;
+    }
+    texture != 2 * (corners as usize)
+}
+
+// Refusals 5 and 6 for so many slots, and 0 where neither applies.
+fn lent(sizes: &[u8], slots: u32, answer: usize, work: usize) -> u32
+    requires { ⌜ length (now sizes) ≤ faceLimit ⌝ }
+    ensures { λ r. ⌜ r ≡ spec.lentNumber slots (length (now (sizes .entry))) answer work ⌝ }
+{
+    if answer < 10 * (slots as usize) {
         return 5;
     }
     if work < 128 * sizes.len() {
@@ -126,7 +169,8 @@ pub fn judge(
             place: 0,
         };
     }
-    if mesh::caught(sizes, positions, normals, texture) {
+    let seen = look_over(sizes, positions, normals, texture);
+    if unfit(seen.corners, positions.len(), normals.len(), texture.len()) {
         return Verdict {
             number: 2,
             place: 0,
@@ -138,7 +182,7 @@ pub fn judge(
             place: 0,
         };
     }
-    let bad = bad_corner(sizes, positions, normals, texture);
+    let bad = seen.bad;
     if let Found::At(i) = bad {
         return Verdict {
             number: 4,
@@ -146,7 +190,7 @@ pub fn judge(
         };
     }
     Verdict {
-        number: lent(sizes, answer, work),
+        number: lent(sizes, seen.slots, answer, work),
         place: 0,
     }
 }

@@ -1,8 +1,11 @@
 -- `desk::judge` meets its contract: each way out is the first row that applies. Assumes nothing.
+use Prim.Native.Nat.{ℕ}
 use mathlib.Core.Path.{_≡_, sym, ap, _∙_}
-use mathlib.Core.Bool.{true, false}
+use mathlib.Core.Bool.{Bool, true, false}
 use borrow.Author.Tests.{not-true, not-false}
 use borrow.Author.Needs.{needs}
+use lib.ListN.{length}
+use Rattle.desk.specs.Verdict.{lentNumber}
 use Rattle.desk.proofs.Bad.{is-some, is-none}
 use Rattle.desk.proofs.Telling.{Asked, IsMany, IsMisfit, IsFinite, said, many, few, fits, row1, row2, row3, row4, rows56}
 use Rattle.desk.proofs.judge.Statement.{statement}
@@ -21,18 +24,22 @@ returns c = let q = asked (c .before) in row1 q (many q (c .if1 .taken))
 not-many : (c : tie.Else1) → IsMany (asked (c .before)) false
 not-many c = few (asked (c .before)) (c .if1 .left)
 
-caught-requires : tie.Need-caught-requires
-caught-requires c κs = search needs
+look-over-requires : tie.Need-look-over-requires
+look-over-requires c κs = search needs
+
+unfit-requires : tie.Need-unfit-requires
+unfit-requires c κs = search needs
+
+-- what the test of row 2 tells
+misfit-is : (c : tie.After-unfit) → IsMisfit (asked (c .before .before .before)) (c .unfit .result)
+misfit-is c = fits (asked (c .before .before .before)) (c .before .look-over .result .corners) (c .before .look-over .ensures .0) ∙ sym (c .unfit .ensures)
 
 returns-2 : tie.Need-returns-2
-returns-2 c =
-    let b = c .before in
-    let q = asked (b .before .before) in
-    row2 q (not-many (b .before)) (fits q true (not-many (b .before)) (sym (b .caught .ensures) ∙ c .if2 .taken))
+returns-2 c = let e = c .before .before .before in row2 (asked (e .before)) (not-many e) (misfit-is (c .before) ∙ c .if2 .taken)
 
 -- nor does row 2
-not-misfit : (c : tie.Else2) → IsMisfit (asked (c .before .before .before)) false
-not-misfit c = let b = c .before in fits (asked (b .before .before)) false (not-many (b .before)) (sym (b .caught .ensures) ∙ c .if2 .left)
+not-misfit : (c : tie.Else2) → IsMisfit (asked (c .before .before .before .before)) false
+not-misfit c = misfit-is (c .before) ∙ c .if2 .left
 
 is-finite-requires : tie.Need-is-finite-requires
 is-finite-requires c κs = search needs
@@ -40,15 +47,12 @@ is-finite-requires c κs = search needs
 returns-3 : tie.Need-returns-3
 returns-3 c =
     let b = c .before in
-    let e = b .before in
-    row3 (asked (e .before .before .before)) (not-many (e .before .before)) (not-misfit e) (sym (b .is-finite .ensures) ∙ not-true (b .is-finite .result) (c .if3 .taken))
+    let e = b .before .before .before .before in
+    row3 (asked (e .before)) (not-many e) (not-misfit (b .before)) (sym (b .is-finite .ensures) ∙ not-true (b .is-finite .result) (c .if3 .taken))
 
 -- nor does row 3
-finite-threshold : (c : tie.Else3) → IsFinite (asked (c .before .before .before .before .before)) true
+finite-threshold : (c : tie.Else3) → IsFinite (asked (c .before .before .before .before .before .before)) true
 finite-threshold c = sym (c .before .is-finite .ensures) ∙ not-false (c .before .is-finite .result) (c .if3 .left)
-
-bad-corner-requires : tie.Need-bad-corner-requires
-bad-corner-requires c κs = search needs
 
 enum-known-bad : tie.Need-enum-known-bad
 enum-known-bad c = search needs
@@ -56,9 +60,8 @@ enum-known-bad c = search needs
 returns-4 : tie.Need-returns-4
 returns-4 c =
     let d = c .before .before .before in
-    let b = d .before in
-    let e = b .before .before in
-    row4 (asked (e .before .before .before)) (not-many (e .before .before)) (not-misfit e) (finite-threshold b) _ (is-some _ _ (sym (c .before .bad .given .1) ∙ d .bad-corner .ensures))
+    let s = d .before .before .before .before in
+    row4 (asked (s .before .before)) (not-many (s .before)) (not-misfit (d .before .before)) (finite-threshold d) _ (is-some _ _ (sym (c .before .bad .given .1) ∙ s .look-over .ensures .2))
 
 enum-told : tie.Need-enum-told
 enum-told c = search needs
@@ -69,20 +72,21 @@ lent-requires c κs = search needs
 returns-5 : tie.Need-returns-5
 returns-5 c =
     let d = c .before .before .before in
-    let b = d .before in
-    let e = b .before .before in
-    ap (λ n. said n 0) (c .lent .ensures) ∙ rows56 (asked (e .before .before .before)) (not-many (e .before .before)) (not-misfit e) (finite-threshold b) (is-none _ (sym (c .before .enum-told .given .1) ∙ d .bad-corner .ensures))
+    let s = d .before .before .before .before in
+    let q = asked (s .before .before) in
+    ap (λ n. said n 0) (c .lent .ensures ∙ ap (λ (k : ℕ). lentNumber k (length (q .sizes)) (q .answer) (q .work)) (s .look-over .ensures .1))
+    ∙ rows56 q (not-many (s .before)) (not-misfit (d .before .before)) (finite-threshold d) (is-none _ (sym (c .before .enum-told .given .1) ∙ s .look-over .ensures .2))
 
 pub judge-spec : {M : Type 1} → statement M
 judge-spec =
     tie.close
     (tie.spec
     returns
-    caught-requires
+    look-over-requires
+    unfit-requires
     returns-2
     is-finite-requires
     returns-3
-    bad-corner-requires
     enum-known-bad
     returns-4
     enum-told
