@@ -15,11 +15,7 @@ use Rattle.definition.specs.Lists.{first}
 use Rattle.definition.specs.Handed.{meshFrom, cornerCount, slotCount}
 use Rattle.definition.specs.Desk.{tooMany, misfit, badCorner, isThere, orZero, table, verdict}
 use Rattle.desk.specs.declared.Verdict.{Verdict}
-use Rattle.desk.specs.Verdict.{told, unfit, lentNumber}
-
--- a number and a place
-abbrev pub said : ℕ → ℕ → Verdict
-said n i = record { number = n; place = i }
+use Rattle.desk.specs.Verdict.{said, told, unfit, lentNumber}
 
 -- what the desk is asked about
 pub record Asked : Type 0 where

@@ -10,10 +10,14 @@ use Rattle.desk.specs.declared.Verdict.{Verdict}
 use Rattle.desk.specs.declared.Found.{Found}
 use Rattle.desk.specs.declared.Found.the-variants.{At, Nothing}
 
+-- a verdict of this number and place
+abbrev pub said : ℕ → ℕ → Verdict
+said n i = record { number = n; place = i }
+
 -- the row that is given as a verdict: its number and its place; 0 and 0 where none is given
 unfoldable pub told : Option Row → Verdict
-told none = record { number = 0; place = 0 }
-told (some r) = record { number = r .number; place = r .place }
+told none = said 0 0
+told (some r) = said (r .number) (r .place)
 
 -- a corner's number that was found, or that there is none
 unfoldable pub found : Option ℕ → Found

@@ -151,6 +151,13 @@ fn lent(sizes: &[u8], slots: u32, answer: usize, work: usize) -> u32
     0
 }
 
+// A verdict of this number and place.
+fn said(number: u32, place: u32) -> Verdict
+    ensures { λ r. ⌜ r ≡ spec.said number place ⌝ }
+{
+    Verdict { number, place }
+}
+
 // The verdict on a mesh, a threshold, and the lengths of the lists that are lent.
 pub fn judge(
     sizes: &[u8],
@@ -164,33 +171,18 @@ pub fn judge(
     ensures { λ r. ⌜ r ≡ spec.told (desk.verdict (now (sizes .entry)) (now (positions .entry)) (now (normals .entry)) (now (texture .entry)) threshold answer work) ⌝ }
 {
     if 4096 < sizes.len() {
-        return Verdict {
-            number: 1,
-            place: 0,
-        };
+        return said(1, 0);
     }
     let seen = look_over(sizes, positions, normals, texture);
     if unfit(seen.corners, positions.len(), normals.len(), texture.len()) {
-        return Verdict {
-            number: 2,
-            place: 0,
-        };
+        return said(2, 0);
     }
     if !bits::is_finite(threshold) {
-        return Verdict {
-            number: 3,
-            place: 0,
-        };
+        return said(3, 0);
     }
     let bad = seen.bad;
     if let Found::At(i) = bad {
-        return Verdict {
-            number: 4,
-            place: i,
-        };
+        return said(4, i);
     }
-    Verdict {
-        number: lent(sizes, seen.slots, answer, work),
-        place: 0,
-    }
+    said(lent(sizes, seen.slots, answer, work), 0)
 }

@@ -5,9 +5,9 @@ use mathlib.Core.Bool.{Bool, true, false}
 use borrow.Author.Tests.{not-true, not-false}
 use borrow.Author.Needs.{needs}
 use lib.ListN.{length}
-use Rattle.desk.specs.Verdict.{lentNumber}
+use Rattle.desk.specs.Verdict.{said, lentNumber}
 use Rattle.desk.proofs.Bad.{is-some, is-none}
-use Rattle.desk.proofs.Telling.{Asked, IsMany, IsMisfit, IsFinite, said, many, few, fits, row1, row2, row3, row4, rows56}
+use Rattle.desk.proofs.Telling.{Asked, IsMany, IsMisfit, IsFinite, many, few, fits, row1, row2, row3, row4, rows56}
 use Rattle.desk.proofs.judge.Statement.{statement}
 use Rattle.desk.proofs.judge.Tie as tie
 
@@ -17,8 +17,11 @@ asked c =
     let a = c .before .before .before .before .args in
     record { sizes = a .sizes .now; ps = a .positions .now; ns = a .normals .now; ts = a .texture .now; h = a .threshold; answer = a .answer; work = a .work }
 
+said-requires : tie.Need-said-requires
+said-requires c κs = search needs
+
 returns : tie.Need-returns
-returns c = let q = asked (c .before) in row1 q (many q (c .if1 .taken))
+returns c = let q = asked (c .before .before) in c .said .ensures ∙ row1 q (many q (c .before .if1 .taken))
 
 -- row 1 does not apply
 not-many : (c : tie.Else1) → IsMany (asked (c .before)) false
@@ -34,8 +37,14 @@ unfit-requires c κs = search needs
 misfit-is : (c : tie.After-unfit) → IsMisfit (asked (c .before .before .before)) (c .unfit .result)
 misfit-is c = fits (asked (c .before .before .before)) (c .before .look-over .result .corners) (c .before .look-over .ensures .0) ∙ sym (c .unfit .ensures)
 
+said-requires-2 : tie.Need-said-requires-2
+said-requires-2 c κs = search needs
+
 returns-2 : tie.Need-returns-2
-returns-2 c = let e = c .before .before .before in row2 (asked (e .before)) (not-many e) (misfit-is (c .before) ∙ c .if2 .taken)
+returns-2 c =
+    let t = c .before in
+    let e = t .before .before .before in
+    c .said2 .ensures ∙ row2 (asked (e .before)) (not-many e) (misfit-is (t .before) ∙ t .if2 .taken)
 
 -- nor does row 2
 not-misfit : (c : tie.Else2) → IsMisfit (asked (c .before .before .before .before)) false
@@ -44,11 +53,14 @@ not-misfit c = misfit-is (c .before) ∙ c .if2 .left
 is-finite-requires : tie.Need-is-finite-requires
 is-finite-requires c κs = search needs
 
+said-requires-3 : tie.Need-said-requires-3
+said-requires-3 c κs = search needs
+
 returns-3 : tie.Need-returns-3
 returns-3 c =
-    let b = c .before in
+    let b = c .before .before in
     let e = b .before .before .before .before in
-    row3 (asked (e .before)) (not-many e) (not-misfit (b .before)) (sym (b .is-finite .ensures) ∙ not-true (b .is-finite .result) (c .if3 .taken))
+    c .said3 .ensures ∙ row3 (asked (e .before)) (not-many e) (not-misfit (b .before)) (sym (b .is-finite .ensures) ∙ not-true (b .is-finite .result) (c .before .if3 .taken))
 
 -- nor does row 3
 finite-threshold : (c : tie.Else3) → IsFinite (asked (c .before .before .before .before .before .before)) true
@@ -57,11 +69,15 @@ finite-threshold c = sym (c .before .is-finite .ensures) ∙ not-false (c .befor
 enum-known-bad : tie.Need-enum-known-bad
 enum-known-bad c = search needs
 
+said-requires-4 : tie.Need-said-requires-4
+said-requires-4 c κs = search needs
+
 returns-4 : tie.Need-returns-4
 returns-4 c =
-    let d = c .before .before .before in
+    let b = c .before .before in
+    let d = b .before .before in
     let s = d .before .before .before .before in
-    row4 (asked (s .before .before)) (not-many (s .before)) (not-misfit (d .before .before)) (finite-threshold d) _ (is-some _ _ (sym (c .before .bad .given .1) ∙ s .look-over .ensures .2))
+    c .said4 .ensures ∙ row4 (asked (s .before .before)) (not-many (s .before)) (not-misfit (d .before .before)) (finite-threshold d) _ (is-some _ _ (sym (b .bad .given .1) ∙ s .look-over .ensures .2))
 
 enum-told : tie.Need-enum-told
 enum-told c = search needs
@@ -69,26 +85,35 @@ enum-told c = search needs
 lent-requires : tie.Need-lent-requires
 lent-requires c κs = search needs
 
+said-requires-5 : tie.Need-said-requires-5
+said-requires-5 c κs = search needs
+
 returns-5 : tie.Need-returns-5
 returns-5 c =
-    let d = c .before .before .before in
+    let l = c .before in
+    let d = l .before .before .before in
     let s = d .before .before .before .before in
     let q = asked (s .before .before) in
-    ap (λ n. said n 0) (c .lent .ensures ∙ ap (λ (k : ℕ). lentNumber k (length (q .sizes)) (q .answer) (q .work)) (s .look-over .ensures .1))
-    ∙ rows56 q (not-many (s .before)) (not-misfit (d .before .before)) (finite-threshold d) (is-none _ (sym (c .before .enum-told .given .1) ∙ s .look-over .ensures .2))
+    c .said5 .ensures ∙ ap (λ n. said n 0) (l .lent .ensures ∙ ap (λ (k : ℕ). lentNumber k (length (q .sizes)) (q .answer) (q .work)) (s .look-over .ensures .1))
+    ∙ rows56 q (not-many (s .before)) (not-misfit (d .before .before)) (finite-threshold d) (is-none _ (sym (l .before .enum-told .given .1) ∙ s .look-over .ensures .2))
 
 pub judge-spec : {M : Type 1} → statement M
 judge-spec =
     tie.close
     (tie.spec
+    said-requires
     returns
     look-over-requires
     unfit-requires
+    said-requires-2
     returns-2
     is-finite-requires
+    said-requires-3
     returns-3
     enum-known-bad
+    said-requires-4
     returns-4
     enum-told
     lent-requires
+    said-requires-5
     returns-5)
