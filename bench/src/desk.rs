@@ -4,6 +4,9 @@ use std::fs::read;
 unsafe extern "C" {
     // a slice passes as a pointer and a length
     fn export_judge(
+        threshold: f32,
+        answer: usize,
+        work: usize,
         sizes: *const u8,
         faces: usize,
         positions: *const f32,
@@ -12,9 +15,6 @@ unsafe extern "C" {
         normal_count: usize,
         texture: *const f32,
         texture_count: usize,
-        threshold: f32,
-        answer: usize,
-        work: usize,
     ) -> u64;
 }
 
@@ -69,6 +69,9 @@ fn judged(call: &Call) -> (u32, u32) {
     // the lists are Rust's own, and each is handed over with its own length
     let verdict = unsafe {
         export_judge(
+            f32::from_bits(call.threshold),
+            call.answer,
+            call.work,
             call.sizes.as_ptr(),
             call.sizes.len(),
             positions.as_ptr(),
@@ -77,9 +80,6 @@ fn judged(call: &Call) -> (u32, u32) {
             normals.len(),
             texture.as_ptr(),
             texture.len(),
-            f32::from_bits(call.threshold),
-            call.answer,
-            call.work,
         )
     };
     ((verdict >> 32) as u32, verdict as u32)

@@ -39,13 +39,13 @@ pub extern "C" fn export_acos_all(xs: &[f32], out: &mut [f32]) {
 // The desk's verdict as one number: the refusal's number times 2 ^ 32, and its place.
 #[no_mangle]
 pub extern "C" fn export_judge(
+    threshold: f32,
+    answer: usize,
+    work: usize,
     sizes: &[u8],
     positions: &[f32],
     normals: &[f32],
     texture: &[f32],
-    threshold: f32,
-    answer: usize,
-    work: usize,
 ) -> u64
     ensures { λ r. ⌜ r ≡ packed (told (verdict (now (sizes .entry)) (now (positions .entry)) (now (normals .entry)) (now (texture .entry)) threshold answer work)) ⌝ }
 {

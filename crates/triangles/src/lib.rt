@@ -263,26 +263,21 @@ fn pair(s: Triangle, t: Triangle) -> Two
     Two { first, second }
 }
 
+// Corner number which of its face, with its values.
+fn nook(which: u32, corner: Corner) -> Kept
+    ensures { λ r. ⌜ r ≡ spec.nook which corner ⌝ }
+{
+    Kept { which, corner }
+}
+
 // The two triangles of a quad, by its cut.
 pub fn quad(face: u32, c0: Corner, c1: Corner, c2: Corner, c3: Corner) -> Two
     ensures { λ r. ⌜ (r .first ∷ r .second ∷ []) ≡ spec.quad face c0 c1 c2 c3 ⌝ }
 {
-    let k0 = Kept {
-        which: 0,
-        corner: c0,
-    };
-    let k1 = Kept {
-        which: 1,
-        corner: c1,
-    };
-    let k2 = Kept {
-        which: 2,
-        corner: c2,
-    };
-    let k3 = Kept {
-        which: 3,
-        corner: c3,
-    };
+    let k0 = nook(0, c0);
+    let k1 = nook(1, c1);
+    let k2 = nook(2, c2);
+    let k3 = nook(3, c3);
     if cut02(c0, c1, c2, c3) {
         let s = make(face, false, 3, k0, k1, k2);
         let t = make(face, true, 1, k0, k2, k3);
