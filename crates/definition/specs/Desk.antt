@@ -51,9 +51,13 @@ orZero (some i) = i
 unfoldable pub tooMany : List ℕ → Bool
 tooMany sizes = ltb faceLimit (length sizes)
 
--- 2: 'positions or normals aren't 3C long, or texture coordinates 2C'
+-- 2: 'positions or normals aren't 3C long, or texture coordinates 2C', for C and the lengths of the three lists
+unfoldable pub unfit : ℕ → ℕ → ℕ → ℕ → Bool
+unfit corners positions normals texture = not (eqb positions (3 * corners) && eqb normals (3 * corners) && eqb texture (2 * corners))
+
+-- the same of the lists themselves
 unfoldable pub misfit : List ℕ → List Float → List Float → List Float → Bool
-misfit sizes ps ns ts = not (eqb (length ps) (3 * cornerCount sizes) && eqb (length ns) (3 * cornerCount sizes) && eqb (length ts) (2 * cornerCount sizes))
+misfit sizes ps ns ts = unfit (cornerCount sizes) (length ps) (length ns) (length ts)
 
 -- a row of the table: its number, whether it applies, its place
 pub record Row : Type 0 where

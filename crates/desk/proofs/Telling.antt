@@ -13,9 +13,9 @@ use Rattle.tangent.specs.Slot.{slotWords}
 use Rattle.definition.specs.Limits.{workWords}
 use Rattle.definition.specs.Lists.{first}
 use Rattle.definition.specs.Handed.{meshFrom, cornerCount, slotCount}
-use Rattle.definition.specs.Desk.{tooMany, misfit, badCorner, isThere, orZero, table, verdict}
+use Rattle.definition.specs.Desk.{tooMany, unfit, misfit, badCorner, isThere, orZero, table, verdict}
 use Rattle.desk.specs.declared.Verdict.{Verdict}
-use Rattle.desk.specs.Verdict.{said, told, unfit, lentNumber}
+use Rattle.desk.specs.Verdict.{said, told, lentNumber}
 
 -- what the desk is asked about
 pub record Asked : Type 0 where
@@ -53,7 +53,7 @@ module _ (q : Asked) where
   few l = le-ltb 4096 (length (q .sizes)) l
 
   pub fits : (n : ℕ) → n ≡ cornerCount (q .sizes) → misfit (q .sizes) (q .ps) (q .ns) (q .ts) ≡ unfit n (length (q .ps)) (length (q .ns)) (length (q .ts))
-  unfolding misfit unfit
+  unfolding misfit
   fits n e = rw (e)
 
   -- ---- the first that applies

@@ -1,8 +1,8 @@
 -- The numbers and places that the desk's answers stand for. Definitions only.
 use Prim.Native.Nat.{ℕ, _*_}
-use mathlib.Core.Bool.{Bool, cond, not, _&&_}
+use mathlib.Core.Bool.{cond}
 use mathlib.Core.Option.{Option, none, some}
-use lib.Dec.{eqb, ltb}
+use lib.Dec.{ltb}
 use Rattle.tangent.specs.Slot.{slotWords}
 use Rattle.definition.specs.Limits.{workWords}
 use Rattle.definition.specs.Desk.{Row}
@@ -28,10 +28,6 @@ found (some i) = At i
 unfoldable pub unlessFound : Found → Option ℕ → Option ℕ
 unlessFound (At i) o = some i
 unlessFound Nothing o = o
-
--- row 2 of the table, for C corners and lists of these lengths
-unfoldable pub unfit : ℕ → ℕ → ℕ → ℕ → Bool
-unfit corners positions normals texture = not (eqb positions (3 * corners) && eqb normals (3 * corners) && eqb texture (2 * corners))
 
 -- rows 5 and 6 of the table, for S slots and F faces, where no row before them applies
 unfoldable pub lentNumber : ℕ → ℕ → ℕ → ℕ → ℕ

@@ -125,7 +125,7 @@ fn look_over(sizes: &[u8], positions: &[f32], normals: &[f32], texture: &[f32]) 
 
 // Whether refusal 2 applies, for so many corners and lists of these lengths.
 fn unfit(corners: u32, positions: usize, normals: usize, texture: usize) -> bool
-    ensures { λ r. ⌜ r ≡ spec.unfit corners positions normals texture ⌝ }
+    ensures { λ r. ⌜ r ≡ desk.unfit corners positions normals texture ⌝ }
 {
     let triple = 3 * (corners as usize);
     if positions != triple {

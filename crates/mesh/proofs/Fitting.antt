@@ -12,7 +12,7 @@ use lib.ListN.{length, getD, take, drop, take-append-drop}
 use lib.Seq.{take-all}
 use lib.Ieee.{Float}
 use Rattle.definition.specs.Handed.{cornerCount}
-use Rattle.definition.specs.Desk.{tooMany, misfit}
+use Rattle.definition.specs.Desk.{tooMany, unfit, misfit}
 use Rattle.mesh.specs.Parts.{caught}
 use Rattle.mesh.proofs.Counts.{corners-more, corners-append}
 
@@ -24,7 +24,7 @@ module _ (sizes : List ℕ) (ps ns ts : List Float) where
   module _ (n : ℕ) (few : length sizes ≤ 4096) (is : n ≡ cornerCount sizes) where
     -- the verdict of refusal 2, by its three tests
     by-tests : (a b c : Bool) → eqb (length ps) (3 * n) ≡ a → eqb (length ns) (3 * n) ≡ b → eqb (length ts) (2 * n) ≡ c → not (a && b && c) ≡ caught sizes ps ns ts
-    unfolding caught tooMany misfit
+    unfolding caught tooMany misfit unfit
     by-tests a b c p q r = rw (le-ltb 4096 (length sizes) few, ← is, p, q, r)
 
     pub caught-places : (length ps ≡ 3 * n → ⊥) → true ≡ caught sizes ps ns ts
@@ -44,7 +44,7 @@ pub record Fit (sizes : List ℕ) (ps ns ts : List Float) : Type 0 where
   pub texture : length ts ≡ 2 * cornerCount sizes
 
 pub fit : (sizes : List ℕ) (ps ns ts : List Float) → caught sizes ps ns ts ≡ false → Fit sizes ps ns ts
-unfolding caught tooMany misfit
+unfolding caught tooMany misfit unfit
 fit sizes ps ns ts e =
     let n = cornerCount sizes in
     let t = passed (ltb 4096 (length sizes)) (eqb (length ps) (3 * n)) (eqb (length ns) (3 * n)) (eqb (length ts) (2 * n)) e in

@@ -1,7 +1,7 @@
 -- `desk::unfit` meets its contract: each way out is what the tests pick. Assumes nothing.
 use borrow.Author.Tests.{eq-eqb, ne-eqb}
 use borrow.Author.Needs.{needs}
-use Rattle.desk.specs.Verdict.{unfit}
+use Rattle.definition.specs.Desk.{unfit}
 use Rattle.desk.proofs.unfit.Statement.{statement}
 use Rattle.desk.proofs.unfit.Tie as tie
 
