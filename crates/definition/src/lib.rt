@@ -31,7 +31,7 @@ pub struct Triangle {
     pub marked: bool,
     // `group_with_any`
     pub any: bool,
-    // true where the texture runs the way of the surface: twice its signed area is above 0
+    // true where twice its signed area in the texture is above 0, unless its quad takes the other triangle's orientation; false if degenerate
     pub orientation: bool,
     pub tangent: RawTangentSpace,
 }
