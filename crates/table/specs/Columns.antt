@@ -16,3 +16,59 @@ cornerStarts = 0
 -- where each face's slots start
 abbrev pub slotStarts : ℕ
 slotStarts = 1
+
+-- the numbers of a triangle's three corners in the lists handed in, rows 3t, 3t + 1 and 3t + 2
+abbrev pub cornerColumn : ℕ
+cornerColumn = 2
+
+-- the numbers of their slots
+abbrev pub slotColumn : ℕ
+slotColumn = 3
+
+-- its face, whether it is the second of it, the corner it misses
+abbrev pub nameColumn : ℕ
+nameColumn = 4
+
+-- the three numbers of its first-order tangent's s
+abbrev pub sColumn : ℕ
+sColumn = 5
+
+-- and of its t
+abbrev pub tColumn : ℕ
+tColumn = 6
+
+-- the two magnitudes, and whether its quad is marked
+abbrev pub magnitudeColumn : ℕ
+magnitudeColumn = 7
+
+-- its orientation, at row t
+abbrev pub orientationColumn : ℕ
+orientationColumn = 8
+
+-- whether it is `group_with_any`, at row t
+abbrev pub anyColumn : ℕ
+anyColumn = 9
+
+-- the row of the first corner that a corner is welded to
+abbrev pub vertexColumn : ℕ
+vertexColumn = 10
+
+-- the side beyond a side: its row and one, or 0 where there is none
+abbrev pub linkColumn : ℕ
+linkColumn = 11
+
+-- the lower of the two vertices in which a side ends
+abbrev pub lowerColumn : ℕ
+lowerColumn = 15
+
+-- the higher one
+abbrev pub higherColumn : ℕ
+higherColumn = 16
+
+-- the rows of the sides, in their order
+abbrev pub orderColumn : ℕ
+orderColumn = 17
+
+-- what the sort works in
+abbrev pub spareColumn : ℕ
+spareColumn = 18

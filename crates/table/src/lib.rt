@@ -8,3 +8,45 @@ pub const COLUMNS: usize = 21;
 pub const CORNER_STARTS: usize = 0;
 
 pub const SLOT_STARTS: usize = 1;
+
+// The numbers of a triangle's three corners in the lists handed in.
+pub const CORNER: usize = 2;
+
+// The numbers of their slots.
+pub const SLOT: usize = 3;
+
+// A triangle's face, whether it is the second of it, the corner it misses.
+pub const NAME: usize = 4;
+
+// The three numbers of its first-order tangent's s.
+pub const TANGENT_S: usize = 5;
+
+// And of its t.
+pub const TANGENT_T: usize = 6;
+
+// The two magnitudes, and whether its quad is marked.
+pub const MAGNITUDE: usize = 7;
+
+// A triangle's orientation, at row t.
+pub const ORIENTATION: usize = 8;
+
+// Whether it is `group_with_any`, at row t.
+pub const ANY: usize = 9;
+
+// The row of the first corner that a corner is welded to.
+pub const VERTEX: usize = 10;
+
+// The side beyond a side: its row and one, or 0 where there is none.
+pub const LINK: usize = 11;
+
+// The lower of the two vertices in which a side ends.
+pub const LOWER: usize = 15;
+
+// The higher one.
+pub const HIGHER: usize = 16;
+
+// The rows of the sides, in their order.
+pub const ORDER: usize = 17;
+
+// What the sort works in.
+pub const SPARE: usize = 18;

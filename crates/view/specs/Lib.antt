@@ -1,0 +1,5 @@
+pub mod Frame
+pub mod Rows
+pub mod Records
+pub mod Weld
+pub mod Links

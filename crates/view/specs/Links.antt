@@ -1,0 +1,20 @@
+-- The column of links: step 5. Definitions only.
+use Prim.Native.Nat.{ℕ, suc, _<_}
+use mathlib.Core.List.{List}
+use mathlib.Core.Option.{Option, none, some}
+use lib.ListN.{length}
+use Rattle.table.specs.Table.{cell}
+use Rattle.table.specs.Columns.{linkColumn}
+use Rattle.definition.specs.declared.Triangle.{Triangle}
+use Rattle.definition.specs.Mesh.{Third, Spot}
+use Rattle.definition.specs.Step5Links.{Link, beyond}
+use Rattle.view.specs.Rows.{row, spotAt}
+
+-- the word of an optional side: 0 where there is none, else its row and one
+pub data LinkWord (ss : List Triangle) (d : Triangle) : Option Spot → ℕ → Type 0 where
+  nowhere : LinkWord ss d none 0
+  towards : (u : ℕ) (j : Third) → u < length ss → LinkWord ss d (some (spotAt ss d u j)) (suc (row u j))
+
+-- the column stands for the links ls: at the row of each side of the triangles stands the side beyond it
+abbrev pub Linked : ℕ → List Triangle → Triangle → List Link → List ℕ → Type 0
+Linked rows ss d ls w = (t : ℕ) (i : Third) → t < length ss → LinkWord ss d (beyond ls (spotAt ss d t i)) (cell rows linkColumn (row t i) w)

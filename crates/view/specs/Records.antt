@@ -1,0 +1,63 @@
+-- A triangle in the columns: 23 words, in the three rows of its number or in the one. Definitions only.
+use Prim.Native.Nat.{ℕ, _+_, _*_, _<_}
+use mathlib.Core.Path.{_≡_}
+use mathlib.Core.Bool.{Bool}
+use mathlib.Core.List.{List, [], _∷_}
+use lib.ListN.{length, getD, take, drop}
+use lib.Ieee.{Float}
+use Rattle.bits.specs.Word.{word}
+use Rattle.math.specs.declared.Vec3.{Vec3}
+use Rattle.tangent.specs.declared.RawTangentSpace.{RawTangentSpace}
+use Rattle.tangent.specs.Slot.{flag}
+use Rattle.tangent.specs.Held.{HeldSpace}
+use Rattle.table.specs.Table.{cell, column}
+use Rattle.table.specs.Columns.{cornerColumn, slotColumn, nameColumn, sColumn, tColumn, magnitudeColumn, orientationColumn, anyColumn}
+use Rattle.definition.specs.declared.Triangle.{Triangle}
+use Rattle.definition.specs.Mesh.{Third, kept}
+use Rattle.definition.specs.Handed.{cornerAt, cornerCount, slotCount}
+
+-- the three words of triangle t in column k
+unfoldable pub part : ℕ → ℕ → ℕ → List ℕ → List ℕ
+part rows k t w = take 3 (drop (3 * t) (column rows k w))
+
+-- the numbers of its corners, or of their slots, where those of its face start at number `base`
+abbrev pub numbers : ℕ → Triangle → List ℕ
+numbers base x = (base + x .a .which) ∷ (base + x .b .which) ∷ (base + x .c .which) ∷ []
+
+-- its face, whether it is the second of it, the corner it misses
+abbrev pub names : Triangle → List ℕ
+names x = x .face ∷ flag (x .second) ∷ x .missing ∷ []
+
+-- a vector's three numbers
+abbrev pub threeOf : Vec3 → List ℕ
+threeOf v = word (v .x) ∷ word (v .y) ∷ word (v .z) ∷ []
+
+-- the two magnitudes, and whether the quad is marked
+abbrev pub lengths : RawTangentSpace → Bool → List ℕ
+lengths g m = word (g .«s_magnitude») ∷ word (g .«t_magnitude») ∷ flag m ∷ []
+
+-- the triangle's corners are those of the lists, from number `base` on
+pub record From (ps ns ts : List Float) (base : ℕ) (x : Triangle) : Type 0 where
+  pub small : (i : Third) → kept x i .which < 4
+  pub corner : (i : Third) → kept x i .corner ≡ cornerAt ps ns ts (base + kept x i .which)
+
+-- the columns hold x as triangle number t, for the lists handed in
+pub record Stored (rows : ℕ) (sizes : List ℕ) (ps ns ts : List Float) (w : List ℕ) (t : ℕ) (x : Triangle) : Type 0 where
+  pub corner : part rows cornerColumn t w ≡ numbers (cornerCount (take (x .face) sizes)) x
+  pub slot : part rows slotColumn t w ≡ numbers (slotCount (take (x .face) sizes)) x
+  pub name : part rows nameColumn t w ≡ names x
+  pub along : part rows sColumn t w ≡ threeOf (x .tangent .s)
+  pub up : part rows tColumn t w ≡ threeOf (x .tangent .t)
+  pub long : part rows magnitudeColumn t w ≡ lengths (x .tangent) (x .marked)
+  pub way : cell rows orientationColumn t w ≡ flag (x .orientation)
+  pub loose : cell rows anyColumn t w ≡ flag (x .any)
+  pub from : From ps ns ts (cornerCount (take (x .face) sizes)) x
+  pub held : HeldSpace (x .tangent)
+
+-- the columns hold the triangles xs, in their order; d is any triangle
+abbrev pub Held : ℕ → List ℕ → List Float → List Float → List Float → List Triangle → Triangle → List ℕ → Type 0
+Held rows sizes ps ns ts xs d w = (t : ℕ) → t < length xs → Stored rows sizes ps ns ts w t (getD xs t d)
+
+-- the columns of a triangle
+abbrev pub recordColumns : List ℕ
+recordColumns = cornerColumn ∷ slotColumn ∷ nameColumn ∷ sColumn ∷ tColumn ∷ magnitudeColumn ∷ orientationColumn ∷ anyColumn ∷ []
