@@ -1,0 +1,5 @@
+pub mod Lists
+pub mod Frame
+pub mod Rows
+pub mod Weld
+pub mod Records

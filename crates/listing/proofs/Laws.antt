@@ -1,0 +1,235 @@
+-- One triangle more in the columns. Assumes nothing.
+use Prim.Native.Nat.{ℕ, zero, suc, _+_, _*_, _-_, _≤_, _<_}
+use native.Mathlib.Nat.{eq-or-lt-of-le}
+use native.Mathlib.Omega.{arith}
+use mathlib.Core.Path.{_≡_, refl, sym, _∙_, ap, subst}
+use mathlib.Core.Bool.{Bool, true, false, cond, Bool·beq}
+use mathlib.Core.List.{List, [], _∷_, _++_, append-assoc, append-nil}
+use mathlib.Core.Logic.{⊎-elim}
+use lib.Dec.{eqb}
+use lib.ListN.{length, getD, take, drop, set, length-append, List·getD-append}
+use lib.Seq.{sets, sets-eq, length-sets, drop-at, take-at, length-take-le, drop-set-add, take-set-le, getD-set-same, getD-set-other, getD-at}
+use lib.Ieee.{Float}
+use Rattle.tangent.specs.Slot.{flag}
+use Rattle.tangent.specs.Held.{HeldSpace}
+use Rattle.table.specs.Table.{cell, column}
+use Rattle.table.specs.Columns.{columns, cornerColumn, slotColumn, nameColumn, sColumn, tColumn, magnitudeColumn, orientationColumn, anyColumn}
+use Rattle.table.proofs.Laws.{column-sets, getD-column, length-column, column-ends}
+use Rattle.definition.specs.declared.Triangle.{Triangle}
+use Rattle.definition.specs.Lists.{keep}
+use Rattle.definition.specs.Handed.{cornerCount, slotCount}
+use Rattle.laws.proofs.Part.{Every, every-nil, every-cons, every-append}
+use Rattle.view.specs.Frame.{outside, Only}
+use Rattle.view.specs.Records.{part, numbers, names, threeOf, lengths, From, Stored, Held, recordColumns}
+use Rattle.view.proofs.Frame.{only-none, only-trans, only-sets}
+use Rattle.listing.specs.Listing.{Entry, storing, placeEntries, tangentEntries, flagEntries, stored, Added, pick}
+
+-- ---- lists
+
+-- a store past a part leaves the part
+mid-set : (n m i a : ℕ) (l : List ℕ) → m + n ≤ i → take n (drop m (set l i a)) ≡ take n (drop m l)
+mid-set n m i a l h =
+    ap (λ (k : ℕ). take n (drop m (set l k a))) e
+    ∙ ap (take n) (drop-set-add m l (i - m) a)
+    ∙ take-set-le n (drop m l) (i - m) a (omega arith)
+  where
+    e : i ≡ m + (i - m)
+    e = omega arith
+
+mid-sets : (n m i : ℕ) (vs l : List ℕ) → m + n ≤ i → take n (drop m (sets l i vs)) ≡ take n (drop m l)
+mid-sets n m i [] l h = refl
+mid-sets n m i (a ∷ vs) l h = mid-sets n m (suc i) vs (set l i a) (omega arith) ∙ mid-set n m i a l h
+
+mid-same : (i : ℕ) (x y z : ℕ) (l : List ℕ) → i + 3 ≤ length l → take 3 (drop i (sets l i (x ∷ y ∷ z ∷ []))) ≡ x ∷ y ∷ z ∷ []
+mid-same i x y z l h =
+    ap (λ (q : List ℕ). take 3 (drop i q)) (sets-eq (x ∷ y ∷ z ∷ []) l i h ∙ append-assoc (take i l) (x ∷ y ∷ z ∷ []) (drop (i + 3) l))
+    ∙ ap (take 3) (drop-at (take i l) ((x ∷ y ∷ z ∷ []) ++ drop (i + 3) l) i (length-take-le i l (omega arith)))
+    ∙ take-at (x ∷ y ∷ z ∷ []) (drop (i + 3) l) 3 refl
+
+-- ---- entries
+
+-- an entry of the triangles' columns that fits into its column
+pub record Fitting (rows : ℕ) (e : Entry) : Type 0 where
+  pub inside : e .row + length (e .words) ≤ rows
+  pub below : e .column < columns
+  pub among : outside recordColumns (e .column) ≡ false
+
+-- what entries leave of column k
+within : ℕ → List Entry → List ℕ → List ℕ
+within k [] c = c
+within k (e ∷ es) c = within k es (cond (eqb (e .column) k) (sets c (e .row) (e .words)) c)
+
+module _ (rows : ℕ) where
+  storing-column : (k : ℕ) {es : List Entry} → Every (Fitting rows) es → (w : List ℕ) → column rows k (storing rows es w) ≡ within k es (column rows k w)
+  unfolding storing within
+  storing-column k every-nil w = refl
+  storing-column k (every-cons {x} {l} f r) w = storing-column k r (sets w (x .column * rows + x .row) (x .words)) ∙ ap (within k l) (column-sets rows k (x .column) (x .row) (x .words) w (f .inside))
+
+  storing-only : {es : List Entry} → Every (Fitting rows) es → (w u : List ℕ) → Only recordColumns rows w u → Only recordColumns rows w (storing rows es u)
+  unfolding storing
+  storing-only every-nil w u O = O
+  storing-only (every-cons {x} f r) w u O = storing-only r w _ (only-sets recordColumns rows w u (x .column) (x .row) (x .words) (f .among) (f .below) (f .inside) O)
+
+storing-append : (rows : ℕ) (es fs : List Entry) (w : List ℕ) → storing rows fs (storing rows es w) ≡ storing rows (es ++ fs) w
+unfolding storing
+storing-append rows [] fs w = refl
+storing-append rows (e ∷ es) fs w = storing-append rows es fs _
+
+-- ---- a triangle stored
+
+module _ (rows t base slot : ℕ) (x : Triangle) (w : List ℕ) (room : 3 * t + 3 ≤ rows) where
+  abbrev u : List ℕ
+  u = stored rows t base slot x w
+
+  abbrev entries : List Entry
+  entries = placeEntries t base slot x ++ (tangentEntries t (x .tangent) (x .marked) ++ flagEntries t (x .orientation) (x .any))
+
+  -- three words in the rows of t
+  three : (k a b c : ℕ) → outside recordColumns k ≡ false → k < columns → Fitting rows (record { column = k; row = 3 * t; words = a ∷ b ∷ c ∷ [] })
+  three k a b c o h = record { inside = room; below = h; among = o }
+
+  -- one word in row t
+  own : (k a : ℕ) → outside recordColumns k ≡ false → k < columns → Fitting rows (record { column = k; row = t; words = a ∷ [] })
+  own k a o h = record { inside = omega arith; below = h; among = o }
+
+  fitting : Every (Fitting rows) entries
+  fitting =
+      every-cons (three cornerColumn _ _ _ refl (omega arith)) (every-cons (three slotColumn _ _ _ refl (omega arith)) (every-cons (three nameColumn _ _ _ refl (omega arith))
+      (every-cons (three sColumn _ _ _ refl (omega arith)) (every-cons (three tColumn _ _ _ refl (omega arith)) (every-cons (three magnitudeColumn _ _ _ refl (omega arith))
+      (every-cons (own orientationColumn _ refl (omega arith)) (every-cons (own anyColumn _ refl (omega arith)) every-nil)))))))
+
+  is : u ≡ storing rows entries w
+  unfolding stored
+  is = ap (storing rows (flagEntries t (x .orientation) (x .any))) (storing-append rows (placeEntries t base slot x) (tangentEntries t (x .tangent) (x .marked)) w) ∙ storing-append rows (placeEntries t base slot x ++ tangentEntries t (x .tangent) (x .marked)) (flagEntries t (x .orientation) (x .any)) w
+
+  stored-column : (k : ℕ) → column rows k u ≡ within k entries (column rows k w)
+  stored-column k = ap (column rows k) is ∙ storing-column rows k fitting w
+
+  -- the frame
+  pub only-stored : Only recordColumns rows w u
+  only-stored = subst (Only recordColumns rows w) (sym is) (storing-only rows fitting w w (only-none recordColumns rows w))
+
+  -- what stands in its own rows
+  module _ (long : columns * rows ≤ length w) where
+    full : (k : ℕ) → k < columns → 3 * t + 3 ≤ length (column rows k w)
+    full k h = subst (λ (n : ℕ). 3 * t + 3 ≤ n) (sym (length-column rows w k (omega (arith, column-ends k columns rows h)))) room
+
+    three-in : (k a b c : ℕ) → k < columns → ((l : List ℕ) → within k entries l ≡ sets l (3 * t) (a ∷ b ∷ c ∷ [])) → part rows k t u ≡ a ∷ b ∷ c ∷ []
+    unfolding part
+    three-in k a b c h e = ap (λ (l : List ℕ). take 3 (drop (3 * t) l)) (stored-column k ∙ e (column rows k w)) ∙ mid-same (3 * t) a b c (column rows k w) (full k h)
+
+    one-in : (k a : ℕ) → k < columns → ((l : List ℕ) → within k entries l ≡ sets l t (a ∷ [])) → cell rows k t u ≡ a
+    one-in k a h e =
+        let f = full k h in
+        sym (getD-column rows u k t (omega arith)) ∙ ap (λ (l : List ℕ). getD l t 0) (stored-column k ∙ e (column rows k w)) ∙ getD-set-same (column rows k w) t a 0 (omega arith)
+
+    pub here : (sizes : List ℕ) (ps ns ts : List Float) → base ≡ cornerCount (take (x .face) sizes) → slot ≡ slotCount (take (x .face) sizes) → From ps ns ts base x → HeldSpace (x .tangent) → Stored rows sizes ps ns ts u t x
+    unfolding within
+    here sizes ps ns ts eb es F H = record {
+      corner = three-in cornerColumn _ _ _ (omega arith) (λ l. refl) ∙ (λ k. (eb k + x .a .which) ∷ (eb k + x .b .which) ∷ (eb k + x .c .which) ∷ []);
+      slot = three-in slotColumn _ _ _ (omega arith) (λ l. refl) ∙ (λ k. (es k + x .a .which) ∷ (es k + x .b .which) ∷ (es k + x .c .which) ∷ []);
+      name = three-in nameColumn _ _ _ (omega arith) (λ l. refl);
+      along = three-in sColumn _ _ _ (omega arith) (λ l. refl);
+      up = three-in tColumn _ _ _ (omega arith) (λ l. refl);
+      long = three-in magnitudeColumn _ _ _ (omega arith) (λ l. refl);
+      way = one-in orientationColumn (flag (x .orientation)) (omega arith) (λ l. refl);
+      loose = one-in anyColumn (flag (x .any)) (omega arith) (λ l. refl);
+      from = subst (λ (n : ℕ). From ps ns ts n x) eb F;
+      held = H;
+    }
+
+  -- what stood before
+  module _ (v : ℕ) (earlier : v < t) where
+    three-kept : (k : ℕ) (vs : List ℕ) → ((l : List ℕ) → within k entries l ≡ sets l (3 * t) vs) → part rows k v u ≡ part rows k v w
+    unfolding part
+    three-kept k vs e = ap (λ (l : List ℕ). take 3 (drop (3 * v) l)) (stored-column k ∙ e (column rows k w)) ∙ mid-sets 3 (3 * v) (3 * t) vs (column rows k w) (omega arith)
+
+    one-kept : (k a : ℕ) → ((l : List ℕ) → within k entries l ≡ sets l t (a ∷ [])) → cell rows k v u ≡ cell rows k v w
+    one-kept k a e =
+        sym (getD-column rows u k v (omega arith)) ∙ ap (λ (l : List ℕ). getD l v 0) (stored-column k ∙ e (column rows k w))
+        ∙ getD-set-other (column rows k w) t v a 0 (λ q. omega arith) ∙ getD-column rows w k v (omega arith)
+
+    pub stored-kept : (sizes : List ℕ) (ps ns ts : List Float) (y : Triangle) → Stored rows sizes ps ns ts w v y → Stored rows sizes ps ns ts u v y
+    unfolding within
+    stored-kept sizes ps ns ts y S = record {
+      corner = three-kept cornerColumn (numbers base x) (λ l. refl) ∙ S .corner;
+      slot = three-kept slotColumn (numbers slot x) (λ l. refl) ∙ S .slot;
+      name = three-kept nameColumn (names x) (λ l. refl) ∙ S .name;
+      along = three-kept sColumn (threeOf (x .tangent .s)) (λ l. refl) ∙ S .along;
+      up = three-kept tColumn (threeOf (x .tangent .t)) (λ l. refl) ∙ S .up;
+      long = three-kept magnitudeColumn (lengths (x .tangent) (x .marked)) (λ l. refl) ∙ S .long;
+      way = one-kept orientationColumn (flag (x .orientation)) (λ l. refl) ∙ S .way;
+      loose = one-kept anyColumn (flag (x .any)) (λ l. refl) ∙ S .loose;
+      from = S .from;
+      held = S .held;
+    }
+
+-- one triangle more
+held-more : (rows : ℕ) (sizes : List ℕ) (ps ns ts : List Float) (ys : List Triangle) (d : Triangle) (t base slot : ℕ) (x : Triangle) (w : List ℕ) → length ys ≡ t → 3 * t + 3 ≤ rows → columns * rows ≤ length w → base ≡ cornerCount (take (x .face) sizes) → slot ≡ slotCount (take (x .face) sizes) → From ps ns ts base x → HeldSpace (x .tangent) → Held rows sizes ps ns ts ys d w → Held rows sizes ps ns ts (ys ++ (x ∷ [])) d (stored rows t base slot x w)
+held-more rows sizes ps ns ts ys d t base slot x w e room long eb es F H S v h = ⊎-elim last earlier (eq-or-lt-of-le cut)
+  where
+    U : List ℕ
+    U = stored rows t base slot x w
+
+    cut : v ≤ t
+    cut = omega (arith, length-append ys (x ∷ []))
+
+    last : v ≡ t → Stored rows sizes ps ns ts U v (getD (ys ++ (x ∷ [])) v d)
+    last q = subst (λ (y : Triangle). Stored rows sizes ps ns ts U v y) (sym (getD-at ys x [] d v (e ∙ sym q))) (subst (λ (n : ℕ). Stored rows sizes ps ns ts U n x) (sym q) (here rows t base slot x w room long sizes ps ns ts eb es F H))
+
+    earlier : v < t → Stored rows sizes ps ns ts U v (getD (ys ++ (x ∷ [])) v d)
+    earlier q =
+        let b : v < length ys = omega arith in
+        subst (λ (y : Triangle). Stored rows sizes ps ns ts U v y) (sym (List·getD-append ys (x ∷ []) d v b)) (stored-kept rows t base slot x w room v q sizes ps ns ts (getD ys v d) (S v b))
+
+-- ---- triangles added
+
+pub pick-yes : (want : Bool) (x : Triangle) → Bool·beq (x .degenerate) want ≡ true → pick want (x ∷ []) ≡ x ∷ []
+unfolding pick keep
+pick-yes want x e = ap (λ (b : Bool). cond b (x ∷ []) []) e
+
+pub pick-no : (want : Bool) (x : Triangle) → Bool·beq (x .degenerate) want ≡ false → pick want (x ∷ []) ≡ []
+unfolding pick keep
+pick-no want x e = ap (λ (b : Bool). cond b (x ∷ []) []) e
+
+module _ (rows : ℕ) (sizes : List ℕ) (ps ns ts : List Float) where
+  pub added-none : (tris : ℕ) (w : List ℕ) → Added rows sizes ps ns ts [] tris tris w w
+  added-none tris w = record {
+    count = omega arith;
+    only = only-none recordColumns rows w;
+    held = λ ys d e H. subst (λ (l : List Triangle). Held rows sizes ps ns ts l d w) (sym (append-nil ys)) H;
+  }
+
+  pub added-trans : (xs ys : List Triangle) (tris r s : ℕ) (w u v : List ℕ) → Added rows sizes ps ns ts xs tris r w u → Added rows sizes ps ns ts ys r s u v → Added rows sizes ps ns ts (xs ++ ys) tris s w v
+  added-trans xs ys tris r s w u v A B = record {
+    count = let a = A .count in let b = B .count in let c = length-append xs ys in omega arith;
+    only = only-trans recordColumns rows w u v (A .only) (B .only);
+    held = λ zs d e H.
+        subst (λ (l : List Triangle). Held rows sizes ps ns ts l d v) (append-assoc zs xs ys)
+        (B .held (zs ++ xs) d (length-append zs xs ∙ ap (λ (n : ℕ). n + length xs) e ∙ sym (A .count)) (A .held zs d e H));
+  }
+
+  -- the triangle is asked for, and stored
+  pub add-yes : (want : Bool) (tris base slot : ℕ) (x : Triangle) (w u : List ℕ) → Bool·beq (x .degenerate) want ≡ true → u ≡ stored rows tris base slot x w → HeldSpace (x .tangent) → 3 * tris + 3 ≤ rows → columns * rows ≤ length w → base ≡ cornerCount (take (x .face) sizes) → slot ≡ slotCount (take (x .face) sizes) → From ps ns ts base x → Added rows sizes ps ns ts (pick want (x ∷ [])) tris (tris + 1) w u
+  add-yes want tris base slot x w u asked is H room long eb es F =
+      subst (λ (l : List Triangle). Added rows sizes ps ns ts l tris (tris + 1) w u) (sym (pick-yes want x asked))
+      (record {
+        count = omega arith;
+        only = subst (Only recordColumns rows w) (sym is) (only-stored rows tris base slot x w room);
+        held = λ ys d e S. subst (Held rows sizes ps ns ts (ys ++ (x ∷ [])) d) (sym is) (held-more rows sizes ps ns ts ys d tris base slot x w e room long eb es F H S);
+      })
+
+  -- it isn't
+  pub add-no : (want : Bool) (tris : ℕ) (x : Triangle) (w : List ℕ) → Bool·beq (x .degenerate) want ≡ false → Added rows sizes ps ns ts (pick want (x ∷ [])) tris tris w w
+  add-no want tris x w other = subst (λ (l : List Triangle). Added rows sizes ps ns ts l tris tris w w) (sym (pick-no want x other)) (added-none tris w)
+
+-- ---- the stores of the code
+
+pub three-is : (w : List ℕ) (at x y z : ℕ) → set (set (set w at x) (at + 1) y) (at + 2) z ≡ sets w at (x ∷ y ∷ z ∷ [])
+three-is w at x y z = λ k. set (set (set w at x) (p k) y) (q k) z
+  where
+    p : at + 1 ≡ suc at
+    p = omega arith
+
+    q : at + 2 ≡ suc (suc at)
+    q = omega arith

@@ -1,0 +1,4 @@
+mod Laws
+mod Faces
+mod Passes
+mod Whole

@@ -1,0 +1,328 @@
+// The triangles of all faces in columns of the work list: sound ones first, then degenerate ones, each in slot order (steps 1 to 3, and the order of step 4).
+// Carried over from mikktspace.rs (generate_triangle_info_list, degen_prologue) of the Rust crate bevy_mikktspace and ALTERED: written anew in Rattle. See NOTICE.
+ghost use mathlib.Core.Path.{_≡_};
+ghost use mathlib.Core.List.{List, [], _∷_};
+ghost use Prim.Native.Nat.{ℕ, _+_, _*_, _<_, _≤_};
+ghost use lib.ListN.{length, take};
+ghost use lib.Seq.{sets};
+ghost use lib.Ieee.{Float};
+ghost use Rattle.bits.specs.Word.{word};
+ghost use Rattle.math.specs.Held.{HeldVec};
+ghost use Rattle.tangent.specs.Slot.{flag};
+ghost use Rattle.tangent.specs.Held.{HeldSpace};
+ghost use Rattle.definition.specs.Handed.{cornersFrom, meshFrom, slotsOf};
+ghost use Rattle.definition.specs.Limits.{faceLimit};
+ghost use Rattle.definition.specs.Triangles.{pieces, triangles};
+ghost use Rattle.definition.specs.Frames.{numbered};
+ghost use Rattle.table.specs.Columns.{columns, rowsOf, sColumn, tColumn, magnitudeColumn};
+ghost use Rattle.table.specs.Table.{put};
+ghost use Rattle.view.specs.Records.{numbers, names, threeOf, lengths};
+ghost use Rattle.listing.specs.Listing as spec;
+use definition::Kept;
+use definition::Triangle;
+use math::Vec3;
+use tangent::RawTangentSpace;
+
+// ---- one triangle's words
+
+// 1 for true, and 0 else.
+fn word_of(b: bool) -> u32
+    ensures { λ r. ⌜ r ≡ flag b ⌝ }
+{
+    if b { 1 } else { 0 }
+}
+
+// Three words from a place on.
+fn put_three(work: &mut [u32], at: usize, x: u32, y: u32, z: u32)
+    requires { ⌜ at + 3 ≤ length (now work) ⌝ }
+    ensures { λ _. ⌜ now (work .exit) ≡ sets (now (work .entry)) at (x ∷ y ∷ z ∷ []) ⌝ }
+{
+    work[at] = x;
+    work[at + 1] = y;
+    work[at + 2] = z;
+}
+
+// The numbers of a triangle's corners, or of their slots, where those of its face start at number base.
+fn put_numbers(work: &mut [u32], at: usize, base: u32, x: Triangle)
+    requires { ⌜ (at + 3 ≤ length (now work)) × spec.Small base x ⌝ }
+    ensures { λ _. ⌜ now (work .exit) ≡ sets (now (work .entry)) at (numbers base x) ⌝ }
+{
+    let a = x.a;
+    let b = x.b;
+    let c = x.c;
+    put_three(work, at, base + a.which, base + b.which, base + c.which);
+}
+
+// Its face, whether it is the second of it, the corner it misses.
+fn put_names(work: &mut [u32], at: usize, x: Triangle)
+    requires { ⌜ at + 3 ≤ length (now work) ⌝ }
+    ensures { λ _. ⌜ now (work .exit) ≡ sets (now (work .entry)) at (names x) ⌝ }
+{
+    let second = word_of(x.second);
+    put_three(work, at, x.face, second, x.missing);
+}
+
+// A vector's three numbers.
+fn put_vec(work: &mut [u32], at: usize, v: Vec3)
+    requires { ⌜ at + 3 ≤ length (now work) ⌝ }
+    ensures { λ _. ⌜ (now (work .exit) ≡ sets (now (work .entry)) at (threeOf v)) × HeldVec v ⌝ }
+{
+    let x = bits::word(v.x);
+    let y = bits::word(v.y);
+    let z = bits::word(v.z);
+    put_three(work, at, x, y, z);
+}
+
+// The two magnitudes, and whether the quad is marked.
+fn put_lengths(work: &mut [u32], at: usize, g: RawTangentSpace, m: bool)
+    requires { ⌜ at + 3 ≤ length (now work) ⌝ }
+    ensures { λ _. ⌜ (now (work .exit) ≡ sets (now (work .entry)) at (lengths g m)) × spec.Fits (g .«s_magnitude») × spec.Fits (g .«t_magnitude») ⌝ }
+{
+    let x = bits::word(g.s_magnitude);
+    let y = bits::word(g.t_magnitude);
+    let z = word_of(m);
+    put_three(work, at, x, y, z);
+}
+
+// The tangent in its three columns.
+fn put_tangent(work: &mut [u32], rows: usize, t: usize, g: RawTangentSpace, m: bool)
+    requires { ⌜ (3 * t + 3 ≤ rows) × (columns * rows ≤ length (now work)) ⌝ }
+    ensures { λ _. ⌜ (now (work .exit) ≡ spec.storing rows (spec.tangentEntries t g m) (now (work .entry))) × HeldSpace g ⌝ }
+{
+    let s = g.s;
+    let v = g.t;
+    put_vec(work, table::TANGENT_S * rows + 3 * t, s);
+    put_vec(work, table::TANGENT_T * rows + 3 * t, v);
+    put_lengths(work, table::MAGNITUDE * rows + 3 * t, g, m);
+}
+
+// The names and numbers in their three columns.
+fn put_places(work: &mut [u32], rows: usize, t: usize, base: u32, slot: u32, x: Triangle)
+    requires { ⌜ (3 * t + 3 ≤ rows) × (columns * rows ≤ length (now work)) × spec.Small base x × spec.Small slot x ⌝ }
+    ensures { λ _. ⌜ now (work .exit) ≡ spec.storing rows (spec.placeEntries t base slot x) (now (work .entry)) ⌝ }
+{
+    put_numbers(work, table::CORNER * rows + 3 * t, base, x);
+    put_numbers(work, table::SLOT * rows + 3 * t, slot, x);
+    put_names(work, table::NAME * rows + 3 * t, x);
+}
+
+// The orientation and `group_with_any`, at the triangle's own row.
+fn put_flags(work: &mut [u32], rows: usize, t: usize, way: bool, any: bool)
+    requires { ⌜ (3 * t + 3 ≤ rows) × (columns * rows ≤ length (now work)) ⌝ }
+    ensures { λ _. ⌜ now (work .exit) ≡ spec.storing rows (spec.flagEntries t way any) (now (work .entry)) ⌝ }
+{
+    let a = word_of(way);
+    let f = word_of(any);
+    work[table::ORIENTATION * rows + t] = a;
+    work[table::ANY * rows + t] = f;
+}
+
+// A triangle, whole.
+fn store(work: &mut [u32], rows: usize, t: usize, base: u32, slot: u32, x: Triangle)
+    requires { ⌜ (3 * t + 3 ≤ rows) × (columns * rows ≤ length (now work)) × spec.Small base x × spec.Small slot x ⌝ }
+    ensures { λ _. ⌜ (now (work .exit) ≡ spec.stored rows t base slot x (now (work .entry))) × HeldSpace (x .tangent) ⌝ }
+{
+    let g = x.tangent;
+    put_places(work, rows, t, base, slot, x);
+    put_tangent(work, rows, t, g, x.marked);
+    put_flags(work, rows, t, x.orientation, x.any);
+}
+
+// ---- the triangles of a face
+
+// A triangle that this pass asks for is added after the others.
+fn add_one(
+    work: &mut [u32],
+    rows: usize,
+    tris: usize,
+    want: bool,
+    base: u32,
+    slot: u32,
+    x: Triangle,
+) -> usize
+    requires { ⌜ (3 * (tris + length (spec.pick want (x ∷ []))) ≤ rows) × (columns * rows ≤ length (now work)) × spec.Small base x × spec.Small slot x ⌝ }
+    ensures { λ r. ⌜ (r ≡ tris + length (spec.pick want (x ∷ []))) × spec.One rows want tris r base slot x (now (work .entry)) (now (work .exit)) ⌝ }
+{
+    if x.degenerate == want {
+        store(work, rows, tris, base, slot, x);
+        return tris + 1;
+    }
+    tris
+}
+
+// The triangle of a face of three.
+fn add_three(
+    work: &mut [u32],
+    rows: usize,
+    positions: &[f32],
+    normals: &[f32],
+    texture: &[f32],
+    want: bool,
+    face: u32,
+    base: u32,
+    slot: u32,
+    tris: usize,
+) -> usize
+    requires { ⌜ (base + 3 < 4294967296) × (slot + 3 < 4294967296) × (columns * rows ≤ length (now work)) × (3 * (tris + length (spec.pick want (pieces face (cornersFrom (now positions) (now normals) (now texture) base 3)))) ≤ rows) ⌝ }
+    ensures { λ r. ⌜ spec.Done rows want (now (positions .entry)) (now (normals .entry)) (now (texture .entry)) face base slot (pieces face (cornersFrom (now (positions .entry)) (now (normals .entry)) (now (texture .entry)) base 3)) tris r (now (work .entry)) (now (work .exit)) ⌝ }
+{
+    let k0 = Kept {
+        which: 0,
+        corner: mesh::corner_at(positions, normals, texture, base),
+    };
+    let k1 = Kept {
+        which: 1,
+        corner: mesh::corner_at(positions, normals, texture, base + 1),
+    };
+    let k2 = Kept {
+        which: 2,
+        corner: mesh::corner_at(positions, normals, texture, base + 2),
+    };
+    let x = triangles::make(face, false, 3, k0, k1, k2);
+    add_one(work, rows, tris, want, base, slot, x)
+}
+
+// The two triangles of a face of four.
+fn add_four(
+    work: &mut [u32],
+    rows: usize,
+    positions: &[f32],
+    normals: &[f32],
+    texture: &[f32],
+    want: bool,
+    face: u32,
+    base: u32,
+    slot: u32,
+    tris: usize,
+) -> usize
+    requires { ⌜ (base + 3 < 4294967296) × (slot + 3 < 4294967296) × (columns * rows ≤ length (now work)) × (3 * (tris + length (spec.pick want (pieces face (cornersFrom (now positions) (now normals) (now texture) base 4)))) ≤ rows) ⌝ }
+    ensures { λ r. ⌜ spec.Done rows want (now (positions .entry)) (now (normals .entry)) (now (texture .entry)) face base slot (pieces face (cornersFrom (now (positions .entry)) (now (normals .entry)) (now (texture .entry)) base 4)) tris r (now (work .entry)) (now (work .exit)) ⌝ }
+{
+    let c0 = mesh::corner_at(positions, normals, texture, base);
+    let c1 = mesh::corner_at(positions, normals, texture, base + 1);
+    let c2 = mesh::corner_at(positions, normals, texture, base + 2);
+    let c3 = mesh::corner_at(positions, normals, texture, base + 3);
+    let q = triangles::quad(face, c0, c1, c2, c3);
+    let x = q.first;
+    let y = q.second;
+    let k = add_one(work, rows, tris, want, base, slot, x);
+    add_one(work, rows, k, want, base, slot, y)
+}
+
+// Those of a face of any size: a face of another size has none.
+fn add_face(
+    work: &mut [u32],
+    rows: usize,
+    positions: &[f32],
+    normals: &[f32],
+    texture: &[f32],
+    want: bool,
+    face: u32,
+    size: u8,
+    base: u32,
+    slot: u32,
+    tris: usize,
+) -> usize
+    requires { ⌜ (base + 3 < 4294967296) × (slot + 3 < 4294967296) × (columns * rows ≤ length (now work)) × (3 * (tris + length (spec.pick want (pieces face (cornersFrom (now positions) (now normals) (now texture) base size)))) ≤ rows) ⌝ }
+    ensures { λ r. ⌜ spec.Done rows want (now (positions .entry)) (now (normals .entry)) (now (texture .entry)) face base slot (pieces face (cornersFrom (now (positions .entry)) (now (normals .entry)) (now (texture .entry)) base size)) tris r (now (work .entry)) (now (work .exit)) ⌝ }
+{
+    if size == 3 {
+        return add_three(
+            work,
+            rows,
+            positions,
+            normals,
+            texture,
+            want,
+            face,
+            base,
+            slot,
+            tris,
+        );
+    }
+    if size == 4 {
+        return add_four(
+            work,
+            rows,
+            positions,
+            normals,
+            texture,
+            want,
+            face,
+            base,
+            slot,
+            tris,
+        );
+    }
+    tris
+}
+
+// ---- the triangles of all faces
+
+// A size as a number of corners.
+fn corners_of(size: u8) -> u32
+    ensures { λ r. ⌜ (r ≡ size) × (r ≤ 255) ⌝ }
+{
+    size as u32
+}
+
+// One pass over the faces: the sound triangles, or the degenerate ones, after the first tris.
+fn pass(
+    work: &mut [u32],
+    rows: usize,
+    sizes: &[u8],
+    positions: &[f32],
+    normals: &[f32],
+    texture: &[f32],
+    want: bool,
+    tris: usize,
+) -> usize
+    requires { ⌜ (length (now sizes) ≤ faceLimit) × (columns * rows ≤ length (now work)) × (3 * (tris + length (spec.pick want (spec.restFrom (now positions) (now normals) (now texture) 0 0 (now sizes)))) ≤ rows) ⌝ }
+    ensures { λ r. ⌜ spec.Added rows (now (sizes .entry)) (now (positions .entry)) (now (normals .entry)) (now (texture .entry)) (spec.pick want (spec.restFrom (now (positions .entry)) (now (normals .entry)) (now (texture .entry)) 0 0 (now (sizes .entry)))) tris r (now (work .entry)) (now (work .exit)) ⌝ }
+{
+    let mut base: u32 = 0;
+    let mut slot: u32 = 0;
+    let mut k = tris;
+    for f in 0..sizes.len() {
+        let size = sizes[f];
+        k = add_face(
+            work,
+            rows,
+            positions,
+            normals,
+            texture,
+            want,
+            f as u32,
+            size,
+            base,
+            slot,
+            k,
+        );
+        base += corners_of(size);
+        slot += mesh::slots_of(size) as u32;
+    }
+    k
+}
+
+// How many triangles are sound, and how many there are.
+pub struct Counts {
+    pub sound: usize,
+    pub all: usize,
+}
+
+// Steps 1 to 3, and the order of step 4.
+pub fn list_triangles(
+    work: &mut [u32],
+    sizes: &[u8],
+    positions: &[f32],
+    normals: &[f32],
+    texture: &[f32],
+) -> Counts
+    requires { ⌜ (length (now sizes) ≤ faceLimit) × (columns * rowsOf (length (now sizes)) ≤ length (now work)) ⌝ }
+    ensures { λ r. ⌜ spec.Listed (now (sizes .entry)) (now (positions .entry)) (now (normals .entry)) (now (texture .entry)) (triangles (numbered 0 (meshFrom (now (positions .entry)) (now (normals .entry)) (now (texture .entry)) 0 (now (sizes .entry))))) (r .sound) (r .all) (now (work .entry)) (now (work .exit)) ⌝ }
+{
+    let rows = 6 * sizes.len();
+    let sound = pass(work, rows, sizes, positions, normals, texture, false, 0);
+    let all = pass(work, rows, sizes, positions, normals, texture, true, sound);
+    Counts { sound, all }
+}
