@@ -72,3 +72,11 @@ orderColumn = 17
 -- what the sort works in
 abbrev pub spareColumn : ℕ
 spareColumn = 18
+
+-- the welding's buckets: the last corner put into each, its row and one, or 0
+abbrev pub headColumn : ℕ
+headColumn = 19
+
+-- the corner that was put into the same bucket before it, its row and one, or 0
+abbrev pub nextColumn : ℕ
+nextColumn = 20

@@ -50,3 +50,9 @@ pub const ORDER: usize = 17;
 
 // What the sort works in.
 pub const SPARE: usize = 18;
+
+// The welding's buckets: the last corner put into each, its row and one, or 0.
+pub const HEAD: usize = 19;
+
+// The corner that was put into the same bucket before it, its row and one, or 0.
+pub const NEXT: usize = 20;
