@@ -14,7 +14,7 @@ use Rattle.definition.specs.Mesh.{Third, one, two, three, Spot, cornerOf}
 use Rattle.definition.specs.Step4Order.{welded, sound, spots}
 use Rattle.definition.specs.Step5Links.{endOf, opposite, links, beyond}
 use Rattle.definition.specs.Step5Sorted.{numberOf, vertexOf, Side, sideOf, sidesFrom, sides, mayPrecede, setIn, sortedBy, sortedSides, sortedLinks, alike}
-use Rattle.laws.proofs.Part.{Every, every-nil, every-cons, every-map}
+use Rattle.laws.proofs.Part.{Every, every-nil, every-cons, every-map, keep-map}
 use Rattle.laws.proofs.Closed.{and-left, and-right}
 use Rattle.laws.proofs.Weld.{weld-one}
 use Rattle.laws.proofs.Shuffled.{every-mem}
@@ -35,15 +35,6 @@ every-cond false r s = s
 every-mapped : {X Y : Type 0} (P : Y → Type 0) (f : X → Y) {l : List X} → Every (λ x. P (f x)) l → Every P (map f l)
 every-mapped P f every-nil = every-nil
 every-mapped P f (every-cons h r) = every-cons h (every-mapped P f r)
-
-keep-map : {X Y : Type 0} (f : X → Y) (q : Y → Bool) (l : List X) → keep q (map f l) ≡ map f (keep (λ x. q (f x)) l)
-unfolding keep
-keep-map f q [] = refl
-keep-map f q (x ∷ l) = rw (keep-map f q l) (go (q (f x)))
-  where
-    go : (b : Bool) → cond b (f x ∷ map f (keep (λ x. q (f x)) l)) (map f (keep (λ x. q (f x)) l)) ≡ map f (cond b (x ∷ keep (λ x. q (f x)) l) (keep (λ x. q (f x)) l))
-    go true = refl
-    go false = refl
 
 module _ {X : Type 0} (p : X → X → Bool) where
   every-set : {P : X → Type 0} (x : X) {l : List X} → P x → Every P l → Every P (setIn p x l)
@@ -228,7 +219,7 @@ module _ (ts : List Triangle) where
     pub sorted-bucket : keep (sameEnds s) (map (λ x. x .spot) (sortedSides ts)) ≡ keep (sameEnds s) (spots (sound ts))
     unfolding sortedSides sides
     sorted-bucket =
-        keep-map (λ x. x .spot) (sameEnds s) (sortedBy mayPrecede (sides ts)) ∙ (ap (map (λ x. x .spot)) (keep-sorted mayPrecede ofEnds (rising 0 (sound ts))) ∙ (sym (keep-map (λ x. x .spot) (sameEnds s) (sides ts)) ∙ ap (keep (sameEnds s)) (sides-spots 0 (sound ts))))
+        keep-map (sameEnds s) (λ x. x .spot) (sortedBy mayPrecede (sides ts)) ∙ (ap (map (λ x. x .spot)) (keep-sorted mayPrecede ofEnds (rising 0 (sound ts))) ∙ (sym (keep-map (sameEnds s) (λ x. x .spot) (sides ts)) ∙ ap (keep (sameEnds s)) (sides-spots 0 (sound ts))))
 
   -- sorting keeps membership
   sorted-inside : Every (λ s. List·Memᴰ s (spots (sound ts))) (map (λ x. x .spot) (sortedSides ts))

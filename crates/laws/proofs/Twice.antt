@@ -19,7 +19,7 @@ use Rattle.definition.specs.Step5Links.{links}
 use Rattle.definition.specs.Step6Groups.{Mark, marks}
 use Rattle.definition.specs.Step7Sums.{Brought, bring, broughtAll}
 use Rattle.definition.specs.Frames.{numbered}
-use Rattle.laws.proofs.Part.{Every, every-nil, every-cons, every-append, every-map, every-keep}
+use Rattle.laws.proofs.Part.{Every, every-nil, every-cons, every-append, every-map, every-keep, keep-map}
 use Rattle.laws.proofs.Closed.{and-left, and-right, Whole}
 use Rattle.laws.proofs.Mutual.{Names, spots-apart, apart-inj, every-at}
 use Rattle.laws.proofs.Laws.{Once, once-nil, once-cons, at-most-one, marks-inv, beq-refl}
@@ -99,15 +99,6 @@ once-keep p (once-cons {m} {ms} h r) = go (p m) (every-keep p h) (once-keep p r)
     go : (b : Bool) → Every (λ k. sameSpot (m .spot) (k .spot) ≡ false) (keep p ms) → Once (keep p ms) → Once (cond b (m ∷ keep p ms) (keep p ms))
     go true g s = once-cons g s
     go false g s = s
-
-keep-map : {X Y : Type 0} (p : Y → Bool) (g : X → Y) (l : List X) → keep p (map g l) ≡ map g (keep (λ x. p (g x)) l)
-unfolding keep
-keep-map p g [] = refl
-keep-map p g (x ∷ l) = go (p (g x)) (keep-map p g l)
-  where
-    go : (b : Bool) → keep p (map g l) ≡ map g (keep (λ x. p (g x)) l) → cond b (g x ∷ keep p (map g l)) (keep p (map g l)) ≡ map g (cond b (x ∷ keep (λ x. p (g x)) l) (keep (λ x. p (g x)) l))
-    go true e = ap (λ r. g x ∷ r) e
-    go false e = e
 
 spots-plain : {ts : List Triangle} → Every Plain ts → Every (λ x. Plain (x .tri)) (spots ts)
 unfolding spots

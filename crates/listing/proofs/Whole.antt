@@ -15,13 +15,10 @@ use Rattle.definition.specs.Step1Cut.{cut02}
 use Rattle.definition.specs.Triangles.{pair, quad, pieces, triangles}
 use Rattle.definition.specs.Step4Order.{isSound, sound, broken}
 use Rattle.definition.specs.Frames.{numbered}
+use Rattle.laws.proofs.Part.{keep-same}
+use Rattle.laws.proofs.Shuffled.{every-mem}
 use Rattle.listing.specs.Listing.{Added, Listed, pick, restFrom}
 use Rattle.listing.proofs.Laws.{added-trans}
-
-keep-same : (p q : Triangle → Bool) → ((x : Triangle) → p x ≡ q x) → (l : List Triangle) → keep p l ≡ keep q l
-unfolding keep
-keep-same p q e [] = refl
-keep-same p q e (x ∷ l) = let r = keep-same p q e l in λ k. cond (e x k) (x ∷ r k) (r k)
 
 beq-false : (b : Bool) → Bool·beq b false ≡ not b
 beq-false true = refl
@@ -33,11 +30,11 @@ beq-true false = refl
 
 pub pick-sound : (xs : List Triangle) → pick false xs ≡ sound xs
 unfolding pick sound isSound
-pick-sound xs = keep-same _ _ (λ x. beq-false (x .degenerate)) xs
+pick-sound xs = keep-same _ _ (every-mem _ xs (λ x m. beq-false (x .degenerate)))
 
 pub pick-broken : (xs : List Triangle) → pick true xs ≡ broken xs
 unfolding pick broken
-pick-broken xs = keep-same _ _ (λ x. beq-true (x .degenerate)) xs
+pick-broken xs = keep-same _ _ (every-mem _ xs (λ x m. beq-true (x .degenerate)))
 
 split-length : (xs : List Triangle) → length (pick false xs) + length (pick true xs) ≡ length xs
 unfolding pick keep

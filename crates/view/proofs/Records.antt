@@ -15,10 +15,10 @@ use Rattle.table.proofs.Laws.{getD-column}
 use Rattle.definition.specs.declared.Triangle.{Triangle}
 use Rattle.definition.specs.Mesh.{Third, one, two, three, kept, cornerOf}
 use Rattle.definition.specs.Handed.{cornerAt, cornerCount, slotCount}
-use Rattle.view.specs.Frame.{outside, Only}
+use Rattle.view.specs.Frame.{outside, Only, disjoint}
 use Rattle.view.specs.Rows.{num, row, spotAt}
 use Rattle.view.specs.Records.{part, numbers, Stored, Held, recordColumns}
-use Rattle.view.proofs.Frame.{cell-kept}
+use Rattle.view.proofs.Frame.{apart, cell-kept}
 
 -- a word of the three
 pub part-cell : (rows k t j : ℕ) (w : List ℕ) → j < 3 → 3 * t + 3 ≤ rows → cell rows k (3 * t + j) w ≡ getD (part rows k t w) j 0
@@ -52,9 +52,9 @@ module _ (rows : ℕ) (sizes : List ℕ) (ps ns ts : List Float) (xs : List Tria
   any-is t h = ap (λ (k : ℕ). eqb k 0) (H t h .loose) ∙ flag-zero (getD xs t d .any)
 
   -- stores in other columns leave the triangles
-  pub held-kept : 3 * length xs ≤ rows → (ks : List ℕ) (u : List ℕ) → ((k : ℕ) → outside recordColumns k ≡ false → outside ks k ≡ true) → Only ks rows w u → Held rows sizes ps ns ts xs d u
+  pub held-kept : 3 * length xs ≤ rows → (ks : List ℕ) (u : List ℕ) → disjoint recordColumns ks ≡ true → Only ks rows w u → Held rows sizes ps ns ts xs d u
   unfolding part
-  held-kept fits ks u apart O t h =
+  held-kept fits ks u c O t h =
       let S = H t h in
       record {
         corner = same cornerColumn refl ∙ S .corner;
@@ -63,11 +63,11 @@ module _ (rows : ℕ) (sizes : List ℕ) (ps ns ts : List Float) (xs : List Tria
         along = same _ refl ∙ S .along;
         up = same _ refl ∙ S .up;
         long = same _ refl ∙ S .long;
-        way = cell-kept ks rows w u O orientationColumn t (apart orientationColumn refl) (omega arith) ∙ S .way;
-        loose = cell-kept ks rows w u O anyColumn t (apart anyColumn refl) (omega arith) ∙ S .loose;
+        way = cell-kept ks rows w u O orientationColumn t (apart recordColumns ks c orientationColumn refl) (omega arith) ∙ S .way;
+        loose = cell-kept ks rows w u O anyColumn t (apart recordColumns ks c anyColumn refl) (omega arith) ∙ S .loose;
         from = S .from;
         held = S .held;
       }
     where
       same : (k : ℕ) → outside recordColumns k ≡ false → take 3 (drop (3 * t) (column rows k u)) ≡ take 3 (drop (3 * t) (column rows k w))
-      same k e = ap (λ (l : List ℕ). take 3 (drop (3 * t) l)) (O .others k (apart k e))
+      same k e = ap (λ (l : List ℕ). take 3 (drop (3 * t) l)) (O .others k (apart recordColumns ks c k e))

@@ -1,0 +1,10 @@
+pub mod Words
+pub mod Seek
+pub mod Likes
+pub mod Joined
+pub mod Turns
+pub mod Linking
+pub mod Mates
+pub mod Order
+pub mod Sided
+pub mod Whole

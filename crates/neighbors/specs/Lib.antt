@@ -1,0 +1,3 @@
+pub mod Links
+pub mod Cursors
+pub mod Sides
