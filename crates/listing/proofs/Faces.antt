@@ -117,9 +117,9 @@ module _ (ps ns ts : List Float) (f base : ℕ) where
   pieces-other (suc (suc (suc (suc (suc n))))) a b = refl
 
   -- the triangle that code makes of a face of three
-  pub three-x : (x : Triangle) (e0 e1 e2 : Corner) (n : ℕ) → x ≡ make f false 3 (nook 0 e0) (nook 1 e1) (nook 2 e2) → e0 ≡ c0 → e1 ≡ C 1 → e2 ≡ C 2 → n ≡ 3 → (_≡_ {A = List Triangle} (x ∷ []) (pieces f (cornersFrom ps ns ts base n))) × Fine ps ns ts f base x
-  three-x x e0 e1 e2 n e p q r h =
-      let is : x ≡ one-of = e ∙ (λ k. make f false 3 (nook 0 (p k)) (nook 1 (q k)) (nook 2 (r k))) in
+  pub three-x : (x : Triangle) (k0 k1 k2 : Kept) (n : ℕ) → x ≡ make f false 3 k0 k1 k2 → k0 ≡ nook 0 (C 0) → k1 ≡ nook 1 (C 1) → k2 ≡ nook 2 (C 2) → n ≡ 3 → (_≡_ {A = List Triangle} (x ∷ []) (pieces f (cornersFrom ps ns ts base n))) × Fine ps ns ts f base x
+  three-x x k0 k1 k2 n e p q r h =
+      let is : x ≡ one-of = e ∙ (λ k. make f false 3 ((p ∙ sym first-is) k) (q k) (r k)) in
       (ap (λ (y : Triangle). y ∷ []) is ∙ sym pieces-three ∙ ap (λ (m : ℕ). pieces f (cornersFrom ps ns ts base m)) (sym h), subst (Fine ps ns ts f base) (sym is) one-fine)
 
   -- and the two of a face of four
@@ -170,10 +170,3 @@ module _ (rows : ℕ) (want : Bool) (ps ns ts : List Float) (f base slot : ℕ) 
 
   pub room-one : (x : Triangle) (l : List Triangle) (tris : ℕ) → (x ∷ []) ≡ l → 3 * (tris + length (pick want l)) ≤ rows → 3 * (tris + length (pick want (x ∷ []))) ≤ rows
   room-one x l tris is h = subst (λ (k : List Triangle). 3 * (tris + length (pick want k)) ≤ rows) (sym is) h
-
-  -- the same for a size that was tested, and the room for it
-  pub sized-done : (n m tris r : ℕ) (w u : List ℕ) → n ≡ m → Done rows want ps ns ts f base slot (pieces f (cornersFrom ps ns ts base m)) tris r w u → Done rows want ps ns ts f base slot (pieces f (cornersFrom ps ns ts base n)) tris r w u
-  sized-done n m tris r w u e D = subst (λ (k : ℕ). Done rows want ps ns ts f base slot (pieces f (cornersFrom ps ns ts base k)) tris r w u) (sym e) D
-
-  pub sized-room : (n m tris : ℕ) → n ≡ m → 3 * (tris + length (pick want (pieces f (cornersFrom ps ns ts base n)))) ≤ rows → 3 * (tris + length (pick want (pieces f (cornersFrom ps ns ts base m)))) ≤ rows
-  sized-room n m tris e h = subst (λ (k : ℕ). 3 * (tris + length (pick want (pieces f (cornersFrom ps ns ts base k)))) ≤ rows) e h

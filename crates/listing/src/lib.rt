@@ -10,9 +10,9 @@ ghost use Rattle.bits.specs.Word.{word};
 ghost use Rattle.math.specs.Held.{HeldVec};
 ghost use Rattle.tangent.specs.Slot.{flag};
 ghost use Rattle.tangent.specs.Held.{HeldSpace};
-ghost use Rattle.definition.specs.Handed.{cornersFrom, meshFrom, slotsOf};
+ghost use Rattle.definition.specs.Handed.{cornerAt, cornersFrom, meshFrom};
 ghost use Rattle.definition.specs.Limits.{faceLimit};
-ghost use Rattle.definition.specs.Triangles.{pieces, triangles};
+ghost use Rattle.definition.specs.Triangles.{nook, pieces, triangles};
 ghost use Rattle.definition.specs.Frames.{numbered};
 ghost use Rattle.table.specs.Columns.{columns, rowsOf, sColumn, tColumn, magnitudeColumn};
 ghost use Rattle.table.specs.Table.{put};
@@ -150,66 +150,16 @@ fn add_one(
     tris
 }
 
-// The triangle of a face of three.
-fn add_three(
-    work: &mut [u32],
-    rows: usize,
-    positions: &[f32],
-    normals: &[f32],
-    texture: &[f32],
-    want: bool,
-    face: u32,
-    base: u32,
-    slot: u32,
-    tris: usize,
-) -> usize
-    requires { ⌜ (base + 3 < 4294967296) × (slot + 3 < 4294967296) × (columns * rows ≤ length (now work)) × (3 * (tris + length (spec.pick want (pieces face (cornersFrom (now positions) (now normals) (now texture) base 3)))) ≤ rows) ⌝ }
-    ensures { λ r. ⌜ spec.Done rows want (now (positions .entry)) (now (normals .entry)) (now (texture .entry)) face base slot (pieces face (cornersFrom (now (positions .entry)) (now (normals .entry)) (now (texture .entry)) base 3)) tris r (now (work .entry)) (now (work .exit)) ⌝ }
+// Corner number which of the face whose corners start at number base.
+fn kept_at(positions: &[f32], normals: &[f32], texture: &[f32], base: u32, which: u32) -> Kept
+    requires { ⌜ base + which < 4294967296 ⌝ }
+    ensures { λ r. ⌜ r ≡ nook which (cornerAt (now (positions .entry)) (now (normals .entry)) (now (texture .entry)) (base + which)) ⌝ }
 {
-    let k0 = Kept {
-        which: 0,
-        corner: mesh::corner_at(positions, normals, texture, base),
-    };
-    let k1 = Kept {
-        which: 1,
-        corner: mesh::corner_at(positions, normals, texture, base + 1),
-    };
-    let k2 = Kept {
-        which: 2,
-        corner: mesh::corner_at(positions, normals, texture, base + 2),
-    };
-    let x = triangles::make(face, false, 3, k0, k1, k2);
-    add_one(work, rows, tris, want, base, slot, x)
+    let corner = mesh::corner_at(positions, normals, texture, base + which);
+    Kept { which, corner }
 }
 
-// The two triangles of a face of four.
-fn add_four(
-    work: &mut [u32],
-    rows: usize,
-    positions: &[f32],
-    normals: &[f32],
-    texture: &[f32],
-    want: bool,
-    face: u32,
-    base: u32,
-    slot: u32,
-    tris: usize,
-) -> usize
-    requires { ⌜ (base + 3 < 4294967296) × (slot + 3 < 4294967296) × (columns * rows ≤ length (now work)) × (3 * (tris + length (spec.pick want (pieces face (cornersFrom (now positions) (now normals) (now texture) base 4)))) ≤ rows) ⌝ }
-    ensures { λ r. ⌜ spec.Done rows want (now (positions .entry)) (now (normals .entry)) (now (texture .entry)) face base slot (pieces face (cornersFrom (now (positions .entry)) (now (normals .entry)) (now (texture .entry)) base 4)) tris r (now (work .entry)) (now (work .exit)) ⌝ }
-{
-    let c0 = mesh::corner_at(positions, normals, texture, base);
-    let c1 = mesh::corner_at(positions, normals, texture, base + 1);
-    let c2 = mesh::corner_at(positions, normals, texture, base + 2);
-    let c3 = mesh::corner_at(positions, normals, texture, base + 3);
-    let q = triangles::quad(face, c0, c1, c2, c3);
-    let x = q.first;
-    let y = q.second;
-    let k = add_one(work, rows, tris, want, base, slot, x);
-    add_one(work, rows, k, want, base, slot, y)
-}
-
-// Those of a face of any size: a face of another size has none.
+// The triangles of a face: one of a face of three, two of a face of four, none of any other.
 fn add_face(
     work: &mut [u32],
     rows: usize,
@@ -227,32 +177,22 @@ fn add_face(
     ensures { λ r. ⌜ spec.Done rows want (now (positions .entry)) (now (normals .entry)) (now (texture .entry)) face base slot (pieces face (cornersFrom (now (positions .entry)) (now (normals .entry)) (now (texture .entry)) base size)) tris r (now (work .entry)) (now (work .exit)) ⌝ }
 {
     if size == 3 {
-        return add_three(
-            work,
-            rows,
-            positions,
-            normals,
-            texture,
-            want,
-            face,
-            base,
-            slot,
-            tris,
-        );
+        let k0 = kept_at(positions, normals, texture, base, 0);
+        let k1 = kept_at(positions, normals, texture, base, 1);
+        let k2 = kept_at(positions, normals, texture, base, 2);
+        let x = triangles::make(face, false, 3, k0, k1, k2);
+        return add_one(work, rows, tris, want, base, slot, x);
     }
     if size == 4 {
-        return add_four(
-            work,
-            rows,
-            positions,
-            normals,
-            texture,
-            want,
-            face,
-            base,
-            slot,
-            tris,
-        );
+        let c0 = mesh::corner_at(positions, normals, texture, base);
+        let c1 = mesh::corner_at(positions, normals, texture, base + 1);
+        let c2 = mesh::corner_at(positions, normals, texture, base + 2);
+        let c3 = mesh::corner_at(positions, normals, texture, base + 3);
+        let q = triangles::quad(face, c0, c1, c2, c3);
+        let x = q.first;
+        let y = q.second;
+        let k = add_one(work, rows, tris, want, base, slot, x);
+        return add_one(work, rows, k, want, base, slot, y);
     }
     tris
 }

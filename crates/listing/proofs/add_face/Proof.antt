@@ -1,16 +1,61 @@
 -- Proof that `add_face` meets its contract. Assumes nothing.
+use native.Mathlib.Omega.{arith}
+use mathlib.Core.Path.{_≡_}
+use mathlib.Core.List.{List, [], _∷_}
 use denote.Ref.{now}
-use Rattle.listing.proofs.Faces.{none-done, pieces-other, sized-done, sized-room}
+use Rattle.definition.specs.declared.Triangle.{Triangle}
+use Rattle.definition.specs.Triangles.{pieces}
+use Rattle.definition.specs.Handed.{cornersFrom}
+use Rattle.listing.proofs.Faces.{Fine, small-of, three-x, four-x, one-done, two-done, none-done, room-one, room-two, pieces-other}
 use borrow.Author.Needs.{needs}
 use Rattle.listing.proofs.add_face.Statement.{statement}
 use Rattle.listing.proofs.add_face.Tie as tie
 
-add-three-requires : tie.Need-add-three-requires
-add-three-requires c κs =
-    let i = c .before in
-    let s = i .before .before .before .before .before in
+-- the triangle that was made of a face of three is the face's, and its corners are the lists'
+known : (c : tie.After-make) →
+    let a = c .before .before .before .before .before .before .before .before .before .args in
+    (_≡_ {A = List Triangle} (c .make .result ∷ []) (pieces (a .face) (cornersFrom (now (a .positions)) (now (a .normals)) (now (a .texture)) (a .base) (a .size)))) × Fine (now (a .positions)) (now (a .normals)) (now (a .texture)) (a .face) (a .base) (c .make .result)
+known c =
+    let k3 = c .before in
+    let k2 = k3 .before in
+    let k1 = k2 .before in
+    let i = k1 .before in
+    let a = i .before .before .before .before .before .args in
+    three-x (now (a .positions)) (now (a .normals)) (now (a .texture)) (a .face) (a .base) (c .make .result) _ _ _ (a .size) (c .make .ensures) (k1 .kept-at .ensures) (k2 .kept-at2 .ensures) (k3 .kept-at3 .ensures) (i .if1 .taken)
+
+-- and the two of a face of four
+known-four : (c : tie.After-quad) →
+    let a = c .before .before .before .before .before .before .before .before .before .before .before .args in
+    (_≡_ {A = List Triangle} (c .quad .result .first ∷ c .quad .result .second ∷ []) (pieces (a .face) (cornersFrom (now (a .positions)) (now (a .normals)) (now (a .texture)) (a .base) (a .size)))) × (Fine (now (a .positions)) (now (a .normals)) (now (a .texture)) (a .face) (a .base) (c .quad .result .first) × Fine (now (a .positions)) (now (a .normals)) (now (a .texture)) (a .face) (a .base) (c .quad .result .second))
+known-four c =
+    let k3 = c .before in
+    let k2 = k3 .before in
+    let k1 = k2 .before in
+    let k0 = k1 .before in
+    let j = k0 .before in
+    let a = j .before .before .before .before .before .before .args in
+    four-x (now (a .positions)) (now (a .normals)) (now (a .texture)) (a .face) (a .base) (c .quad .result .first) (c .quad .result .second) _ _ _ _ (a .size) (c .quad .ensures) (k0 .corner-at .ensures) (k1 .corner-at2 .ensures) (k2 .corner-at3 .ensures) (k3 .corner-at4 .ensures) (j .if2 .taken)
+
+kept-at-requires : tie.Need-kept-at-requires
+kept-at-requires c κs = search needs
+
+kept-at-requires-2 : tie.Need-kept-at-requires-2
+kept-at-requires-2 c κs = search needs
+
+kept-at-requires-3 : tie.Need-kept-at-requires-3
+kept-at-requires-3 c κs = search needs
+
+make-requires : tie.Need-make-requires
+make-requires c κs = search needs
+
+add-one-requires : tie.Need-add-one-requires
+add-one-requires c κs =
+    let m = c .before in
+    let s = m .before .before .before .before .before .before .before .before .before in
     let a = s .args in
-    (s .pre .0, s .pre .1, s .pre .2, sized-room (a .rows) (a .want) (now (a .positions)) (now (a .normals)) (now (a .texture)) (a .face) (a .base) (a .slot) (a .size) _ (a .tris) (i .if1 .taken) (s .pre .3))
+    let K = known m in
+    let small = small-of (now (a .positions)) (now (a .normals)) (now (a .texture)) (a .face) (a .base) (m .make .result) (K .1) in
+    (room-one (a .rows) (a .want) (now (a .positions)) (now (a .normals)) (now (a .texture)) (a .face) (a .base) (a .slot) _ _ (a .tris) (K .0) (s .pre .3), s .pre .2, small (a .base) (s .pre .0), small (a .slot) (s .pre .1))
 
 same-length : tie.Need-same-length
 same-length c = search needs
@@ -18,26 +63,67 @@ same-length c = search needs
 returns : tie.Need-returns
 returns c =
     let call = c .before .before in
-    let i = call .before .before in
-    let a = i .before .before .before .before .before .args in
-    sized-done (a .rows) (a .want) (now (a .positions)) (now (a .normals)) (now (a .texture)) (a .face) (a .base) (a .slot) (a .size) _ (a .tris) (call .add-three .result) (now (a .work)) _ (i .if1 .taken) (call .add-three .ensures)
+    let m = call .before .before in
+    let a = m .before .before .before .before .before .before .before .before .before .args in
+    let K = known m in
+    one-done (a .rows) (a .want) (now (a .positions)) (now (a .normals)) (now (a .texture)) (a .face) (a .base) (a .slot) (m .make .result) _ (a .tris) (call .add-one .result) (now (a .work)) _ (K .0) (K .1) (call .add-one .ensures .0) (call .add-one .ensures .1)
 
-add-four-requires : tie.Need-add-four-requires
-add-four-requires c κs =
-    let j = c .before in
-    let s = j .before .before .before .before .before .before in
+corner-at-requires : tie.Need-corner-at-requires
+corner-at-requires c κs = search needs
+
+add-corner-at : tie.Need-add-corner-at
+add-corner-at c = search needs
+
+corner-at-requires-2 : tie.Need-corner-at-requires-2
+corner-at-requires-2 c κs = search needs
+
+add-corner-at-2 : tie.Need-add-corner-at-2
+add-corner-at-2 c = search needs
+
+corner-at-requires-3 : tie.Need-corner-at-requires-3
+corner-at-requires-3 c κs = search needs
+
+add-corner-at-3 : tie.Need-add-corner-at-3
+add-corner-at-3 c = let s = c .before .before .before .before .before .before .before .before .before in omega (arith, s .pre .0)
+
+corner-at-requires-4 : tie.Need-corner-at-requires-4
+corner-at-requires-4 c κs = search needs
+
+quad-requires : tie.Need-quad-requires
+quad-requires c κs = search needs
+
+add-one-requires-2 : tie.Need-add-one-requires-2
+add-one-requires-2 c κs =
+    let q = c .before .before .before in
+    let s = q .before .before .before .before .before .before .before .before .before .before .before in
     let a = s .args in
-    (s .pre .0, s .pre .1, s .pre .2, sized-room (a .rows) (a .want) (now (a .positions)) (now (a .normals)) (now (a .texture)) (a .face) (a .base) (a .slot) (a .size) _ (a .tris) (j .if2 .taken) (s .pre .3))
+    let K = known-four q in
+    let R = room-two (a .rows) (a .want) (now (a .positions)) (now (a .normals)) (now (a .texture)) (a .face) (a .base) (a .slot) (q .quad .result .first) (q .quad .result .second) _ (a .tris) (K .0) (s .pre .3) in
+    let small = small-of (now (a .positions)) (now (a .normals)) (now (a .texture)) (a .face) (a .base) (q .quad .result .first) (K .1 .0) in
+    (omega (arith, R), s .pre .2, small (a .base) (s .pre .0), small (a .slot) (s .pre .1))
+
+add-one-requires-3 : tie.Need-add-one-requires-3
+add-one-requires-3 c κs =
+    let call = c .before .before .before in
+    let q = call .before .before .before .before in
+    let s = q .before .before .before .before .before .before .before .before .before .before .before in
+    let a = s .args in
+    let K = known-four q in
+    let R = room-two (a .rows) (a .want) (now (a .positions)) (now (a .normals)) (now (a .texture)) (a .face) (a .base) (a .slot) (q .quad .result .first) (q .quad .result .second) _ (a .tris) (K .0) (s .pre .3) in
+    let small = small-of (now (a .positions)) (now (a .normals)) (now (a .texture)) (a .face) (a .base) (q .quad .result .second) (K .1 .1) in
+    (omega (arith, R, call .add-one2 .ensures .0), omega (arith, s .pre .2, call .add-one2 .kept .0), small (a .base) (s .pre .0), small (a .slot) (s .pre .1))
 
 same-length-2 : tie.Need-same-length-2
 same-length-2 c = search needs
 
 returns-2 : tie.Need-returns-2
 returns-2 c =
-    let call = c .before .before in
-    let j = call .before .before in
-    let a = j .before .before .before .before .before .before .args in
-    sized-done (a .rows) (a .want) (now (a .positions)) (now (a .normals)) (now (a .texture)) (a .face) (a .base) (a .slot) (a .size) _ (a .tris) (call .add-four .result) (now (a .work)) _ (j .if2 .taken) (call .add-four .ensures)
+    let last = c .before .before in
+    let call = last .before .before .before .before in
+    let q = call .before .before .before .before in
+    let a = q .before .before .before .before .before .before .before .before .before .before .before .args in
+    let K = known-four q in
+    two-done (a .rows) (a .want) (now (a .positions)) (now (a .normals)) (now (a .texture)) (a .face) (a .base) (a .slot) (q .quad .result .first) (q .quad .result .second) _ (a .tris) (call .add-one2 .result) (last .add-one3 .result) (now (a .work)) _ _ (K .0) (K .1 .0) (K .1 .1) (call .add-one2 .ensures .0) (call .add-one2 .ensures .1) (last .add-one3 .ensures .0) (last .add-one3 .ensures .1)
 
 returns-3 : tie.Need-returns-3
 returns-3 c =
@@ -48,10 +134,7 @@ pub add-face-spec : {M : Type 1} → statement M
 add-face-spec =
     tie.close
     (tie.spec
-    add-three-requires
-    same-length
-    returns
-    add-four-requires
-    same-length-2
-    returns-2
-    returns-3)
+    kept-at-requires kept-at-requires-2 kept-at-requires-3 make-requires add-one-requires
+    same-length returns corner-at-requires add-corner-at corner-at-requires-2
+    add-corner-at-2 corner-at-requires-3 add-corner-at-3 corner-at-requires-4 quad-requires
+    add-one-requires-2 add-one-requires-3 same-length-2 returns-2 returns-3)

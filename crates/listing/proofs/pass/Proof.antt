@@ -94,19 +94,6 @@ pub pass-spec : {M : Type 1} → statement M
 pass-spec =
     tie.close
     (tie.spec
-    Inv-loop
-    μ-loop
-    loop-holds
-    shared-slice-read-size
-    cast-add-face
-    add-face-requires
-    corners-of-requires
-    add-base
-    slots-of-requires
-    cast-slot
-    add-slot
-    add-f
-    loop-less
-    loop-again
-    same-length
-    returns)
+    Inv-loop μ-loop loop-holds shared-slice-read-size cast-add-face add-face-requires
+    corners-of-requires add-base slots-of-requires cast-slot add-slot add-f loop-less
+    loop-again same-length returns)

@@ -47,15 +47,5 @@ pub put-flags-spec : {M : Type 1} → statement M
 put-flags-spec =
     tie.close
     (tie.spec
-    word-of-requires
-    word-of-requires-2
-    mul-work
-    add-work
-    mul-work-2
-    slice-write-work
-    mul-work-3
-    add-work-2
-    mul-work-4
-    slice-write-work-2
-    same-length
-    returns)
+    word-of-requires word-of-requires-2 mul-work add-work mul-work-2 slice-write-work
+    mul-work-3 add-work-2 mul-work-4 slice-write-work-2 same-length returns)

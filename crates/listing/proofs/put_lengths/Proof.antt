@@ -30,9 +30,4 @@ pub put-lengths-spec : {M : Type 1} → statement M
 put-lengths-spec =
     tie.close
     (tie.spec
-    word-requires
-    word-requires-2
-    word-of-requires
-    put-three-requires
-    same-length
-    returns)
+    word-requires word-requires-2 word-of-requires put-three-requires same-length returns)

@@ -51,17 +51,6 @@ pub put-places-spec : {M : Type 1} → statement M
 put-places-spec =
     tie.close
     (tie.spec
-    mul-put-numbers
-    mul-put-numbers-2
-    add-put-numbers
-    put-numbers-requires
-    mul-put-numbers-3
-    mul-put-numbers-4
-    add-put-numbers-2
-    put-numbers-requires-2
-    mul-put-names
-    mul-put-names-2
-    add-put-names
-    put-names-requires
-    same-length
-    returns)
+    mul-put-numbers mul-put-numbers-2 add-put-numbers put-numbers-requires mul-put-numbers-3
+    mul-put-numbers-4 add-put-numbers-2 put-numbers-requires-2 mul-put-names mul-put-names-2
+    add-put-names put-names-requires same-length returns)

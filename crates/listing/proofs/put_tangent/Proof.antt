@@ -55,17 +55,6 @@ pub put-tangent-spec : {M : Type 1} → statement M
 put-tangent-spec =
     tie.close
     (tie.spec
-    mul-put-vec
-    mul-put-vec-2
-    add-put-vec
-    put-vec-requires
-    mul-put-vec-3
-    mul-put-vec-4
-    add-put-vec-2
-    put-vec-requires-2
-    mul-put-lengths
-    mul-put-lengths-2
-    add-put-lengths
-    put-lengths-requires
-    same-length
-    returns)
+    mul-put-vec mul-put-vec-2 add-put-vec put-vec-requires mul-put-vec-3 mul-put-vec-4
+    add-put-vec-2 put-vec-requires-2 mul-put-lengths mul-put-lengths-2 add-put-lengths
+    put-lengths-requires same-length returns)

@@ -41,13 +41,5 @@ pub put-three-spec : {M : Type 1} → statement M
 put-three-spec =
     tie.close
     (tie.spec
-    mul-work
-    slice-write-work
-    add-work
-    mul-work-2
-    slice-write-work-2
-    add-work-2
-    mul-work-3
-    slice-write-work-3
-    same-length
-    returns)
+    mul-work slice-write-work add-work mul-work-2 slice-write-work-2 add-work-2 mul-work-3
+    slice-write-work-3 same-length returns)

@@ -52,17 +52,5 @@ pub join-spec : {M : Type 1} → statement M
 join-spec =
     tie.close
     (tie.spec
-    add-work
-    cast-work
-    mul-work
-    add-work-2
-    mul-work-2
-    slice-write-work
-    add-work-3
-    cast-work-2
-    mul-work-3
-    add-work-4
-    mul-work-4
-    slice-write-work-2
-    same-length
-    returns)
+    add-work cast-work mul-work add-work-2 mul-work-2 slice-write-work add-work-3
+    cast-work-2 mul-work-3 add-work-4 mul-work-4 slice-write-work-2 same-length returns)

@@ -38,11 +38,5 @@ pub link-at-spec : {M : Type 1} → statement M
 link-at-spec =
     tie.close
     (tie.spec
-    mul-wide
-    add-wide
-    mul-wide-2
-    shared-slice-read-wide
-    wide-requires
-    returns
-    sub-t6
+    mul-wide add-wide mul-wide-2 shared-slice-read-wide wide-requires returns sub-t6
     returns-2)

@@ -86,17 +86,5 @@ pub look-spec : {M : Type 1} → statement M
 look-spec =
     tie.close
     (tie.spec
-    side-at-requires
-    same-ends-requires
-    add-t13
-    same-length
-    returns
-    suits-requires
-    add-t16
-    same-length-2
-    returns-2
-    join-requires
-    add-t20
-    add-t21
-    same-length-3
-    returns-3)
+    side-at-requires same-ends-requires add-t13 same-length returns suits-requires add-t16
+    same-length-2 returns-2 join-requires add-t20 add-t21 same-length-3 returns-3)

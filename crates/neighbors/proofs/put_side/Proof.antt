@@ -107,33 +107,8 @@ pub put-side-spec : {M : Type 1} → statement M
 put-side-spec =
     tie.close
     (tie.spec
-    end-of-requires
-    mul-a
-    add-a
-    mul-a-2
-    slice-read-a
-    mul-b
-    add-b
-    mul-b-2
-    slice-read-b
-    least-requires
-    greatest-requires
-    mul-work
-    add-work
-    mul-work-2
-    slice-write-work
-    mul-work-3
-    add-work-2
-    mul-work-4
-    slice-write-work-2
-    cast-work
-    mul-work-5
-    add-work-3
-    mul-work-6
-    slice-write-work-3
-    mul-work-7
-    add-work-4
-    mul-work-8
-    slice-write-work-4
-    same-length
-    returns)
+    end-of-requires mul-a add-a mul-a-2 slice-read-a mul-b add-b mul-b-2 slice-read-b
+    least-requires greatest-requires mul-work add-work mul-work-2 slice-write-work
+    mul-work-3 add-work-2 mul-work-4 slice-write-work-2 cast-work mul-work-5 add-work-3
+    mul-work-6 slice-write-work-3 mul-work-7 add-work-4 mul-work-8 slice-write-work-4
+    same-length returns)

@@ -54,13 +54,5 @@ pub put-sides-spec : {M : Type 1} → statement M
 put-sides-spec =
     tie.close
     (tie.spec
-    Inv-loop
-    μ-loop
-    mul-r-end
-    loop-holds
-    put-side-requires
-    add-r
-    loop-less
-    loop-again
-    same-length
-    returns)
+    Inv-loop μ-loop mul-r-end loop-holds put-side-requires add-r loop-less loop-again
+    same-length returns)

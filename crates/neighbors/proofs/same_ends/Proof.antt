@@ -65,21 +65,7 @@ pub same-ends-spec : {M : Type 1} → statement M
 same-ends-spec =
     tie.close
     (tie.spec
-    mul-if1
-    add-if1
-    mul-if1-2
-    shared-slice-read-if1
-    mul-if1-3
-    add-if1-2
-    mul-if1-4
-    shared-slice-read-if1-2
-    returns
-    mul-result
-    add-result
-    mul-result-2
-    shared-slice-read-result
-    mul-result-3
-    add-result-2
-    mul-result-4
-    shared-slice-read-result-2
-    returns-2)
+    mul-if1 add-if1 mul-if1-2 shared-slice-read-if1 mul-if1-3 add-if1-2 mul-if1-4
+    shared-slice-read-if1-2 returns mul-result add-result mul-result-2
+    shared-slice-read-result mul-result-3 add-result-2 mul-result-4
+    shared-slice-read-result-2 returns-2)

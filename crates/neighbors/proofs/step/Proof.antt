@@ -94,19 +94,6 @@ pub step-spec : {M : Type 1} → statement M
 step-spec =
     tie.close
     (tie.spec
-    side-at-requires
-    link-at-requires
-    enum-told
-    enum-told-2
-    add-t11
-    same-length
-    returns
-    add-t13
-    same-length-2
-    returns-2
-    add-t14
-    same-length-3
-    returns-3
-    look-requires
-    same-length-4
-    returns-4)
+    side-at-requires link-at-requires enum-told enum-told-2 add-t11 same-length returns
+    add-t13 same-length-2 returns-2 add-t14 same-length-3 returns-3 look-requires
+    same-length-4 returns-4)

@@ -53,17 +53,6 @@ pub suits-spec : {M : Type 1} → statement M
 suits-spec =
     tie.close
     (tie.spec
-    mul-if1
-    add-if1
-    mul-if1-2
-    shared-slice-read-if1
-    returns
-    mul-result
-    add-result
-    mul-result-2
-    shared-slice-read-result
-    mul-result-3
-    add-result-2
-    mul-result-4
-    shared-slice-read-result-2
-    returns-2)
+    mul-if1 add-if1 mul-if1-2 shared-slice-read-if1 returns mul-result add-result
+    mul-result-2 shared-slice-read-result mul-result-3 add-result-2 mul-result-4
+    shared-slice-read-result-2 returns-2)
