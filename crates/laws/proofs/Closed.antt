@@ -11,7 +11,7 @@ use Rattle.definition.specs.Mesh.{Third, one, two, three, Spot, next, prior, co
 use Rattle.definition.specs.Step4Order.{welded, spots}
 use Rattle.definition.specs.Step5Links.{Link, opposite, linked, addLink, linkOne, linkAll, links, beyond}
 use Rattle.definition.specs.Step6Groups.{cornerIn, overTo, over}
-use Rattle.laws.proofs.Part.{Each, each-none, each-some, Every, every-nil, every-cons}
+use Rattle.laws.proofs.Part.{Each, each-none, each-some, Every, every-nil, every-cons, every-cond}
 use Rattle.laws.proofs.Enough.{Near}
 
 -- ---- the first that passes is one of the list, and passes
@@ -54,10 +54,6 @@ module _ (P : Spot → Type 0) where
   unfolding addLink
   add-sound s none ls h each-none r = r
   add-sound s (some t) ls h (each-some k) r = every-cons (record { from = h; to = k .0; across = k .1 }) r
-
-  every-cond : (b : Bool) {l k : List Link} → Every Sound l → Every Sound k → Every Sound (cond b l k)
-  every-cond true r s = r
-  every-cond false r s = s
 
   one-sound : (ls : List Link) (s : Spot) (later : List Spot) → P s → Every P later → Every Sound ls → Every Sound (linkOne ls s later)
   unfolding linkOne

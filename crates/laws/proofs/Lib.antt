@@ -19,3 +19,4 @@ pub mod Bridge
 pub mod Marked
 pub mod Twice
 pub mod Targets
+pub mod Sharp

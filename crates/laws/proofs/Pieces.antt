@@ -12,7 +12,7 @@ use Rattle.definition.specs.Step1Cut.{cut02}
 use Rattle.definition.specs.Step3Tangents.{quadWay, area}
 use Rattle.definition.specs.Step4Order.{isSound, sound, broken, spots}
 use Rattle.definition.specs.Triangles.{make, settled, agree, pair, nook, quad, usable, pieces, triangles}
-use Rattle.laws.proofs.Part.{Part, nothing, mine, other, Every, every-nil, every-cons, all-mine, all-other, part-append, part-keep, every-map, every-append}
+use Rattle.laws.proofs.Part.{Part, nothing, mine, other, Every, every-nil, every-cons, all-mine, all-other, part-append, part-keep, every-map, every-append, every-cond}
 use Rattle.laws.proofs.World.{World, OursT, TheirsT, moved, movedSpot, OursS, TheirsS}
 
 -- a triangle of face n whose corners are all Q
@@ -32,10 +32,6 @@ module _ (n : ℕ) (Q : Corner → Type 0) where
   pair-of : (s t : Triangle) → Of n Q s → Of n Q t → Every (Of n Q) (pair s t)
   unfolding pair
   pair-of s t h k = every-cons (settled-of s _ _ h) (every-cons (settled-of t _ _ k) every-nil)
-
-  every-cond : (b : Bool) {l k : List Triangle} → Every (Of n Q) l → Every (Of n Q) k → Every (Of n Q) (cond b l k)
-  every-cond true r s = r
-  every-cond false r s = s
 
   quad-of : (c0 c1 c2 c3 : Corner) → Q c0 → Q c1 → Q c2 → Q c3 → Every (Of n Q) (quad n c0 c1 c2 c3)
   unfolding quad

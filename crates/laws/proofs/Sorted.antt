@@ -14,7 +14,7 @@ use Rattle.definition.specs.Mesh.{Third, one, two, three, Spot, cornerOf}
 use Rattle.definition.specs.Step4Order.{welded, sound, spots}
 use Rattle.definition.specs.Step5Links.{endOf, opposite, links, beyond}
 use Rattle.definition.specs.Step5Sorted.{numberOf, vertexOf, Side, sideOf, sidesFrom, sides, mayPrecede, setIn, sortedBy, sortedSides, sortedLinks, alike}
-use Rattle.laws.proofs.Part.{Every, every-nil, every-cons, every-map, keep-map}
+use Rattle.laws.proofs.Part.{Every, every-nil, every-cons, every-map, every-cond, keep-map}
 use Rattle.laws.proofs.Closed.{and-left, and-right}
 use Rattle.laws.proofs.Weld.{weld-one}
 use Rattle.laws.proofs.Shuffled.{every-mem}
@@ -27,10 +27,6 @@ pub data InOrder {X : Type 0} (p : X → X → Bool) : List X → Type 0 where
   order-cons : {x : X} {l : List X} → Every (λ y. p x y ≡ true) l → InOrder p l → InOrder p (x ∷ l)
 
 -- ---- a stable sort leaves what a test keeps as it is, where the sort has nothing to change among those that pass
-
-every-cond : {X : Type 0} {P : X → Type 0} (b : Bool) {l k : List X} → Every P l → Every P k → Every P (cond b l k)
-every-cond true r s = r
-every-cond false r s = s
 
 every-mapped : {X Y : Type 0} (P : Y → Type 0) (f : X → Y) {l : List X} → Every (λ x. P (f x)) l → Every P (map f l)
 every-mapped P f every-nil = every-nil

@@ -5,8 +5,9 @@ use mathlib.Core.Path.{_≡_, refl, sym, _∙_, ap, subst}
 use mathlib.Core.Bool.{Bool, true, false, true≢false}
 use mathlib.Core.List.{List, [], _∷_, _++_}
 use mathlib.Core.Option.{Option, none, some}
-use lib.Dec.{eqb, ltb}
+use lib.Dec.{T, eqb, ltb}
 use lib.ListN.{length, getD, length-append, List·getD-append}
+use lib.Ieee.{Float, nan, binary32, fits}
 use borrow.Author.Tests.{eq-eqb, eqb-true, ltb-true, ltb-false}
 use Rattle.table.specs.Table.{cell}
 use Rattle.table.specs.Columns.{vertexColumn}
@@ -15,11 +16,16 @@ use Rattle.definition.specs.declared.Triangle.{Triangle}
 use Rattle.definition.specs.Lists.{first}
 use Rattle.definition.specs.Mesh.{Third, one, two, three, Spot, after, cornerOf}
 use Rattle.definition.specs.Step4Order.{sound, broken, spots, ordered, welded, weldedTo}
+use Rattle.definition.specs.Handed.{meshFrom}
+use Rattle.definition.specs.Desk.{badCorner}
+use Rattle.definition.specs.Triangles.{triangles}
+use Rattle.definition.specs.Frames.{numbered}
+use Rattle.laws.proofs.Sharp.{sharp-ends, accepted-real, mesh-sharp as every-sharp}
 use Rattle.laws.proofs.World.{welded-sym}
 use Rattle.laws.proofs.Weld.{welded-refl, welded-as}
 use Rattle.view.specs.Rows.{row, spotAt, spotRow}
 use Rattle.view.specs.Weld.{First, Vertices, Welds, Sharp}
-use Rattle.view.proofs.Lists.{bool-iff, first-at, first-not}
+use Rattle.view.proofs.Lists.{bool-iff, first-at, every-index}
 use Rattle.view.proofs.Rows.{row-lt, spot-is, spots-length, spots-at}
 
 -- there is one first number that passes
@@ -101,3 +107,9 @@ sound-welds rows ss bs d w W t u i j h k =
     let n = length-append ss bs in
     W t u i j (omega arith) (omega arith)
     ∙ (λ z. welded (cornerOf (record { tri = List·getD-append ss bs d t h z; at = i })) (cornerOf (record { tri = List·getD-append ss bs d u k z; at = j })))
+
+-- the sound triangles of an accepted mesh are sharp
+pub mesh-sharp : (ps ns ts : List Float) (sizes : List ℕ) (d : Triangle) → ((i : ℕ) → T (fits binary32 (getD ps i nan))) → badCorner 0 (meshFrom ps ns ts 0 sizes) ≡ none → Sharp (sound (triangles (numbered 0 (meshFrom ps ns ts 0 sizes)))) d
+mesh-sharp ps ns ts sizes d held none-bad = record {
+  apart = λ t i h. sharp-ends _ (every-index (every-sharp (meshFrom ps ns ts 0 sizes) (accepted-real ps ns ts held 0 sizes none-bad)) t d h) i;
+}
