@@ -1,4 +1,5 @@
 //! The proved desk beside the oracle: the verdict on every mesh of a file, number and place.
+use crate::files::{Call, Words};
 use std::fs::read;
 
 unsafe extern "C" {
@@ -18,54 +19,14 @@ unsafe extern "C" {
     ) -> u64;
 }
 
-/// A mesh as it is handed in, and the lengths of the lists that are lent.
-#[derive(Clone)]
-struct Call {
-    sizes: Vec<u8>,
-    lists: [Vec<u32>; 3],
-    threshold: u32,
-    answer: usize,
-    work: usize,
-}
-
-/// Little-endian words of a file, one after the other.
-struct Words<'a>(&'a [u8]);
-
-impl Words<'_> {
-    fn bytes(&mut self, count: usize) -> Vec<u8> {
-        let (taken, rest) = self.0.split_at(count);
-        self.0 = rest;
-        taken.to_vec()
-    }
-
-    fn words(&mut self, count: usize) -> Vec<u32> {
-        self.bytes(4 * count).chunks_exact(4).map(|b| u32::from_le_bytes([b[0], b[1], b[2], b[3]])).collect()
-    }
-
-    /// The next mesh of an ext file.
-    fn call(&mut self) -> Call {
-        let head = self.words(7);
-        let sizes = self.bytes(head[0] as usize);
-        let lists = [1, 2, 3].map(|i| self.words(head[i] as usize));
-        Call { sizes, lists, threshold: head[6], answer: head[4] as usize, work: head[5] as usize }
-    }
-
-    /// The next answer of an out file: number, place, slots; whether the lent answer list is as it was; the work list's hash.
-    fn answer(&mut self) -> (u32, u32, u32, bool, u32) {
-        let head = self.words(4);
-        let untouched = self.words(head[3] as usize).iter().zip(0xA5A5_0000..).all(|(&w, lent)| w == lent);
-        (head[0], head[1], head[2], untouched, self.words(1)[0])
-    }
-}
-
 /// The hash of a work list of so many words that was not touched, as an out file has it.
 fn untouched_work(count: usize) -> u32 {
     (0x5A5A_0000u32..).take(count).fold(2_166_136_261, |hash, word| (hash ^ word).wrapping_mul(16_777_619))
 }
 
 /// The desk's number and place.
-fn judged(call: &Call) -> (u32, u32) {
-    let [positions, normals, texture] = call.lists.clone().map(|l| l.into_iter().map(f32::from_bits).collect::<Vec<f32>>());
+pub fn judged(call: &Call) -> (u32, u32) {
+    let [positions, normals, texture] = call.numbers();
     // the lists are Rust's own, and each is handed over with its own length
     let verdict = unsafe {
         export_judge(

@@ -1,11 +1,14 @@
-//! The root, the angle and the desk of the proved archive, beside the processor's, plain whole-number ones and the oracle's.
+//! The root, the angle, the desk and the steps of the proved archive, beside the processor's, plain ones and the oracle's.
 //!
 //! `bench check STEP` compares every STEP-th of the 2^32 patterns (and every 16th of those with a table of its own for each
 //! angle, which is slow) and prints how many differed (exit status 1 if any);
 //! `bench desk MESHES ANSWERS` compares the desk with the oracle's answers (tools/desk makes both files);
+//! `bench steps MESHES` compares the columns that steps 1 to 5 leave with a plain model's (tools/steps makes the file);
 //! `bench time` prints nanoseconds a call and the ratio to the processor's, all measured in one run.
 mod desk;
+mod files;
 mod plain;
+mod steps;
 
 use std::hint::black_box;
 use std::time::Instant;
@@ -195,12 +198,14 @@ fn main() {
     let right = match given.as_slice() {
         ["check", step] => check(step.parse().expect("STEP is a number above 0")),
         ["desk", meshes, answers] => desk::check(meshes, answers),
+        ["steps", meshes] => steps::check(meshes),
         ["time"] => {
             time();
+            steps::time();
             true
         }
         _ => {
-            eprintln!("usage: bench check STEP | bench desk MESHES ANSWERS | bench time");
+            eprintln!("usage: bench check STEP | bench desk MESHES ANSWERS | bench steps MESHES | bench time");
             std::process::exit(2);
         }
     };

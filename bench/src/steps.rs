@@ -1,0 +1,328 @@
+//! Steps 1 to 5 of the proved archive beside a plain model, written from document 01: every word of the columns that they leave.
+use crate::desk::judged;
+use crate::files::{Call, Words};
+use crate::word;
+use std::fs::read;
+use std::hint::black_box;
+use std::time::Instant;
+
+unsafe extern "C" {
+    // a slice passes as a pointer and a length
+    fn export_links(
+        sizes: *const u8,
+        faces: usize,
+        positions: *const f32,
+        position_count: usize,
+        normals: *const f32,
+        normal_count: usize,
+        texture: *const f32,
+        texture_count: usize,
+        work: *mut u32,
+        work_count: usize,
+    ) -> u64;
+}
+
+/// The columns of crate `table`, by name.
+const CORNER: usize = 2;
+const SLOT: usize = 3;
+const NAME: usize = 4;
+const TANGENT_S: usize = 5;
+const TANGENT_T: usize = 6;
+const MAGNITUDE: usize = 7;
+const ORIENTATION: usize = 8;
+const ANY: usize = 9;
+const VERTEX: usize = 10;
+const LINK: usize = 11;
+
+type Vector = [f32; 3];
+
+fn sub(a: Vector, b: Vector) -> Vector {
+    [a[0] - b[0], a[1] - b[1], a[2] - b[2]]
+}
+
+fn scale(a: Vector, k: f32) -> Vector {
+    a.map(|x| x * k)
+}
+
+fn dot(a: Vector, b: Vector) -> f32 {
+    a[0] * b[0] + a[1] * b[1] + a[2] * b[2]
+}
+
+fn counts(x: f32) -> bool {
+    x.abs() > f32::MIN_POSITIVE
+}
+
+fn unit(a: Vector) -> Vector {
+    if a.into_iter().any(counts) { scale(a, 1.0 / dot(a, a).sqrt()) } else { a }
+}
+
+#[derive(Clone, Copy)]
+struct Corner {
+    place: Vector,
+    normal: Vector,
+    texture: [f32; 2],
+}
+
+impl Corner {
+    /// The bits of its eight numbers.
+    fn bits(&self) -> [u32; 8] {
+        let (p, n, t) = (self.place, self.normal, self.texture);
+        [p[0], p[1], p[2], n[0], n[1], n[2], t[0], t[1]].map(f32::to_bits)
+    }
+}
+
+#[derive(Clone)]
+struct Triangle {
+    face: usize,
+    second: bool,
+    missing: usize,
+    which: [usize; 3],
+    corners: [Corner; 3],
+    degenerate: bool,
+    marked: bool,
+    any: bool,
+    orientation: bool,
+    area: f32,
+    s: Vector,
+    t: Vector,
+    magnitudes: [f32; 2],
+}
+
+/// Steps 2 and 3 of one triangle.
+fn triangle(face: usize, second: bool, missing: usize, which: [usize; 3], corners: [Corner; 3]) -> Triangle {
+    let [a, b, c] = corners;
+    let degenerate = a.place == b.place || b.place == c.place || c.place == a.place;
+    let (t1, t2) = (
+        [b.texture[0] - a.texture[0], b.texture[1] - a.texture[1]],
+        [c.texture[0] - a.texture[0], c.texture[1] - a.texture[1]],
+    );
+    let area = t1[0] * t2[1] - t1[1] * t2[0];
+    let (d1, d2) = (sub(b.place, a.place), sub(c.place, a.place));
+    let (mut s, mut t, mut magnitudes) = ([0.0; 3], [0.0; 3], [0.0; 2]);
+    if !degenerate && counts(area) {
+        let raw_s = sub(scale(d1, t2[1]), scale(d2, t1[1]));
+        let (x, y) = (scale(d1, -t2[0]), scale(d2, t1[0]));
+        let raw_t = [x[0] + y[0], x[1] + y[1], x[2] + y[2]];
+        let sign = if area > 0.0 { 1.0 } else { -1.0 };
+        s = scale(unit(raw_s), sign);
+        t = scale(unit(raw_t), sign);
+        magnitudes = [raw_s, raw_t].map(|v| dot(v, v).sqrt() / area.abs());
+    }
+    let any = !degenerate && !(counts(area) && counts(magnitudes[0]) && counts(magnitudes[1]));
+    let orientation = !degenerate && area > 0.0;
+    Triangle { face, second, missing, which, corners, degenerate, marked: false, any, orientation, area: area.abs(), s, t, magnitudes }
+}
+
+/// Steps 1 to 3 of one face.
+fn pieces(face: usize, corners: &[Corner]) -> Vec<Triangle> {
+    let make = |second, missing: usize| {
+        let kept: Vec<usize> = (0..4).filter(|&i| i != missing).collect();
+        triangle(face, second, missing, [kept[0], kept[1], kept[2]], [corners[kept[0]], corners[kept[1]], corners[kept[2]]])
+    };
+    match corners.len() {
+        3 => vec![make(false, 3)],
+        4 => {
+            let across = |i: usize, j: usize| {
+                let (x, y) = (corners[i].texture[0] - corners[j].texture[0], corners[i].texture[1] - corners[j].texture[1]);
+                x * x + y * y
+            };
+            let apart = |i: usize, j: usize| {
+                let d = sub(corners[i].place, corners[j].place);
+                dot(d, d)
+            };
+            let (a, b) = (across(2, 0), across(3, 1));
+            let cut02 = if a < b || b < a { a < b } else { apart(3, 1) >= apart(2, 0) };
+            let (mut x, mut y) = if cut02 { (make(false, 3), make(true, 1)) } else { (make(false, 2), make(true, 0)) };
+            if x.degenerate != y.degenerate {
+                x.marked = true;
+                y.marked = true;
+            } else if !x.degenerate && x.orientation != y.orientation {
+                let way = if y.any || x.area >= y.area { x.orientation } else { y.orientation };
+                x.orientation = way;
+                y.orientation = way;
+            }
+            vec![x, y]
+        }
+        _ => vec![],
+    }
+}
+
+/// What the plain model says of steps 1 to 5: triangles in their order, how many are sound, vertices and links by row.
+struct Model {
+    triangles: Vec<Triangle>,
+    sound: usize,
+    vertices: Vec<usize>,
+    links: Vec<u32>,
+    corner_starts: Vec<usize>,
+    slot_starts: Vec<usize>,
+}
+
+fn model(call: &Call) -> Model {
+    let [positions, normals, texture] = call.numbers();
+    let corner = |i: usize| Corner {
+        place: [positions[3 * i], positions[3 * i + 1], positions[3 * i + 2]],
+        normal: [normals[3 * i], normals[3 * i + 1], normals[3 * i + 2]],
+        texture: [texture[2 * i], texture[2 * i + 1]],
+    };
+    let (mut all, mut corner_starts, mut slot_starts) = (vec![], vec![], vec![]);
+    let (mut corners, mut slots) = (0, 0);
+    for (face, &size) in call.sizes.iter().enumerate() {
+        corner_starts.push(corners);
+        slot_starts.push(slots);
+        let n = usize::from(size);
+        if n == 3 || n == 4 {
+            all.extend(pieces(face, &(corners..corners + n).map(corner).collect::<Vec<Corner>>()));
+            slots += n;
+        }
+        corners += n;
+    }
+    let (mut triangles, broken): (Vec<Triangle>, Vec<Triangle>) = all.into_iter().partition(|t| !t.degenerate);
+    let sound = triangles.len();
+    triangles.extend(broken);
+    let bits: Vec<[u32; 8]> = triangles.iter().flat_map(|t| t.corners.iter().map(Corner::bits)).collect();
+    let vertices: Vec<usize> = bits.iter().map(|b| bits.iter().position(|c| c == b).unwrap()).collect();
+    let end = |r: usize| r - r % 3 + (r + 1) % 3;
+    let key = |r: usize| {
+        let (a, b) = (vertices[r], vertices[end(r)]);
+        (a.min(b), a.max(b), r / 3)
+    };
+    let mut sides: Vec<usize> = (0..3 * sound).collect();
+    sides.sort_by_key(|&r| key(r));
+    let mut links = vec![0u32; 3 * sound];
+    for (i, &r) in sides.iter().enumerate() {
+        let opposite = |&&u: &&usize| links[u] == 0 && vertices[u] == vertices[end(r)] && vertices[end(u)] == vertices[r];
+        if links[r] == 0
+            && let Some(&u) = sides[i + 1..].iter().find(opposite)
+        {
+            links[r] = u as u32 + 1;
+            links[u] = r as u32 + 1;
+        }
+    }
+    Model { triangles, sound, vertices, links, corner_starts, slot_starts }
+}
+
+/// The archive's columns, and how many triangles are sound and there are.
+fn columns(call: &Call) -> (Vec<u32>, usize, usize) {
+    let [positions, normals, texture] = call.numbers();
+    let mut work: Vec<u32> = (0x5A5A_0000u32..).take(128 * call.sizes.len()).collect();
+    // the lists are Rust's own, and each is handed over with its own length
+    let counts = unsafe {
+        export_links(
+            call.sizes.as_ptr(),
+            call.sizes.len(),
+            positions.as_ptr(),
+            positions.len(),
+            normals.as_ptr(),
+            normals.len(),
+            texture.as_ptr(),
+            texture.len(),
+            work.as_mut_ptr(),
+            work.len(),
+        )
+    };
+    (work, (counts >> 32) as usize, counts as u32 as usize)
+}
+
+/// The words that the model asks for: column, row, word.
+fn expected(m: &Model) -> Vec<(usize, usize, u32)> {
+    let mut words = vec![];
+    for (t, x) in m.triangles.iter().enumerate() {
+        for i in 0..3 {
+            let r = 3 * t + i;
+            words.push((CORNER, r, (m.corner_starts[x.face] + x.which[i]) as u32));
+            words.push((SLOT, r, (m.slot_starts[x.face] + x.which[i]) as u32));
+            words.push((NAME, r, [x.face as u32, u32::from(x.second), x.missing as u32][i]));
+            words.push((TANGENT_S, r, word(x.s[i])));
+            words.push((TANGENT_T, r, word(x.t[i])));
+            words.push((MAGNITUDE, r, [word(x.magnitudes[0]), word(x.magnitudes[1]), u32::from(x.marked)][i]));
+            words.push((VERTEX, r, m.vertices[r] as u32));
+        }
+        words.push((ORIENTATION, t, u32::from(x.orientation)));
+        words.push((ANY, t, u32::from(x.any)));
+    }
+    words.extend(m.links.iter().enumerate().map(|(r, &l)| (LINK, r, l)));
+    words
+}
+
+/// Compares the columns with the model on every accepted mesh of an ext file.
+pub fn check(meshes: &str) -> bool {
+    let meshes = read(meshes).expect("the meshes");
+    let mut meshes = Words(&meshes);
+    let (mut compared, mut words, mut sides, mut linked, mut broken, mut differed) = (0u64, 0u64, 0u64, 0u64, 0u64, 0u64);
+    while !meshes.0.is_empty() {
+        let call = Call { answer: usize::MAX, work: usize::MAX, ..meshes.call() };
+        if judged(&call).0 != 0 {
+            continue;
+        }
+        let (m, (work, sound, all)) = (model(&call), columns(&call));
+        let rows = 6 * call.sizes.len();
+        let wanted = expected(&m);
+        let wrong = wanted.iter().find(|&&(column, row, word)| work[column * rows + row] != word);
+        let past = (126 * call.sizes.len()..work.len()).any(|i| work[i] != 0x5A5A_0000 + i as u32);
+        if wrong.is_some() || past || (sound, all) != (m.sound, m.triangles.len()) {
+            if differed == 0 {
+                println!("mesh {compared}: expected (column, row, word) {wrong:?}; {sound} of {all} sound, expected {} of {}; past the columns: {past}", m.sound, m.triangles.len());
+            }
+            differed += 1;
+        }
+        compared += 1;
+        words += wanted.len() as u64;
+        sides += m.links.len() as u64;
+        linked += m.links.iter().filter(|&&l| l != 0).count() as u64;
+        broken += (m.triangles.len() - m.sound) as u64;
+    }
+    println!("steps 1 to 5 against a plain model: {compared} meshes, {words} words, {sides} sides, {linked} of them linked, {broken} degenerate triangles; {differed} differed");
+    differed == 0 && compared > 0
+}
+
+/// A mesh of so many triangles: between two corners, each with a third of its own, all run the same way, or every other one the opposite way.
+fn book(faces: usize, mixed: bool) -> Call {
+    let mut lists = [vec![], vec![], vec![]];
+    for f in 0..faces {
+        let spine = if mixed && f % 2 == 1 { [[0.0, 1.0], [0.0, 0.0]] } else { [[0.0, 0.0], [0.0, 1.0]] };
+        for [x, y] in [spine[0], spine[1], [1.0 + f as f32, 0.5]] {
+            lists[0].extend([x, y, 0.0].map(f32::to_bits));
+            lists[1].extend([0f32, 0.0, 1.0].map(f32::to_bits));
+            lists[2].extend([x, y].map(f32::to_bits));
+        }
+    }
+    Call { sizes: vec![3; faces], lists, threshold: 0, answer: usize::MAX, work: usize::MAX }
+}
+
+/// A sheet of quads, so many a side.
+fn sheet(side: usize) -> Call {
+    let mut lists = [vec![], vec![], vec![]];
+    for f in 0..side * side {
+        let (x, y) = ((f % side) as f32, (f / side) as f32);
+        for [x, y] in [[x, y], [x + 1.0, y], [x + 1.0, y + 1.0], [x, y + 1.0]] {
+            lists[0].extend([x, y, (x * 0.1).sin()].map(f32::to_bits));
+            lists[1].extend([0f32, 0.0, 1.0].map(f32::to_bits));
+            lists[2].extend([x, y].map(f32::to_bits));
+        }
+    }
+    Call { sizes: vec![4; side * side], lists, threshold: 0, answer: usize::MAX, work: usize::MAX }
+}
+
+/// The least time of five runs of steps 1 to 5, in milliseconds, on meshes of a quarter, a half and the whole of 4,096 faces.
+pub fn time() {
+    println!("steps 1 to 5, milliseconds, and the ratio to half as many faces:");
+    for (name, make) in [
+        ("sheet of quads", (|f: usize| sheet((f as f64).sqrt() as usize)) as fn(usize) -> Call),
+        ("book, all one way", |f| book(f, false)),
+        ("book, both ways", |f| book(f, true)),
+    ] {
+        let mut last = f64::NAN;
+        for faces in [1024, 2048, 4096] {
+            let call = make(faces);
+            let least = (0..5)
+                .map(|_| {
+                    let start = Instant::now();
+                    black_box(columns(&call));
+                    start.elapsed().as_secs_f64() * 1e3
+                })
+                .fold(f64::MAX, f64::min);
+            println!("{name:20} {:5} faces {least:8.2} {:6.2}", call.sizes.len(), least / last);
+            last = least;
+        }
+    }
+}

@@ -1,0 +1,5 @@
+pub mod Buckets
+mod Chains
+mod Turns
+mod Stores
+mod Whole
