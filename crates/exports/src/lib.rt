@@ -52,3 +52,22 @@ pub extern "C" fn export_judge(
     let v = desk::judge(sizes, positions, normals, texture, threshold, answer, work);
     (v.number as u64) * 0x1_0000_0000 + v.place as u64
 }
+
+// Steps 1 to 5 on the columns of the work list; how many triangles are sound times 2 ^ 32, and how many there are. Lists that refusal 1 or 6 would catch are left as they are.
+#[no_mangle]
+pub extern "C" fn export_links(
+    sizes: &[u8],
+    positions: &[f32],
+    normals: &[f32],
+    texture: &[f32],
+    work: &mut [u32],
+) -> u64 {
+    if 4096 < sizes.len() {
+        return 0;
+    }
+    if work.len() < 128 * sizes.len() {
+        return 0;
+    }
+    let counts = links::link_mesh(work, sizes, positions, normals, texture);
+    (counts.sound as u64) * 0x1_0000_0000 + counts.all as u64
+}
