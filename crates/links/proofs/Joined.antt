@@ -81,3 +81,7 @@ module _ (sizes : List ℕ) (ps ns ts : List Float) (n m : ℕ) (w u v z : List 
       range = range;
       stands = five;
     }
+
+-- there is room for the triangles in their columns
+pub left-room : (sizes : List ℕ) (ps ns ts : List Float) (xs : List Triangle) (n m : ℕ) (w u : List ℕ) → Left sizes ps ns ts xs n m w u → (3 * n ≤ rowsOf (length sizes)) × (3 * m ≤ rowsOf (length sizes))
+left-room sizes ps ns ts xs n m w u L = (omega (arith, L .sound-count, L .fits, length-append (sound xs) (broken xs)), omega (arith, L .count, L .fits))
