@@ -57,6 +57,14 @@ vertexColumn = 10
 abbrev pub linkColumn : ℕ
 linkColumn = 11
 
+-- the number of the group of a corner, from 1 on, or 0 where it is in none
+abbrev pub groupColumn : ℕ
+groupColumn = 12
+
+-- the members of the groups, as rows of corners: groups in the order they started, members as they were met
+abbrev pub metColumn : ℕ
+metColumn = 13
+
 -- the lower of the two vertices in which a side ends
 abbrev pub lowerColumn : ℕ
 lowerColumn = 15
@@ -80,3 +88,7 @@ headColumn = 19
 -- the corner that was put into the same bucket before it, its row and one, or 0
 abbrev pub nextColumn : ℕ
 nextColumn = 20
+
+-- where each group's members begin among all of them; the welding's buckets are done with by then
+abbrev pub beginColumn : ℕ
+beginColumn = 19

@@ -39,6 +39,12 @@ pub const VERTEX: usize = 10;
 // The side beyond a side: its row and one, or 0 where there is none.
 pub const LINK: usize = 11;
 
+// The number of the group of a corner, from 1 on, or 0 where it is in none.
+pub const GROUP: usize = 12;
+
+// The members of the groups, as rows of corners: groups in the order they started, members as they were met.
+pub const MET: usize = 13;
+
 // The lower of the two vertices in which a side ends.
 pub const LOWER: usize = 15;
 
@@ -56,3 +62,6 @@ pub const HEAD: usize = 19;
 
 // The corner that was put into the same bucket before it, its row and one, or 0.
 pub const NEXT: usize = 20;
+
+// Where each group's members begin among all of them; the welding's buckets are done with by then.
+pub const BEGIN: usize = 19;
