@@ -68,6 +68,6 @@ pub extern "C" fn export_links(
     if work.len() < 128 * sizes.len() {
         return 0;
     }
-    let counts = links::link_mesh(work, sizes, positions, normals, texture);
+    let counts = links::link_mesh(sizes, positions, normals, texture, work);
     (counts.sound as u64) * 0x1_0000_0000 + counts.all as u64
 }

@@ -110,17 +110,10 @@ fn corner_step(
     let Entry::At(i) = enter_at(work, rows, t, group, vertex, orient, count) else {
         return count;
     };
-    let n = side_step(
-        work,
-        rows,
-        tris,
-        3 * t + (i + 2) % 3,
-        group,
-        vertex,
-        orient,
-        count + 1,
-    );
-    side_step(work, rows, tris, 3 * t + i, group, vertex, orient, n)
+    let first = 3 * t + (i + 2) % 3;
+    let second = 3 * t + i;
+    let n = side_step(work, rows, tris, first, group, vertex, orient, count + 1);
+    side_step(work, rows, tris, second, group, vertex, orient, n)
 }
 
 // Over a side to the corner beyond.

@@ -3,7 +3,7 @@ use Prim.Native.Nat.{ℕ, zero, suc, _≤_, _<_}
 use native.Mathlib.Omega.{arith}
 use mathlib.Core.Path.{_≡_, refl, sym, _∙_, ap}
 use mathlib.Core.Bool.{Bool, true, false, cond, not, _&&_, _||_, true≢false, false≢true, Bool·beq}
-use mathlib.Core.List.{List, [], _∷_, _++_, List·Memᴰ, List·Memᴰ·head, List·Memᴰ·tail}
+use mathlib.Core.List.{List, [], _∷_, _++_, List·Memᴰ, List·Memᴰ·head, List·Memᴰ·tail, append-assoc, append-nil}
 use mathlib.Core.Option.{Option, none, some}
 use lib.ListN.{length}
 use borrow.Author.Tests.{eq-eqb}
@@ -87,19 +87,21 @@ spot-refl s = rw (eq-eqb (s .tri .face) (s .tri .face) refl, beq-refl (s .tri .s
 
 -- ---- grouped corners stay grouped
 
--- what is grouped in ms is grouped in ns
+-- ns begins with ms, and so what is grouped in ms is grouped in ns
 pub record Grows (ms ns : List Mark) : Type 0 where
+  pub added : List Mark
+  pub is : ns ≡ ms ++ added
   pub stay : (s : Spot) → grouped ms s ≡ true → grouped ns s ≡ true
 
 pub grows-refl : (ms : List Mark) → Grows ms ms
-grows-refl ms = record { stay = λ s e. e }
+grows-refl ms = record { added = []; is = sym (append-nil ms); stay = λ s e. e }
 
 pub grows-trans : {ls ms ns : List Mark} → Grows ls ms → Grows ms ns → Grows ls ns
-grows-trans a b = record { stay = λ s e. b .stay s (a .stay s e) }
+grows-trans {ls} a b = record { added = a .added ++ b .added; is = b .is ∙ (ap (λ l. l ++ b .added) (a .is) ∙ append-assoc ls (a .added) (b .added)); stay = λ s e. b .stay s (a .stay s e) }
 
 grows-snoc : (ms : List Mark) (m : Mark) → Grows ms (ms ++ (m ∷ []))
 unfolding grouped
-grows-snoc ms m = record { stay = λ s e. has-append (λ k. sameSpot (k .spot) s) ms (m ∷ []) e }
+grows-snoc ms m = record { added = m ∷ []; is = refl; stay = λ s e. has-append (λ k. sameSpot (k .spot) s) ms (m ∷ []) e }
 
 pub grows-cond : (b : Bool) {ls ms ns : List Mark} → Grows ls ms → Grows ls ns → Grows ls (cond b ms ns)
 grows-cond true p q = p

@@ -115,11 +115,15 @@ pub stops-own : (ms : List Mark) (s : Spot) → s .tri .any ≡ false → groupe
 unfolding stops facing
 stops-own ms s f e = rw (e, f, beq-refl (s .tri .orientation))
 
-walk-marks : (n : ℕ) (ls : List Link) (ms : List Mark) (s : Spot) → s .tri .any ≡ false → grouped ms s ≡ false → grouped (walk (suc n) ls s (s .tri .orientation) ms s) s ≡ true
+-- a walk from an ungrouped corner of such a triangle marks that corner first
+walk-first : (n : ℕ) (ls : List Link) (ms : List Mark) (s : Spot) → s .tri .any ≡ false → grouped ms s ≡ false → Grows (ms ++ (mark s s ∷ [])) (walk (suc n) ls s (s .tri .orientation) ms s)
 unfolding walk
-walk-marks n ls ms s f e =
+walk-first n ls ms s f e =
     rw (stops-own ms s f e)
-    (grows-trans (grows-going _ (λ ms′ s′. walk-grows n ls s (s .tri .orientation) ms′ s′) _ (over ls (cornerOf s) (prior s))) (grows-going _ (λ ms′ s′. walk-grows n ls s (s .tri .orientation) ms′ s′) _ (over ls (cornerOf s) s)) .stay s (grouped-mark ms (mark s s)))
+    (grows-trans (grows-going _ (λ ms′ s′. walk-grows n ls s (s .tri .orientation) ms′ s′) _ (over ls (cornerOf s) (prior s))) (grows-going _ (λ ms′ s′. walk-grows n ls s (s .tri .orientation) ms′ s′) _ (over ls (cornerOf s) s)))
+
+walk-marks : (n : ℕ) (ls : List Link) (ms : List Mark) (s : Spot) → s .tri .any ≡ false → grouped ms s ≡ false → grouped (walk (suc n) ls s (s .tri .orientation) ms s) s ≡ true
+walk-marks n ls ms s f e = walk-first n ls ms s f e .stay s (grouped-mark ms (mark s s))
 
 pub fan-pos : (ss : List Triangle) (s : Spot) → List·Memᴰ s (spots ss) → 0 < fan ss (cornerOf s)
 unfolding fan
@@ -134,6 +138,17 @@ start-marks ss ls ms s m f = go (s .tri .any) f (grouped ms s) refl (fan ss (cor
     go false q true e n h = e
     go false q false e zero h = absurd (omega arith)
     go false q false e (suc n) h = walk-marks n ls ms s f e
+
+-- and so does a group that starts there
+pub start-first : (ss : List Triangle) (ls : List Link) (ms : List Mark) (s : Spot) → List·Memᴰ s (spots ss) → s .tri .any ≡ false → grouped ms s ≡ false → Grows (ms ++ (mark s s ∷ [])) (startAt ss ls ms s)
+unfolding startAt
+start-first ss ls ms s m f e = go (s .tri .any) f (grouped ms s) e (fan ss (cornerOf s)) (fan-pos ss s m)
+  where
+    go : (a : Bool) → a ≡ false → (b : Bool) → b ≡ false → (n : ℕ) → 0 < n → Grows (ms ++ (mark s s ∷ [])) (cond (a || b) ms (walk n ls s (s .tri .orientation) ms s))
+    go true q b r n h = absurd (true≢false q)
+    go false q true r n h = absurd (true≢false r)
+    go false q false r zero h = absurd (omega arith)
+    go false q false r (suc n) h = walk-first n ls ms s f e
 
 pub start-grows : (ss : List Triangle) (ls : List Link) (ms : List Mark) (s : Spot) → Grows ms (startAt ss ls ms s)
 unfolding startAt

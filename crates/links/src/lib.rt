@@ -12,11 +12,11 @@ use listing::Counts;
 
 // Steps 1 to 5 of lists that aren't refused.
 pub fn link_mesh(
-    work: &mut [u32],
     sizes: &[u8],
     positions: &[f32],
     normals: &[f32],
     texture: &[f32],
+    work: &mut [u32],
 ) -> Counts
     requires { ⌜ (length (now sizes) ≤ faceLimit) × (columns * rowsOf (length (now sizes)) ≤ length (now work)) ⌝ }
     ensures { λ r. ⌜ Left (now (sizes .entry)) (now (positions .entry)) (now (normals .entry)) (now (texture .entry)) (triangles (numbered 0 (meshFrom (now (positions .entry)) (now (normals .entry)) (now (texture .entry)) 0 (now (sizes .entry))))) (r .sound) (r .all) (now (work .entry)) (now (work .exit)) ⌝ }

@@ -48,7 +48,7 @@ tri-lt r n h = let a = div-add-mod r 3 in omega arith
 pub row-lt : (t n : ℕ) (i : Third) → t < n → row t i < 3 * n
 row-lt t n i h = let a = num-lt i in omega arith
 
-row-div : (t : ℕ) (i : Third) → row t i / 3 ≡ t
+pub row-div : (t : ℕ) (i : Third) → row t i / 3 ≡ t
 row-div t i = mul-add-div {m = 3} (omega arith) t (num i) ∙ (ap (λ n. t + n) (div-eq-of-lt (num-lt i)) ∙ add-zero t)
 
 -- the corner of the row of a corner is that corner
@@ -121,3 +121,14 @@ spots-rows ss d =
   where
     rs : List ℕ
     rs = listOf (3 * length ss) (λ k. k)
+
+-- ---- a row has one triangle and one corner
+
+pub row-inj : (t u : ℕ) (i j : Third) → row t i ≡ row u j → t ≡ u
+row-inj t u i j e = let a = num-lt i in let b = num-lt j in omega arith
+
+num-inj : (i j : Third) → num i ≡ num j → i ≡ j
+num-inj i j e = sym (third-num i) ∙ (ap third e ∙ third-num j)
+
+pub at-inj : (t u : ℕ) (i j : Third) → row t i ≡ row u j → i ≡ j
+at-inj t u i j e = let a = num-lt i in let b = num-lt j in num-inj i j (omega arith)

@@ -3,3 +3,4 @@ pub mod Rows
 pub mod Records
 pub mod Weld
 pub mod Links
+pub mod Groups

@@ -1,0 +1,58 @@
+-- Proof that `walk_all` meets its contract. Assumes nothing.
+use Prim.Native.Nat.{_+_, _-_, _≤_}
+use native.Mathlib.Nat.{le-antisymm}
+use native.Mathlib.Omega.{arith}
+use mathlib.Core.Path.{_≡_, refl, sym, ap, _∙_, subst}
+use lib.ListN.{length}
+use borrow.Author.Needs.{needs}
+use Rattle.table.specs.Loop.{upTo}
+use Rattle.table.proofs.Loops.{upTo-none, upTo-more}
+use Rattle.groups.specs.Walk.{turn, state, Ready}
+use Rattle.groups.proofs.Steps.{ready-cleared}
+use Rattle.groups.proofs.walk_all.Statement.{statement}
+use Rattle.groups.proofs.walk_all.Tie as tie
+
+abbrev Inv-loop : tie.InvT-loop
+Inv-loop work₀ rows tris s₀ k₀ k-end work s k = (k ≤ k-end) × (s .groups ≤ k) × Ready rows tris (s .groups + 1) (s .members) work × (state work s ≡ upTo k (turn rows) (state work₀ s₀)) × (length work ≡ length work₀)
+
+abbrev μ-loop : tie.MeasureT-loop
+μ-loop work₀ rows tris s₀ k₀ k-end work s k = k-end - k
+
+clear-groups-requires : tie.Need-clear-groups-requires Inv-loop μ-loop
+clear-groups-requires c κs = search needs
+
+mul-k-end : tie.Need-mul-k-end Inv-loop μ-loop
+mul-k-end c = search needs
+
+loop-holds : tie.Need-loop-holds Inv-loop μ-loop
+loop-holds c =
+    let start = c .before .before .before .before .before in
+    let ready = ready-cleared (start .args .rows) (start .args .tris) (start .args .work .now) (start .pre .0) (start .pre .1) (start .pre .2) (start .pre .3) in
+    (omega arith, omega arith, subst (Ready (start .args .rows) (start .args .tris) 1 0) (sym (c .before .before .clear-groups .ensures)) ready, upTo-none _ _, refl)
+
+start-at-requires : tie.Need-start-at-requires Inv-loop μ-loop
+start-at-requires c κs = search needs
+
+add-k : tie.Need-add-k Inv-loop μ-loop
+add-k c = search needs
+
+loop-less : tie.Need-loop-less Inv-loop μ-loop
+loop-less c = search needs
+
+loop-again : tie.Need-loop-again Inv-loop μ-loop
+loop-again c =
+    let one = c .before .before .start-at in
+    let loop = c .before .before .before .before .before .loop in
+    (omega arith, one .ensures .few, one .ensures .ready, one .ensures .is ∙ ap (turn _ _) (loop .inv .3) ∙ upTo-more _ _ _, one .kept .0 ∙ loop .inv .4)
+
+same-length : tie.Need-same-length Inv-loop μ-loop
+same-length c = c .before .loop .inv .4 ∙ c .before .before .before .before .clear-groups .kept .0
+
+returns : tie.Need-returns Inv-loop μ-loop
+returns c = rw (← c .before .before .before .before .clear-groups .ensures) (rw (le-antisymm (c .before .loop .inv .0) (c .loop-test .left)) at (c .before .loop .inv .3))
+
+pub walk-all-spec : {M : Type 1} → statement M
+walk-all-spec =
+    tie.close
+    (tie.spec Inv-loop μ-loop clear-groups-requires mul-k-end loop-holds start-at-requires add-k loop-less
+    loop-again same-length returns)

@@ -1,0 +1,89 @@
+-- What the columns stand for in the midst of step 6. Definitions only.
+use Prim.Native.Nat.{ℕ, _+_, _*_, _≤_, _<_}
+use mathlib.Core.Path.{_≡_}
+use mathlib.Core.Bool.{Bool, true, not}
+use mathlib.Core.List.{List, [], _∷_}
+use lib.Dec.{eqb, leb, ltb}
+use lib.ListN.{length, getD}
+use Rattle.tangent.specs.Slot.{flag}
+use Rattle.table.specs.Table.{cell}
+use Rattle.table.specs.Columns.{columns, orientationColumn, anyColumn, groupColumn, metColumn, beginColumn}
+use Rattle.definition.specs.declared.Triangle.{Triangle}
+use Rattle.definition.specs.Mesh.{Third, one, Spot, sameSpot}
+use Rattle.definition.specs.Step5Links.{links}
+use Rattle.definition.specs.Step6Groups.{Mark, grouped, facing}
+use Rattle.view.specs.Frame.{Only}
+use Rattle.view.specs.Rows.{row, spotAt}
+use Rattle.view.specs.Weld.{Welds}
+use Rattle.view.specs.Links.{Linked}
+use Rattle.view.specs.Groups.{numberOf}
+use Rattle.groups.specs.Walk.{State, ungrouped}
+
+-- the columns that the walks write
+abbrev pub walkColumns : List ℕ
+walkColumns = groupColumn ∷ orientationColumn ∷ metColumn ∷ beginColumn ∷ []
+
+-- a corner that stands in a row
+pub record Place (ss : List Triangle) (d : Triangle) (s : Spot) : Type 0 where
+  pub tri : ℕ
+  pub at : Third
+  pub inside : tri < length ss
+  pub is : s ≡ spotAt ss d tri at
+
+-- what the walks only read: vertices, links, `group_with_any`
+pub record Fixed (rows : ℕ) (ss : List Triangle) (d : Triangle) (w : List ℕ) : Type 0 where
+  pub vertex : Welds rows ss d w
+  pub link : Linked rows ss d (links ss) w
+  pub any : (t : ℕ) → t < length ss → eqb (cell rows anyColumn t w) 0 ≡ not (getD ss t d .any)
+
+-- the mark m stands as member j, as the row of its corner; its group's number is group + 1, and groups started at gs
+pub record Stands (rows : ℕ) (ss : List Triangle) (d : Triangle) (gs : List Spot) (w : List ℕ) (j : ℕ) (m : Mark) : Type 0 where
+  pub tri : ℕ
+  pub at : Third
+  pub inside : tri < length ss
+  pub is : m .spot ≡ spotAt ss d tri at
+  pub member : cell rows metColumn j w ≡ row tri at
+  pub group : ℕ
+  pub known : group < length gs
+  pub number : cell rows groupColumn (row tri at) w ≡ group + 1
+  pub start : m .start ≡ getD gs group (spotAt ss d 0 one)
+  pub way : m .orientation ≡ m .start .tri .orientation
+
+-- the orientation's word: a flag, and the triangle has it for a group that has it (so an untouched `group_with_any` one may have any)
+pub record Faces (ms : List Mark) (t : Triangle) (x : ℕ) : Type 0 where
+  pub way : Bool
+  pub word : x ≡ flag way
+  pub is : facing ms t way ≡ way
+
+-- w stands for the marks ms, n of them, of groups that started at gs; w₀ is the list before step 6
+pub record Marked (rows : ℕ) (ss : List Triangle) (d : Triangle) (w₀ : List ℕ) (ms : List Mark) (gs : List Spot) (w : List ℕ) (n : ℕ) : Type 0 where
+  pub fixed : Fixed rows ss d w
+  pub only : Only walkColumns rows w₀ w
+  pub long : columns * rows ≤ length w
+  pub count : n ≡ length ms
+  pub room : n + ungrouped rows w ≤ rows
+  pub group : (t : ℕ) (i : Third) → t < length ss → eqb (cell rows groupColumn (row t i) w) 0 ≡ not (grouped ms (spotAt ss d t i))
+  pub faces : (t : ℕ) → t < length ss → Faces ms (getD ss t d) (cell rows orientationColumn t w)
+  pub stands : (j : ℕ) (e : Mark) → j < length ms → Stands rows ss d gs w j (getD ms j e)
+  pub order : (j k : ℕ) → j ≤ k → k < length ms → numberOf rows w j ≤ numberOf rows w k
+
+-- where groups started: each start is a corner of the triangles, in a group, and no other start
+pub record Starts (ss : List Triangle) (d : Triangle) (ms : List Mark) (gs : List Spot) : Type 0 where
+  pub place : (q : ℕ) → q < length gs → Place ss d (getD gs q (spotAt ss d 0 one))
+  pub in-group : (q : ℕ) → q < length gs → grouped ms (getD gs q (spotAt ss d 0 one)) ≡ true
+  pub apart : (p q : ℕ) → p < length gs → q < length gs → sameSpot (getD gs p (spotAt ss d 0 one)) (getD gs q (spotAt ss d 0 one)) ≡ eqb p q
+
+-- where the members of each group begin, among the marks ms
+pub record Begins (rows groups : ℕ) (ms : List Mark) (w : List ℕ) : Type 0 where
+  pub begin : (q j : ℕ) → q < groups → j < length ms → leb (cell rows beginColumn q w) j ≡ ltb q (numberOf rows w j)
+  pub begun : (q : ℕ) → q < groups → cell rows beginColumn q w < length ms
+  pub number : (q : ℕ) → q < groups → numberOf rows w (cell rows beginColumn q w) ≡ q + 1
+  pub start : (q : ℕ) (e : Mark) → q < groups → getD ms (cell rows beginColumn q w) e .spot ≡ getD ms (cell rows beginColumn q w) e .start
+
+-- the state of the whole step
+pub record Grouped (rows : ℕ) (ss : List Triangle) (d : Triangle) (w₀ : List ℕ) (ms : List Mark) (gs : List Spot) (s : State) : Type 0 where
+  pub marked : Marked rows ss d w₀ ms gs (s .work) (s .members)
+  pub starts : Starts ss d ms gs
+  pub groups : s .groups ≡ length gs
+  pub begins : Begins rows (s .groups) ms (s .work)
+  pub few : s .groups ≤ rows
