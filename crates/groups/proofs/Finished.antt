@@ -18,7 +18,7 @@ use Rattle.table.proofs.Loops.{length-listOf, getD-listOf}
 use Rattle.definition.specs.declared.Corner.{Corner}
 use Rattle.definition.specs.declared.Triangle.{Triangle}
 use Rattle.definition.specs.Lists.{keep, first, has}
-use Rattle.definition.specs.Mesh.{Third, one, two, three, Spot, cornerOf, sameThird, sameTriangle, sameSpot}
+use Rattle.definition.specs.Mesh.{Third, one, two, three, Spot, after, kept as keptAt, cornerOf, sameThird, sameTriangle, sameSpot}
 use Rattle.definition.specs.Step4Order.{welded}
 use Rattle.definition.specs.Step5Links.{links, beyond}
 use Rattle.definition.specs.Step6Groups.{Mark, grouped, wayOf, touched, facing, cornerIn, marks, members}
@@ -26,16 +26,17 @@ use Rattle.laws.proofs.Closed.{and-left, and-right}
 use Rattle.laws.proofs.Mutual.{Names}
 use Rattle.laws.proofs.Weld.{welded-as}
 use Rattle.laws.proofs.Laws.{one-corner, final-way}
+use Rattle.laws.proofs.Sharp.{sharp-own}
 use Rattle.view.specs.Frame.{outside, Only}
 use Rattle.view.specs.Rows.{num, row, spotAt}
-use Rattle.view.specs.Weld.{Welds}
+use Rattle.view.specs.Weld.{Welds, Sharp}
 use Rattle.view.specs.Links.{LinkWord, Linked}
 use Rattle.view.specs.Groups.{numberOf, Member, Grouping}
 use Rattle.view.proofs.Lists.{bool-iff, and-both, every-index}
 use Rattle.view.proofs.Frame.{only-none, only-run, only-more, cell-kept}
 use Rattle.view.proofs.Rows.{row-lt, spot-row}
 use Rattle.groups.specs.Walk.{State, ungrouped, turn, cleared}
-use Rattle.groups.specs.Marks.{walkColumns, Fixed, Stands, Faces, Marked, Starts, Begins, Grouped}
+use Rattle.groups.specs.Marks.{walkColumns, Fixed, Stands, Faces, Marked, Starts, Begins, Grouped, Asked, Walked}
 use Rattle.groups.proofs.Laws.{ungrouped-le}
 use Rattle.groups.proofs.Facing.{any-third, three-or}
 use Rattle.groups.proofs.Turning.{all-turns}
@@ -98,16 +99,7 @@ facing-first t = step (t .any)
     step true = refl
     step false = refl
 
--- what step 6 asks of the columns: vertices, links, and each triangle's `group_with_any` and orientation
-pub record Asked (rows : ℕ) (ss : List Triangle) (d : Triangle) (w : List ℕ) : Type 0 where
-  pub fits : 3 * length ss ≤ rows
-  pub long : columns * rows ≤ length w
-  pub welds : Welds rows ss d w
-  pub linked : Linked rows ss d (links ss) w
-  pub any : (t : ℕ) → t < length ss → eqb (cell rows anyColumn t w) 0 ≡ not (getD ss t d .any)
-  pub way : (t : ℕ) → t < length ss → cell rows orientationColumn t w ≡ flag (getD ss t d .orientation)
-
-module _ (rows : ℕ) (ss : List Triangle) (d : Triangle) (w : List ℕ) (A : Asked rows ss d w) where
+module _ (rows : ℕ) (ss : List Triangle) (d : Triangle) (w : List ℕ) (fits : 3 * length ss ≤ rows) (long : columns * rows ≤ length w) (A : Asked rows ss d w) where
   abbrev u : List ℕ
   u = cleared rows w
 
@@ -115,21 +107,20 @@ module _ (rows : ℕ) (ss : List Triangle) (d : Triangle) (w : List ℕ) (A : As
   only-cleared = only-run (groupColumn ∷ []) rows groupColumn 0 w u (listOf rows (λ _. 0)) refl (omega arith) (omega (arith, length-listOf {S = ℕ} rows (λ _. 0))) refl
 
   fit : (t : ℕ) (i : Third) → t < length ss → row t i < rows
-  fit t i h = let a = A .fits in omega (arith, row-lt t (length ss) i h)
+  fit t i h = omega (arith, row-lt t (length ss) i h)
 
   kept : (k r : ℕ) → outside (groupColumn ∷ []) k ≡ true → r < rows → cell rows k r u ≡ cell rows k r w
   kept k r e h = cell-kept (groupColumn ∷ []) rows w u only-cleared k r e h
 
   empty : (r : ℕ) → r < rows → cell rows groupColumn r u ≡ 0
   empty r h =
-      let l = A .long in
       sym (getD-column rows u groupColumn r h) ∙ (ap (λ (c : List ℕ). getD c r 0) (filled-column rows groupColumn groupColumn (λ _. 0) w (omega arith)) ∙ getD-listOf rows (λ _. 0) 0 r h)
 
   abbrev pub first-state : State
   first-state = record { work = u; groups = 0; members = 0 }
 
   full : columns * rows ≤ length u
-  full = let a = only-cleared .size in let b = A .long in omega arith
+  full = let a = only-cleared .size in omega arith
 
   pub none-grouped : Grouped rows ss d w [] [] first-state
   unfolding grouped has
@@ -138,14 +129,14 @@ module _ (rows : ℕ) (ss : List Triangle) (d : Triangle) (w : List ℕ) (A : As
       fixed = record {
         vertex = λ t₁ t₂ i₁ i₂ h₁ h₂. (λ k. eqb (kept vertexColumn (row t₁ i₁) refl (fit t₁ i₁ h₁) k) (kept vertexColumn (row t₂ i₂) refl (fit t₂ i₂ h₂) k)) ∙ A .welds t₁ t₂ i₁ i₂ h₁ h₂;
         link = λ t i h. subst (LinkWord ss d (beyond (links ss) (spotAt ss d t i))) (sym (kept linkColumn (row t i) refl (fit t i h))) (A .linked t i h);
-        any = λ t h. ap (λ x. eqb x 0) (kept anyColumn t refl (let f = A .fits in omega arith)) ∙ A .any t h;
+        any = λ t h. ap (λ x. eqb x 0) (kept anyColumn t refl (omega arith)) ∙ A .any t h;
       };
       only = only-more (groupColumn ∷ []) walkColumns rows w u refl only-cleared;
       long = full;
       count = refl;
       room = let a = ungrouped-le rows u full in omega arith;
       group = λ t i h. ap (λ x. eqb x 0) (empty (row t i) (fit t i h));
-      faces = λ t h. record { way = getD ss t d .orientation; word = kept orientationColumn t refl (let f = A .fits in omega arith) ∙ A .way t h; is = facing-first (getD ss t d) };
+      faces = λ t h. record { way = getD ss t d .orientation; word = kept orientationColumn t refl (omega arith) ∙ A .way t h; is = facing-first (getD ss t d) };
       stands = λ j e h. absurd (omega arith);
       order = λ j k l h. absurd (omega arith);
     };
@@ -255,19 +246,20 @@ module _ (rows : ℕ) (ss : List Triangle) (d : Triangle) (N : Names ss) (w₀ :
     among = among;
   }
 
--- what the walks leave, for triangles of which no corner is welded to another of the same
-pub record Walked (rows : ℕ) (ss : List Triangle) (d : Triangle) (w : List ℕ) (s : State) : Type 0 where
-  pub only : Only walkColumns rows w (s .work)
-  pub count : s .members ≡ length (marks ss (links ss))
-  pub few : s .groups ≤ rows
-  pub grouping : Grouping rows ss d (marks ss (links ss)) (s .groups) (s .work)
+-- the corner of a sharp triangle that is welded to one of its corners is that corner
+own-corner : (ss : List Triangle) (d : Triangle) → Sharp ss d → (t : ℕ) (i : Third) → t < length ss → cornerIn (cornerOf (spotAt ss d t i)) (getD ss t d) ≡ some (spotAt ss d t i)
+unfolding cornerOf keptAt after
+own-corner ss d S t i h = sharp-own (getD ss t d) (record { ab = S .apart t one h; bc = S .apart t two h; ca = S .apart t three h }) i
 
-pub all-walked : (rows : ℕ) (ss : List Triangle) (d : Triangle) (w : List ℕ) → Names ss → ((t : ℕ) (i : Third) → t < length ss → cornerIn (cornerOf (spotAt ss d t i)) (getD ss t d) ≡ some (spotAt ss d t i)) → Asked rows ss d w → Walked rows ss d w (upTo (3 * length ss) (turn rows) (record { work = cleared rows w; groups = 0; members = 0 }))
-all-walked rows ss d w N sharp A =
-    let r = all-turns rows ss d N (A .fits) w sharp (first-state rows ss d w A) (none-grouped rows ss d w A) refl in
+-- step 6: what the loop over the columns leaves stands for the definition's marks
+pub all-walked : (rows tris : ℕ) (ss : List Triangle) (d : Triangle) (w u : List ℕ) (groups count : ℕ) → length ss ≡ tris → 3 * tris ≤ rows → columns * rows ≤ length w → Names ss → Sharp ss d → Asked rows ss d w → record { work = u; groups = groups; members = count } ≡ upTo (3 * tris) (turn rows) (record { work = cleared rows w; groups = 0; members = 0 }) → Walked rows ss d w u groups count
+all-walked rows tris ss d w u groups count n fits long N S A e =
+    let fit : 3 * length ss ≤ rows = omega arith in
+    let r = all-turns rows ss d N fit w (own-corner ss d S) (first-state rows ss d w fit long A) (none-grouped rows ss d w fit long A) refl in
+    let same : upTo (3 * length ss) (turn rows) (first-state rows ss d w fit long A) ≡ record { work = u; groups = groups; members = count } = ap (λ (m : ℕ). upTo (3 * m) (turn rows) (first-state rows ss d w fit long A)) n ∙ sym e in
+    let R = subst (Grouped rows ss d w (marks ss (links ss)) (r .0)) same (r .1) in
     record {
-      only = r .1 .marked .only;
-      count = r .1 .marked .count;
-      few = r .1 .few;
-      grouping = grouping rows ss d N w (r .0) _ (r .1);
+      only = R .marked .only;
+      count-is = R .marked .count;
+      grouping = grouping rows ss d N w (r .0) _ R;
     }

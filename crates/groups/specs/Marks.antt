@@ -11,12 +11,12 @@ use Rattle.table.specs.Columns.{columns, orientationColumn, anyColumn, groupCol
 use Rattle.definition.specs.declared.Triangle.{Triangle}
 use Rattle.definition.specs.Mesh.{Third, one, Spot, sameSpot}
 use Rattle.definition.specs.Step5Links.{links}
-use Rattle.definition.specs.Step6Groups.{Mark, grouped, facing}
+use Rattle.definition.specs.Step6Groups.{Mark, grouped, facing, marks}
 use Rattle.view.specs.Frame.{Only}
 use Rattle.view.specs.Rows.{row, spotAt}
 use Rattle.view.specs.Weld.{Welds}
 use Rattle.view.specs.Links.{Linked}
-use Rattle.view.specs.Groups.{numberOf}
+use Rattle.view.specs.Groups.{numberOf, Grouping}
 use Rattle.groups.specs.Walk.{State, ungrouped}
 
 -- the columns that the walks write
@@ -87,3 +87,18 @@ pub record Grouped (rows : ℕ) (ss : List Triangle) (d : Triangle) (w₀ : List
   pub groups : s .groups ≡ length gs
   pub begins : Begins rows (s .groups) ms (s .work)
   pub few : s .groups ≤ rows
+
+-- ---- the whole step
+
+-- what step 6 asks of the columns: vertices, links, and each triangle's `group_with_any` and orientation
+pub record Asked (rows : ℕ) (ss : List Triangle) (d : Triangle) (w : List ℕ) : Type 0 where
+  pub welds : Welds rows ss d w
+  pub linked : Linked rows ss d (links ss) w
+  pub any : (t : ℕ) → t < length ss → eqb (cell rows anyColumn t w) 0 ≡ not (getD ss t d .any)
+  pub way : (t : ℕ) → t < length ss → cell rows orientationColumn t w ≡ flag (getD ss t d .orientation)
+
+-- what it leaves, from the list w to u: the definition's marks, in so many groups
+pub record Walked (rows : ℕ) (ss : List Triangle) (d : Triangle) (w u : List ℕ) (groups count : ℕ) : Type 0 where
+  pub only : Only walkColumns rows w u
+  pub count-is : count ≡ length (marks ss (links ss))
+  pub grouping : Grouping rows ss d (marks ss (links ss)) groups u

@@ -2,11 +2,16 @@
 // Carried over from mikktspace.rs (build_4_rule_groups, assign_to_group_recursive) of the Rust crate bevy_mikktspace and ALTERED: written anew in Rattle, a corner step and a side step. See NOTICE.
 // The two call each other, up to 2F - 1 deep for F faces.
 ghost use mathlib.Core.Path.{_≡_};
+ghost use mathlib.Core.List.{List};
 ghost use Prim.Native.Nat.{ℕ, _+_, _*_, _/_, _<_, _≤_};
 ghost use lib.ListN.{length};
 ghost use Rattle.table.specs.Columns.{columns, linkColumn};
 ghost use Rattle.table.specs.Table.{cell};
 ghost use Rattle.table.specs.Loop.{upTo};
+ghost use Rattle.definition.specs.declared.Triangle.{Triangle};
+ghost use Rattle.laws.proofs.Mutual.{Names};
+ghost use Rattle.view.specs.Weld.{Sharp};
+ghost use Rattle.groups.specs.Marks.{Asked, Walked};
 ghost use Rattle.groups.specs.Walk as spec;
 use neighbors::Link;
 
@@ -175,7 +180,8 @@ fn clear_groups(work: &mut [u32], rows: usize)
 // All groups, in triangle and corner order.
 fn walk_all(work: &mut [u32], rows: usize, tris: usize) -> Counts
     requires { ⌜ (3 * tris ≤ rows) × (columns * rows ≤ length (now work)) × (rows < 4294967295) × ((r : ℕ) → r < 3 * tris → cell rows linkColumn r (now work) ≤ 3 * tris) ⌝ }
-    ensures { λ r. ⌜ spec.state (now (work .exit)) r ≡ upTo (3 * tris) (spec.turn rows) (spec.state (spec.cleared rows (now (work .entry))) (record { groups = 0; members = 0 })) ⌝ }
+    ensures is { λ r. ⌜ spec.state (now (work .exit)) r ≡ upTo (3 * tris) (spec.turn rows) (spec.state (spec.cleared rows (now (work .entry))) (record { groups = 0; members = 0 })) ⌝ }
+    ensures few { λ r. ⌜ (r .groups ≤ 3 * tris) × (r .members ≤ rows) ⌝ }
 {
     let mut s = Counts {
         groups: 0,
@@ -186,4 +192,13 @@ fn walk_all(work: &mut [u32], rows: usize, tris: usize) -> Counts
         s = start_at(work, rows, tris, k, s);
     }
     s
+}
+
+// Step 6: the corners of sound triangles in groups.
+pub fn build_4_rule_groups(work: &mut [u32], rows: usize, tris: usize) -> Counts
+    requires { ⌜ (3 * tris ≤ rows) × (columns * rows ≤ length (now work)) × (rows < 4294967295) × ((r : ℕ) → r < 3 * tris → cell rows linkColumn r (now work) ≤ 3 * tris) ⌝ }
+    ensures grouped { λ r. ⌜ ((ss : List Triangle) (d : Triangle) → length ss ≡ tris → Names ss → Sharp ss d → Asked rows ss d (now (work .entry)) → Walked rows ss d (now (work .entry)) (now (work .exit)) (r .groups) (r .members)) ⌝ }
+    ensures few { λ r. ⌜ (r .groups ≤ 3 * tris) × (r .members ≤ rows) ⌝ }
+{
+    walk_all(work, rows, tris)
 }

@@ -49,7 +49,9 @@ same-length : tie.Need-same-length Inv-loop μ-loop
 same-length c = c .before .loop .inv .4 ∙ c .before .before .before .before .clear-groups .kept .0
 
 returns : tie.Need-returns Inv-loop μ-loop
-returns c = rw (← c .before .before .before .before .clear-groups .ensures) (rw (le-antisymm (c .before .loop .inv .0) (c .loop-test .left)) at (c .before .loop .inv .3))
+returns c =
+    let l = c .before .loop .inv in
+    (rw (← c .before .before .before .before .clear-groups .ensures) (rw (le-antisymm (l .0) (c .loop-test .left)) at (l .3)), (omega (arith, l .0, l .1), omega (arith, l .2 .room)))
 
 pub walk-all-spec : {M : Type 1} → statement M
 walk-all-spec =
