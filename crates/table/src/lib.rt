@@ -1,5 +1,10 @@
 // The lent work list seen as a table: COLUMNS columns of 6F rows, since a face gives at most two triangles, six corners.
 // The cell of a column at a row is word column * rows + row. Each column has its name here and in specs/Columns.antt.
+ghost use mathlib.Core.Path.{_≡_};
+ghost use Prim.Native.Nat.{_*_, _≤_, _<_};
+ghost use lib.ListN.{length};
+ghost use Rattle.table.specs.Columns.{columns};
+ghost use Rattle.table.specs.Table.{filledTo};
 
 // How many columns there are: 21 times 6F words are 126F of the 128F that are lent.
 pub const COLUMNS: usize = 21;
@@ -65,3 +70,13 @@ pub const NEXT: usize = 20;
 
 // Where each group's members begin among all of them; the welding's buckets are done with by then.
 pub const BEGIN: usize = 19;
+
+// A column of zeros.
+pub fn clear(work: &mut [u32], rows: usize, column: usize)
+    requires { ⌜ (column < columns) × (columns * rows ≤ length (now work)) ⌝ }
+    ensures { λ _. ⌜ now (work .exit) ≡ filledTo rows column (λ _. 0) (now (work .entry)) rows ⌝ }
+{
+    for r in 0..rows {
+        work[column * rows + r] = 0;
+    }
+}

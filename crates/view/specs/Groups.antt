@@ -1,16 +1,18 @@
 -- The columns of groups: step 6. Definitions only.
 use Prim.Native.Nat.{ℕ, _+_, _*_, _≤_, _<_}
 use mathlib.Core.Path.{_≡_}
-use mathlib.Core.Bool.{Bool, not, _||_}
+use mathlib.Core.Bool.{Bool, cond, not, _||_}
 use mathlib.Core.List.{List}
 use lib.Dec.{eqb, leb, ltb}
 use lib.ListN.{length, getD}
+use lib.Seq.{slice}
 use Rattle.tangent.specs.Slot.{flag}
-use Rattle.table.specs.Table.{cell}
-use Rattle.table.specs.Columns.{orientationColumn, groupColumn, metColumn, beginColumn}
+use Rattle.table.specs.Table.{cell, column}
+use Rattle.table.specs.Loop.{listOf}
+use Rattle.table.specs.Columns.{orientationColumn, groupColumn, metColumn, orderColumn, beginColumn}
 use Rattle.definition.specs.declared.Corner.{Corner}
 use Rattle.definition.specs.declared.Triangle.{Triangle}
-use Rattle.definition.specs.Lists.{has}
+use Rattle.definition.specs.Lists.{keep, has}
 use Rattle.definition.specs.Mesh.{Third, one, two, three, cornerOf, sameTriangle, sameSpot}
 use Rattle.definition.specs.Step4Order.{welded}
 use Rattle.definition.specs.Step6Groups.{Mark, grouped, members}
@@ -51,3 +53,11 @@ pub record Grouping (rows : ℕ) (ss : List Triangle) (d : Triangle) (ms : List 
   pub free : (t : ℕ) (i : Third) → t < length ss → eqb (cell rows groupColumn (row t i) w) 0 ≡ not (grouped ms (spotAt ss d t i))
   -- whether a triangle has a corner in member j's group
   pub among : (j : ℕ) (e : Mark) (t : ℕ) → j < length ms → t < length ss → has (λ k. sameTriangle (k .spot .tri) (getD ss t d)) (members ms (getD ms j e)) ≡ (eqb (cell rows groupColumn (row t one) w) (numberOf rows w j) || (eqb (cell rows groupColumn (row t two) w) (numberOf rows w j) || eqb (cell rows groupColumn (row t three) w) (numberOf rows w j)))
+
+-- where the members of group number q + 1 begin, and past the last group where all members end
+abbrev pub beginAt : ℕ → ℕ → ℕ → List ℕ → ℕ → ℕ
+beginAt rows groups count w q = cond (ltb q groups) (cell rows beginColumn q w) count
+
+-- the members of each group in triangle order: the rows of its corners, in rising order
+abbrev pub InOrder : ℕ → List Triangle → ℕ → ℕ → List ℕ → Type 0
+InOrder rows ss groups count w = (q : ℕ) → q < groups → slice (beginAt rows groups count w q) (beginAt rows groups count w (q + 1)) (column rows orderColumn w) ≡ keep (λ r. eqb (cell rows groupColumn r w) (q + 1)) (listOf (3 * length ss) (λ k. k))

@@ -1,0 +1,4 @@
+pub mod Laws
+pub mod Stretches
+pub mod Ordering
+pub mod Whole
