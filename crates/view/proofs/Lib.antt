@@ -3,3 +3,4 @@ pub mod Frame
 pub mod Rows
 pub mod Weld
 pub mod Records
+pub mod Groups

@@ -1,0 +1,43 @@
+// Steps 1 to 6, one after the other: from the lists handed in to the groups of corners, as met and in triangle order.
+ghost use mathlib.Core.Path.{_≡_};
+ghost use Prim.Native.Nat.{_*_, _≤_};
+ghost use lib.ListN.{length};
+ghost use Rattle.definition.specs.Handed.{meshFrom};
+ghost use Rattle.definition.specs.Limits.{faceLimit};
+ghost use Rattle.definition.specs.Triangles.{triangles};
+ghost use Rattle.definition.specs.Frames.{numbered};
+ghost use Rattle.table.specs.Columns.{columns, rowsOf};
+ghost use Rattle.grouped.specs.Grouped.{Left};
+
+// How many triangles are sound, and how many there are; how many groups there are, and members of them all.
+pub struct Counts {
+    pub sound: usize,
+    pub all: usize,
+    pub groups: u32,
+    pub members: usize,
+}
+
+// Steps 1 to 6 of lists that aren't refused. The walk of step 6 goes up to 2F - 1 corners deep for F faces.
+pub fn group_mesh(
+    sizes: &[u8],
+    positions: &[f32],
+    normals: &[f32],
+    texture: &[f32],
+    work: &mut [u32],
+) -> Counts
+    requires { ⌜ (length (now sizes) ≤ faceLimit) × (columns * rowsOf (length (now sizes)) ≤ length (now work)) ⌝ }
+    ensures { λ r. ⌜ Left (now (sizes .entry)) (now (positions .entry)) (now (normals .entry)) (now (texture .entry)) (triangles (numbered 0 (meshFrom (now (positions .entry)) (now (normals .entry)) (now (texture .entry)) 0 (now (sizes .entry))))) r (now (work .entry)) (now (work .exit)) ⌝ }
+{
+    let rows = 6 * sizes.len();
+    let triangles = links::link_mesh(sizes, positions, normals, texture, work);
+    let counts = groups::build_4_rule_groups(work, rows, triangles.sound);
+    let met = counts.groups;
+    let members = counts.members;
+    members::order_members(work, rows, counts);
+    Counts {
+        sound: triangles.sound,
+        all: triangles.all,
+        groups: met,
+        members,
+    }
+}

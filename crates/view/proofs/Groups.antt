@@ -1,0 +1,67 @@
+-- Stores in other columns leave the groups. Assumes nothing.
+use Prim.Native.Nat.{ℕ, _+_, _*_, _≤_, _<_}
+use native.Mathlib.Omega.{arith}
+use mathlib.Core.Path.{_≡_, refl, sym, _∙_, ap, subst}
+use mathlib.Core.Bool.{true, false, _||_}
+use mathlib.Core.List.{List, [], _∷_}
+use lib.Dec.{eqb, leb, ltb}
+use lib.ListN.{length, getD}
+use Rattle.table.specs.Table.{cell}
+use Rattle.table.specs.Columns.{orientationColumn, groupColumn, metColumn, beginColumn}
+use Rattle.definition.specs.declared.Triangle.{Triangle}
+use Rattle.definition.specs.Mesh.{Third, one, two, three}
+use Rattle.definition.specs.Step6Groups.{Mark}
+use Rattle.view.specs.Frame.{outside, disjoint, Only}
+use Rattle.view.specs.Rows.{row}
+use Rattle.view.specs.Groups.{numberOf, Member, Grouping}
+use Rattle.view.proofs.Frame.{apart, cell-kept}
+use Rattle.view.proofs.Rows.{row-lt}
+
+-- the columns of the groups
+abbrev pub groupColumns : List ℕ
+groupColumns = groupColumn ∷ metColumn ∷ orientationColumn ∷ beginColumn ∷ []
+
+module _ (rows : ℕ) (ss : List Triangle) (d : Triangle) (ms : List Mark) (groups : ℕ) (ks w u : List ℕ) (c : disjoint groupColumns ks ≡ true) (fits : 3 * length ss ≤ rows) (room : groups ≤ rows) (O : Only ks rows w u) (G : Grouping rows ss d ms groups w) where
+  kept : (k r : ℕ) → outside groupColumns k ≡ false → r < rows → cell rows k r u ≡ cell rows k r w
+  kept k r e h = cell-kept ks rows w u O k r (apart groupColumns ks c k e) h
+
+  fit : (t : ℕ) (i : Third) → t < length ss → row t i < rows
+  fit t i h = omega (arith, row-lt t (length ss) i h)
+
+  -- the numbers of the members stand
+  number-kept : (j : ℕ) (e : Mark) → j < length ms → numberOf rows u j ≡ numberOf rows w j
+  number-kept j e h =
+      let M = G .member j e h in
+      ap (λ r. cell rows groupColumn r u) (kept metColumn j refl (omega (arith, h, G .few)) ∙ M .member) ∙ (kept groupColumn (row (M .tri) (M .at)) refl (fit (M .tri) (M .at) (M .inside)) ∙ ap (λ r. cell rows groupColumn r w) (sym (M .member)))
+
+  begin-kept : (q : ℕ) → q < groups → cell rows beginColumn q u ≡ cell rows beginColumn q w
+  begin-kept q h = kept beginColumn q refl (omega arith)
+
+  group-kept : (t : ℕ) (i : Third) → t < length ss → cell rows groupColumn (row t i) u ≡ cell rows groupColumn (row t i) w
+  group-kept t i h = kept groupColumn (row t i) refl (fit t i h)
+
+  pub grouping-kept : Mark → Grouping rows ss d ms groups u
+  grouping-kept m₀ = record {
+    few = G .few;
+    member = λ j e h.
+        let M = G .member j e h in
+        record {
+          tri = M .tri;
+          at = M .at;
+          inside = M .inside;
+          is = M .is;
+          member = kept metColumn j refl (omega (arith, h, G .few)) ∙ M .member;
+          way = kept orientationColumn (M .tri) refl (omega (arith, M .inside)) ∙ M .way;
+          some = subst (λ x. 0 < x) (sym (number-kept j e h)) (M .some);
+          known = subst (λ x. x ≤ groups) (sym (number-kept j e h)) (M .known);
+          vertex = M .vertex;
+        };
+    order = λ j k l h. subst (λ x. x ≤ numberOf rows u k) (sym (number-kept j m₀ (omega arith))) (subst (λ x. numberOf rows w j ≤ x) (sym (number-kept k m₀ h)) (G .order j k l h));
+    same = λ j k e h l. (λ z. eqb (number-kept j e h z) (number-kept k e l z)) ∙ G .same j k e h l;
+    begin = λ q j h l. (λ z. leb (begin-kept q h z) j) ∙ (G .begin q j h l ∙ ap (ltb q) (sym (number-kept j m₀ l)));
+    begun = λ q h. subst (λ x. x < length ms) (sym (begin-kept q h)) (G .begun q h);
+    number = λ q h. ap (numberOf rows u) (begin-kept q h) ∙ (number-kept (cell rows beginColumn q w) m₀ (G .begun q h) ∙ G .number q h);
+    start = λ q e h. subst (λ x. getD ms x e .spot ≡ getD ms x e .start) (sym (begin-kept q h)) (G .start q e h);
+    free = λ t i h. ap (λ x. eqb x 0) (group-kept t i h) ∙ G .free t i h;
+    among = λ j e t h l. G .among j e t h l ∙ sym (λ z. eqb (group-kept t one l z) (number-kept j e h z) || (eqb (group-kept t two l z) (number-kept j e h z) || eqb (group-kept t three l z) (number-kept j e h z)));
+  }
