@@ -3,7 +3,8 @@
 //! `bench check STEP` compares every STEP-th of the 2^32 patterns (and every 16th of those with a table of its own for each
 //! angle, which is slow) and prints how many differed (exit status 1 if any);
 //! `bench desk MESHES ANSWERS` compares the desk with the oracle's answers (tools/desk makes both files);
-//! `bench steps MESHES` compares the columns that steps 1 to 5 leave with a plain model's (tools/steps makes the file);
+//! `bench steps MESHES` compares the columns that steps 1 to 6 leave with a plain model's (tools/steps makes the file);
+//! `bench deep KIB` does the same with the deepest walk of 4,096 faces in a thread of so many KiB;
 //! `bench time` prints nanoseconds a call and the ratio to the processor's, all measured in one run.
 mod desk;
 mod files;
@@ -199,13 +200,14 @@ fn main() {
         ["check", step] => check(step.parse().expect("STEP is a number above 0")),
         ["desk", meshes, answers] => desk::check(meshes, answers),
         ["steps", meshes] => steps::check(meshes),
+        ["deep", kib] => steps::deep(kib.parse().expect("KIB is a number")),
         ["time"] => {
             time();
             steps::time();
             true
         }
         _ => {
-            eprintln!("usage: bench check STEP | bench desk MESHES ANSWERS | bench steps MESHES | bench time");
+            eprintln!("usage: bench check STEP | bench desk MESHES ANSWERS | bench steps MESHES | bench deep KIB | bench time");
             std::process::exit(2);
         }
     };

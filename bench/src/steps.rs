@@ -1,4 +1,4 @@
-//! Steps 1 to 5 of the proved archive beside a plain model, written from document 01: every word of the columns that they leave.
+//! Steps 1 to 6 of the proved archive beside a plain model, written from document 01: every word of the columns that they leave.
 use crate::desk::judged;
 use crate::files::{Call, Words};
 use crate::word;
@@ -8,7 +8,7 @@ use std::time::Instant;
 
 unsafe extern "C" {
     // a slice passes as a pointer and a length
-    fn export_links(
+    fn export_groups(
         sizes: *const u8,
         faces: usize,
         positions: *const f32,
@@ -33,6 +33,10 @@ const ORIENTATION: usize = 8;
 const ANY: usize = 9;
 const VERTEX: usize = 10;
 const LINK: usize = 11;
+const GROUP: usize = 12;
+const MET: usize = 13;
+const ORDER: usize = 17;
+const BEGIN: usize = 19;
 
 type Vector = [f32; 3];
 
@@ -147,7 +151,7 @@ fn pieces(face: usize, corners: &[Corner]) -> Vec<Triangle> {
     }
 }
 
-/// What the plain model says of steps 1 to 5: triangles in their order, how many are sound, vertices and links by row.
+/// What the plain model says of steps 1 to 6: triangles in their order, how many are sound, vertices and links by row; each corner's group, and the members of each group as they were met.
 struct Model {
     triangles: Vec<Triangle>,
     sound: usize,
@@ -155,6 +159,8 @@ struct Model {
     links: Vec<u32>,
     corner_starts: Vec<usize>,
     slot_starts: Vec<usize>,
+    group: Vec<u32>,
+    members: Vec<Vec<usize>>,
 }
 
 fn model(call: &Call) -> Model {
@@ -198,16 +204,48 @@ fn model(call: &Call) -> Model {
             links[u] = r as u32 + 1;
         }
     }
-    Model { triangles, sound, vertices, links, corner_starts, slot_starts }
+    let mut model = Model { triangles, sound, vertices, links, corner_starts, slot_starts, group: vec![0; 3 * sound], members: vec![] };
+    for r in 0..3 * sound {
+        if !model.triangles[r / 3].any && model.group[r] == 0 {
+            model.members.push(vec![]);
+            let way = model.triangles[r / 3].orientation;
+            walk(&mut model, r, way);
+        }
+    }
+    model
 }
 
-/// The archive's columns, and how many triangles are sound and there are.
-fn columns(call: &Call) -> (Vec<u32>, usize, usize) {
+/// The walk of the last group, of orientation `way`, enters corner r: the side before the corner first, and over a side to the same corner beyond.
+fn walk(m: &mut Model, r: usize, way: bool) {
+    let t = r / 3;
+    if m.group[r] != 0 {
+        return;
+    }
+    if m.triangles[t].any && m.group[3 * t..3 * t + 3] == [0; 3] {
+        m.triangles[t].orientation = way;
+    }
+    if m.triangles[t].orientation != way {
+        return;
+    }
+    m.group[r] = m.members.len() as u32;
+    m.members.last_mut().unwrap().push(r);
+    for side in [3 * t + (r + 2) % 3, r] {
+        if m.links[side] != 0 {
+            let beyond = (m.links[side] as usize - 1) / 3;
+            if let Some(same) = (3 * beyond..3 * beyond + 3).find(|&c| m.vertices[c] == m.vertices[r]) {
+                walk(m, same, way);
+            }
+        }
+    }
+}
+
+/// The archive's columns, and how many triangles are sound and there are, how many groups and members.
+fn columns(call: &Call) -> (Vec<u32>, [usize; 4]) {
     let [positions, normals, texture] = call.numbers();
     let mut work: Vec<u32> = (0x5A5A_0000u32..).take(128 * call.sizes.len()).collect();
     // the lists are Rust's own, and each is handed over with its own length
     let counts = unsafe {
-        export_links(
+        export_groups(
             call.sizes.as_ptr(),
             call.sizes.len(),
             positions.as_ptr(),
@@ -220,7 +258,7 @@ fn columns(call: &Call) -> (Vec<u32>, usize, usize) {
             work.len(),
         )
     };
-    (work, (counts >> 32) as usize, counts as u32 as usize)
+    (work, [48, 32, 16, 0].map(|shift| (counts >> shift) as u16 as usize))
 }
 
 /// The words that the model asks for: column, row, word.
@@ -241,38 +279,98 @@ fn expected(m: &Model) -> Vec<(usize, usize, u32)> {
         words.push((ANY, t, u32::from(x.any)));
     }
     words.extend(m.links.iter().enumerate().map(|(r, &l)| (LINK, r, l)));
+    words.extend(m.group.iter().enumerate().map(|(r, &g)| (GROUP, r, g)));
+    let mut begin = 0;
+    for (q, met) in m.members.iter().enumerate() {
+        words.push((BEGIN, q, begin as u32));
+        let mut sorted = met.clone();
+        sorted.sort();
+        for (j, (&r, &s)) in met.iter().zip(&sorted).enumerate() {
+            words.push((MET, begin + j, r as u32));
+            words.push((ORDER, begin + j, s as u32));
+        }
+        begin += met.len();
+    }
     words
+}
+
+/// The four counts of the model.
+fn tally(m: &Model) -> [usize; 4] {
+    [m.sound, m.triangles.len(), m.members.len(), m.members.iter().map(Vec::len).sum()]
+}
+
+/// The first word that differs from the model's (column, row, word), if one does.
+fn wrong(call: &Call, m: &Model) -> Option<String> {
+    let (work, found) = columns(call);
+    let rows = 6 * call.sizes.len();
+    if found != tally(m) {
+        return Some(format!("counts {found:?}, expected {:?}", tally(m)));
+    }
+    if (126 * call.sizes.len()..work.len()).any(|i| work[i] != 0x5A5A_0000 + i as u32) {
+        return Some("a word past the columns".into());
+    }
+    let word = expected(m).into_iter().find(|&(column, row, word)| work[column * rows + row] != word)?;
+    Some(format!("expected (column, row, word) {word:?}"))
 }
 
 /// Compares the columns with the model on every accepted mesh of an ext file.
 pub fn check(meshes: &str) -> bool {
     let meshes = read(meshes).expect("the meshes");
     let mut meshes = Words(&meshes);
-    let (mut compared, mut words, mut sides, mut linked, mut broken, mut differed) = (0u64, 0u64, 0u64, 0u64, 0u64, 0u64);
+    let (mut compared, mut differed, mut linked) = (0u64, 0u64, 0usize);
+    let mut sums = [0usize; 4];
     while !meshes.0.is_empty() {
         let call = Call { answer: usize::MAX, work: usize::MAX, ..meshes.call() };
         if judged(&call).0 != 0 {
             continue;
         }
-        let (m, (work, sound, all)) = (model(&call), columns(&call));
-        let rows = 6 * call.sizes.len();
-        let wanted = expected(&m);
-        let wrong = wanted.iter().find(|&&(column, row, word)| work[column * rows + row] != word);
-        let past = (126 * call.sizes.len()..work.len()).any(|i| work[i] != 0x5A5A_0000 + i as u32);
-        if wrong.is_some() || past || (sound, all) != (m.sound, m.triangles.len()) {
+        let m = model(&call);
+        if let Some(what) = wrong(&call, &m) {
             if differed == 0 {
-                println!("mesh {compared}: expected (column, row, word) {wrong:?}; {sound} of {all} sound, expected {} of {}; past the columns: {past}", m.sound, m.triangles.len());
+                println!("mesh {compared}: {what}");
             }
             differed += 1;
         }
         compared += 1;
-        words += wanted.len() as u64;
-        sides += m.links.len() as u64;
-        linked += m.links.iter().filter(|&&l| l != 0).count() as u64;
-        broken += (m.triangles.len() - m.sound) as u64;
+        sums.iter_mut().zip(tally(&m)).for_each(|(sum, count)| *sum += count);
+        linked += m.links.iter().filter(|&&l| l != 0).count();
     }
-    println!("steps 1 to 5 against a plain model: {compared} meshes, {words} words, {sides} sides, {linked} of them linked, {broken} degenerate triangles; {differed} differed");
+    let [sound, all, groups, members] = sums;
+    println!("steps 1 to 6 against a plain model: {compared} meshes, {all} triangles, {sound} of them sound, {linked} of their sides linked, {groups} groups of {members} corners; {differed} differed");
     differed == 0 && compared > 0
+}
+
+/// The deepest walk for so many faces: a sound triangle starts a group at a hub, and quads follow that are cut through the hub and go with any group.
+fn deepest(faces: usize) -> Call {
+    let turn = |i: usize| i as f64 / (faces + 1) as f64 * std::f64::consts::TAU;
+    let rim = |i: usize| [turn(i).cos() as f32, turn(i).sin() as f32, 0.0, if i % 2 == 0 { 1.0 } else { -1.0 }, 0.0];
+    let out = |i: usize| [(1.5 * turn(i).cos()) as f32, (1.5 * turn(i).sin()) as f32, 0.5, 0.0, 0.0];
+    let hub = [0.0; 5];
+    let mut call = Call { sizes: vec![], lists: [vec![], vec![], vec![]], threshold: 0, answer: usize::MAX, work: usize::MAX };
+    let mut face = |corners: &[[f32; 5]]| {
+        call.sizes.push(corners.len() as u8);
+        for c in corners {
+            call.lists[0].extend([c[0], c[1], c[2]].map(f32::to_bits));
+            call.lists[1].extend([0f32, 0.0, 1.0].map(f32::to_bits));
+            call.lists[2].extend([c[3], c[4]].map(f32::to_bits));
+        }
+    };
+    let [x, y, z, u, _] = rim(0);
+    face(&[hub, [x, y, z, u, 1.0], rim(1)]);
+    for i in 1..faces {
+        face(&[hub, rim(i), out(i), rim(i + 1)]);
+    }
+    call
+}
+
+/// Runs the deepest walk of 4,096 faces in a thread of so many KiB, and compares it with the model: its largest group has 8,191 corners.
+pub fn deep(kib: usize) -> bool {
+    let call = deepest(4096);
+    let m = std::thread::scope(|s| std::thread::Builder::new().stack_size(256 << 20).spawn_scoped(s, || model(&call)).unwrap().join().unwrap());
+    let largest = m.members.iter().map(Vec::len).max().unwrap();
+    let what = std::thread::scope(|s| std::thread::Builder::new().stack_size(kib << 10).spawn_scoped(s, || wrong(&call, &m)).unwrap().join().unwrap());
+    println!("the deepest walk of 4,096 faces in a thread of {kib} KiB: a group of {largest} corners; {}", what.as_deref().unwrap_or("as the model has it"));
+    what.is_none() && largest == 8191
 }
 
 /// A mesh of so many triangles: between two corners, each with a third of its own, all run the same way, or every other one the opposite way.
@@ -303,13 +401,14 @@ fn sheet(side: usize) -> Call {
     Call { sizes: vec![4; side * side], lists, threshold: 0, answer: usize::MAX, work: usize::MAX }
 }
 
-/// The least time of five runs of steps 1 to 5, in milliseconds, on meshes of a quarter, a half and the whole of 4,096 faces.
+/// The least time of five runs of steps 1 to 6, in milliseconds, on meshes of a quarter, a half and the whole of 4,096 faces.
 pub fn time() {
-    println!("steps 1 to 5, milliseconds, and the ratio to half as many faces:");
+    println!("steps 1 to 6, milliseconds, and the ratio to half as many faces:");
     for (name, make) in [
         ("sheet of quads", (|f: usize| sheet((f as f64).sqrt() as usize)) as fn(usize) -> Call),
         ("book, all one way", |f| book(f, false)),
         ("book, both ways", |f| book(f, true)),
+        ("the deepest walk", deepest),
     ] {
         let mut last = f64::NAN;
         for faces in [1024, 2048, 4096] {

@@ -53,9 +53,9 @@ pub extern "C" fn export_judge(
     (v.number as u64) * 0x1_0000_0000 + v.place as u64
 }
 
-// Steps 1 to 5 on the columns of the work list; how many triangles are sound times 2 ^ 32, and how many there are. Lists that refusal 1 or 6 would catch are left as they are.
+// Steps 1 to 6 on the columns of the work list. Four numbers of 16 bits: how many triangles are sound and there are, how many groups and members. Lists that refusal 1 or 6 would catch are left as they are.
 #[no_mangle]
-pub extern "C" fn export_links(
+pub extern "C" fn export_groups(
     sizes: &[u8],
     positions: &[f32],
     normals: &[f32],
@@ -68,6 +68,8 @@ pub extern "C" fn export_links(
     if work.len() < 128 * sizes.len() {
         return 0;
     }
-    let counts = links::link_mesh(sizes, positions, normals, texture, work);
-    (counts.sound as u64) * 0x1_0000_0000 + counts.all as u64
+    let c = grouped::group_mesh(sizes, positions, normals, texture, work);
+    let triangles = (c.sound as u64 % 0x1_0000) * 0x1_0000 + c.all as u64 % 0x1_0000;
+    let corners = (c.groups as u64 % 0x1_0000) * 0x1_0000 + c.members as u64 % 0x1_0000;
+    triangles * 0x1_0000_0000 + corners
 }
