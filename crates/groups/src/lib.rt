@@ -167,16 +167,6 @@ fn start_at(work: &mut [u32], rows: usize, tris: usize, k: usize, s: Counts) -> 
     }
 }
 
-// No corner is in a group.
-fn clear_groups(work: &mut [u32], rows: usize)
-    requires { ⌜ columns * rows ≤ length (now work) ⌝ }
-    ensures { λ _. ⌜ now (work .exit) ≡ spec.cleared rows (now (work .entry)) ⌝ }
-{
-    for r in 0..rows {
-        work[table::GROUP * rows + r] = 0;
-    }
-}
-
 // All groups, in triangle and corner order.
 fn walk_all(work: &mut [u32], rows: usize, tris: usize) -> Counts
     requires { ⌜ (3 * tris ≤ rows) × (columns * rows ≤ length (now work)) × (rows < 4294967295) × ((r : ℕ) → r < 3 * tris → cell rows linkColumn r (now work) ≤ 3 * tris) ⌝ }
@@ -187,7 +177,7 @@ fn walk_all(work: &mut [u32], rows: usize, tris: usize) -> Counts
         groups: 0,
         members: 0,
     };
-    clear_groups(work, rows);
+    table::clear(work, rows, table::GROUP);
     for k in 0..3 * tris {
         s = start_at(work, rows, tris, k, s);
     }

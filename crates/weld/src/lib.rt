@@ -6,8 +6,8 @@ ghost use mathlib.Core.List.{List};
 ghost use Prim.Native.Nat.{ℕ, _+_, _*_, _<_, _≤_};
 ghost use lib.ListN.{length};
 ghost use Rattle.bits.specs.Word.{word};
-ghost use Rattle.table.specs.Columns.{columns, cornerColumn, headColumn, nextColumn};
-ghost use Rattle.table.specs.Table.{column, filledTo};
+ghost use Rattle.table.specs.Columns.{columns, cornerColumn, nextColumn};
+ghost use Rattle.table.specs.Table.{column};
 ghost use Rattle.definition.specs.declared.Triangle.{Triangle};
 ghost use Rattle.definition.specs.Step4Order.{sameBits, sameVector, welded};
 ghost use Rattle.view.specs.Frame.{Only};
@@ -91,16 +91,6 @@ fn corner_of(
     mesh::corner_at(positions, normals, texture, work[table::CORNER * rows + r])
 }
 
-// Makes every bucket empty.
-fn clear(work: &mut [u32], rows: usize)
-    requires { ⌜ columns * rows ≤ length (now work) ⌝ }
-    ensures { λ _. ⌜ now (work .exit) ≡ filledTo rows headColumn (λ _. 0) (now (work .entry)) rows ⌝ }
-{
-    for b in 0..rows {
-        work[table::HEAD * rows + b] = 0;
-    }
-}
-
 // The first row of a chain whose corner has the bits of c, and one; 0 where there is none.
 fn find(
     work: &[u32],
@@ -175,7 +165,7 @@ pub fn weld(
     requires { ⌜ (n ≤ rows) × (columns * rows ≤ length (now work)) × (rows < 4294967295) ⌝ }
     ensures { λ _. ⌜ spec.Welded rows n (now (positions .entry)) (now (normals .entry)) (now (texture .entry)) (now (work .entry)) (now (work .exit)) × ((sizes : List ℕ) (xs : List Triangle) (d : Triangle) → 3 * length xs ≡ n → Held rows sizes (now (positions .entry)) (now (normals .entry)) (now (texture .entry)) xs d (now (work .entry)) → Vertices rows xs d (now (work .exit))) ⌝ }
 {
-    clear(work, rows);
+    table::clear(work, rows, table::HEAD);
     for r in 0..n {
         turn(work, rows, r as u32, positions, normals, texture);
     }

@@ -18,8 +18,8 @@ Inv-loop work₀ rows tris s₀ k₀ k-end work s k = (k ≤ k-end) × (s .group
 abbrev μ-loop : tie.MeasureT-loop
 μ-loop work₀ rows tris s₀ k₀ k-end work s k = k-end - k
 
-clear-groups-requires : tie.Need-clear-groups-requires Inv-loop μ-loop
-clear-groups-requires c κs = search needs
+clear-requires : tie.Need-clear-requires Inv-loop μ-loop
+clear-requires c κs = search needs
 
 mul-k-end : tie.Need-mul-k-end Inv-loop μ-loop
 mul-k-end c = search needs
@@ -28,7 +28,7 @@ loop-holds : tie.Need-loop-holds Inv-loop μ-loop
 loop-holds c =
     let start = c .before .before .before .before .before in
     let ready = ready-cleared (start .args .rows) (start .args .tris) (start .args .work .now) (start .pre .0) (start .pre .1) (start .pre .2) (start .pre .3) in
-    (omega arith, omega arith, subst (Ready (start .args .rows) (start .args .tris) 1 0) (sym (c .before .before .clear-groups .ensures)) ready, upTo-none _ _, refl)
+    (omega arith, omega arith, subst (Ready (start .args .rows) (start .args .tris) 1 0) (sym (c .before .before .clear .ensures)) ready, upTo-none _ _, refl)
 
 start-at-requires : tie.Need-start-at-requires Inv-loop μ-loop
 start-at-requires c κs = search needs
@@ -46,15 +46,15 @@ loop-again c =
     (omega arith, one .ensures .few, one .ensures .ready, one .ensures .is ∙ ap (turn _ _) (loop .inv .3) ∙ upTo-more _ _ _, one .kept .0 ∙ loop .inv .4)
 
 same-length : tie.Need-same-length Inv-loop μ-loop
-same-length c = c .before .loop .inv .4 ∙ c .before .before .before .before .clear-groups .kept .0
+same-length c = c .before .loop .inv .4 ∙ c .before .before .before .before .clear .kept .0
 
 returns : tie.Need-returns Inv-loop μ-loop
 returns c =
     let l = c .before .loop .inv in
-    (rw (← c .before .before .before .before .clear-groups .ensures) (rw (le-antisymm (l .0) (c .loop-test .left)) at (l .3)), (omega (arith, l .0, l .1), omega (arith, l .2 .room)))
+    (rw (← c .before .before .before .before .clear .ensures) (rw (le-antisymm (l .0) (c .loop-test .left)) at (l .3)), (omega (arith, l .0, l .1), omega (arith, l .2 .room)))
 
 pub walk-all-spec : {M : Type 1} → statement M
 walk-all-spec =
     tie.close
-    (tie.spec Inv-loop μ-loop clear-groups-requires mul-k-end loop-holds start-at-requires add-k loop-less
+    (tie.spec Inv-loop μ-loop clear-requires mul-k-end loop-holds start-at-requires add-k loop-less
     loop-again same-length returns)
