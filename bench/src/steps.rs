@@ -1,4 +1,4 @@
-//! Steps 1 to 6 of the proved archive beside a plain model, written from document 01: every word of the columns that they leave.
+//! Steps 1 to 6 of the proved archive beside a plain model, written from document 01: every word that stands for a triangle, a link or a group.
 use crate::desk::judged;
 use crate::files::{Call, Words};
 use crate::word;
@@ -264,6 +264,7 @@ fn columns(call: &Call) -> (Vec<u32>, [usize; 4]) {
 /// The words that the model asks for: column, row, word.
 fn expected(m: &Model) -> Vec<(usize, usize, u32)> {
     let mut words = vec![];
+    // the orientations of degenerate triangles are step 3's
     for (t, x) in m.triangles.iter().enumerate() {
         for i in 0..3 {
             let r = 3 * t + i;
@@ -340,37 +341,33 @@ pub fn check(meshes: &str) -> bool {
     differed == 0 && compared > 0
 }
 
-/// The deepest walk for so many faces: a sound triangle starts a group at a hub, and quads follow that are cut through the hub and go with any group.
+/// The deepest walk for so many faces: quads round a hub, each cut through it, so that all 2F triangles have a corner there and one orientation.
 fn deepest(faces: usize) -> Call {
-    let turn = |i: usize| i as f64 / (faces + 1) as f64 * std::f64::consts::TAU;
-    let rim = |i: usize| [turn(i).cos() as f32, turn(i).sin() as f32, 0.0, if i % 2 == 0 { 1.0 } else { -1.0 }, 0.0];
-    let out = |i: usize| [(1.5 * turn(i).cos()) as f32, (1.5 * turn(i).sin()) as f32, 0.5, 0.0, 0.0];
-    let hub = [0.0; 5];
-    let mut call = Call { sizes: vec![], lists: [vec![], vec![], vec![]], threshold: 0, answer: usize::MAX, work: usize::MAX };
-    let mut face = |corners: &[[f32; 5]]| {
-        call.sizes.push(corners.len() as u8);
-        for c in corners {
-            call.lists[0].extend([c[0], c[1], c[2]].map(f32::to_bits));
-            call.lists[1].extend([0f32, 0.0, 1.0].map(f32::to_bits));
-            call.lists[2].extend([c[3], c[4]].map(f32::to_bits));
-        }
+    let at = |turns: f64, radius: f64| {
+        let angle = turns / (faces + 1) as f64 * std::f64::consts::TAU;
+        [(radius * angle.cos()) as f32, (radius * angle.sin()) as f32]
     };
-    let [x, y, z, u, _] = rim(0);
-    face(&[hub, [x, y, z, u, 1.0], rim(1)]);
-    for i in 1..faces {
-        face(&[hub, rim(i), out(i), rim(i + 1)]);
+    let mut call = Call { sizes: vec![4; faces], lists: [vec![], vec![], vec![]], threshold: 0, answer: usize::MAX, work: usize::MAX };
+    for f in 0..faces {
+        let turn = f as f64;
+        // the diagonal through the hub is a quarter of the other one
+        for [x, y] in [[0.0, 0.0], at(turn, 1.0), at(turn + 0.5, 0.25 * std::f64::consts::TAU / (faces + 1) as f64), at(turn + 1.0, 1.0)] {
+            call.lists[0].extend([x, y, 0.0].map(f32::to_bits));
+            call.lists[1].extend([0f32, 0.0, 1.0].map(f32::to_bits));
+            call.lists[2].extend([x, y].map(f32::to_bits));
+        }
     }
     call
 }
 
-/// Runs the deepest walk of 4,096 faces in a thread of so many KiB, and compares it with the model: its largest group has 8,191 corners.
+/// Runs the deepest walk of 4,096 faces in a thread of so many KiB, and compares it with the model: its largest group has 8,192 corners.
 pub fn deep(kib: usize) -> bool {
     let call = deepest(4096);
     let m = std::thread::scope(|s| std::thread::Builder::new().stack_size(256 << 20).spawn_scoped(s, || model(&call)).unwrap().join().unwrap());
     let largest = m.members.iter().map(Vec::len).max().unwrap();
     let what = std::thread::scope(|s| std::thread::Builder::new().stack_size(kib << 10).spawn_scoped(s, || wrong(&call, &m)).unwrap().join().unwrap());
     println!("the deepest walk of 4,096 faces in a thread of {kib} KiB: a group of {largest} corners; {}", what.as_deref().unwrap_or("as the model has it"));
-    what.is_none() && largest == 8191
+    what.is_none() && largest == 8192
 }
 
 /// A mesh of so many triangles: between two corners, each with a third of its own, all run the same way, or every other one the opposite way.

@@ -28,12 +28,12 @@ use Rattle.view.specs.Weld.{Sharp}
 use Rattle.view.specs.Links.{Five}
 use Rattle.view.specs.Groups.{Grouping, InOrder}
 use Rattle.view.specs.Rows.{spotAt}
-use Rattle.view.proofs.Frame.{only-trans, only-more}
+use Rattle.view.proofs.Frame.{only-trans, only-more, cell-kept}
 use Rattle.view.proofs.Groups.{grouping-kept}
 use Rattle.view.proofs.Records.{any-is}
 use Rattle.view.proofs.Weld.{welds, sound-welds}
-use Rattle.links.specs.Links.{linkedColumns}
-use Rattle.links.specs.Links as five
+use Rattle.linked.specs.Links.{linkedColumns}
+use Rattle.linked.specs.Links as five
 use Rattle.groups.specs.Marks.{walkColumns, Asked, Walked}
 use Rattle.members.specs.Members.{orderColumns}
 use Rattle.grouped.specs.declared.Counts.{Counts}
@@ -79,6 +79,7 @@ module _ (sizes : List ℕ) (ps ns ts : List Float) (n m groups count : ℕ) (w 
             only = U;
             members = W .count-is;
             grouping = grouping-kept rows ss d (marks ss (links ss)) groups orderColumns v z refl fit few O (W .grouping) (mark (spotAt ss d 0 one) (spotAt ss d 0 one));
+            rest = λ t l r. cell-kept orderColumns rows v z O orientationColumn t refl r ∙ W .rest t l r;
             in-order = ordered ss d fit (F .names) (W .count-is) (W .grouping);
           },
           only-trans sixColumns rows w u z (only-more linkedColumns sixColumns rows w u refl (L .only)) (only-more groupedColumns sixColumns rows u z refl U),

@@ -17,7 +17,7 @@ pub struct Counts {
     pub members: usize,
 }
 
-// Steps 1 to 6 of lists that aren't refused. The walk of step 6 goes up to 2F - 1 corners deep for F faces.
+// Steps 1 to 6; the columns are spoken for where no corner is bad. The walk of step 6 goes up to 2F corners deep for F faces.
 pub fn group_mesh(
     sizes: &[u8],
     positions: &[f32],
@@ -29,7 +29,7 @@ pub fn group_mesh(
     ensures { λ r. ⌜ Left (now (sizes .entry)) (now (positions .entry)) (now (normals .entry)) (now (texture .entry)) (triangles (numbered 0 (meshFrom (now (positions .entry)) (now (normals .entry)) (now (texture .entry)) 0 (now (sizes .entry))))) r (now (work .entry)) (now (work .exit)) ⌝ }
 {
     let rows = 6 * sizes.len();
-    let triangles = links::link_mesh(sizes, positions, normals, texture, work);
+    let triangles = linked::link_mesh(sizes, positions, normals, texture, work);
     let counts = groups::build_4_rule_groups(work, rows, triangles.sound);
     let met = counts.groups;
     let members = counts.members;

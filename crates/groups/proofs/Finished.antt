@@ -136,7 +136,8 @@ module _ (rows : ℕ) (ss : List Triangle) (d : Triangle) (w : List ℕ) (fits :
       count = refl;
       room = let a = ungrouped-le rows u full in omega arith;
       group = λ t i h. ap (λ x. eqb x 0) (empty (row t i) (fit t i h));
-      faces = λ t h. record { way = getD ss t d .orientation; word = kept orientationColumn t refl (omega arith) ∙ A .way t h; is = facing-first (getD ss t d) };
+      faces = λ t h. record { way = getD ss t d .orientation; word = kept orientationColumn t refl (omega arith) ∙ A .way t h; is = facing-first (getD ss t d); own = facing-first (getD ss t d) };
+      rest = λ t l r. kept orientationColumn t refl r;
       stands = λ j e h. absurd (omega arith);
       order = λ j k l h. absurd (omega arith);
     };
@@ -243,6 +244,7 @@ module _ (rows : ℕ) (ss : List Triangle) (d : Triangle) (N : Names ss) (w₀ :
     number = R .begins .number;
     start = R .begins .start;
     free = R .marked .group;
+    way = λ t h. let F = R .marked .faces t h in F .word ∙ ap flag (sym (F .own));
     among = among;
   }
 
@@ -262,4 +264,5 @@ all-walked rows tris ss d w u groups count n fits long N S A e =
       only = R .marked .only;
       count-is = R .marked .count;
       grouping = grouping rows ss d N w (r .0) _ R;
+      rest = R .marked .rest;
     }

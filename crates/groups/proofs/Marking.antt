@@ -172,7 +172,7 @@ module _ (rows : ℕ) (ss : List Triangle) (d : Triangle) (N : Names ss) (fits :
       where
         step : (b : Bool) → eqb t t′ ≡ b → Faces (ms ++ (m ∷ [])) (getD ss t′ d) (cell rows orientationColumn t′ u)
         step true e =
-            let new : Faces (ms ++ (m ∷ [])) (getD ss t d) (cell rows orientationColumn t u) = record { way = g .tri .orientation; word = way-at ∙ oe; is = settled-new ms g (spotAt ss d t i) go-on .way (g .tri .orientation) } in
+            let new : Faces (ms ++ (m ∷ [])) (getD ss t d) (cell rows orientationColumn t u) = record { way = g .tri .orientation; word = way-at ∙ oe; is = settled-new ms g (spotAt ss d t i) go-on .way (g .tri .orientation); own = settled-new ms g (spotAt ss d t i) go-on .way (getD ss t d .orientation) } in
             subst (λ x. Faces (ms ++ (m ∷ [])) (getD ss x d) (cell rows orientationColumn x u)) (eqb-true t t′ e) new
         step false e =
             let F = R .faces t′ h′ in
@@ -180,6 +180,7 @@ module _ (rows : ℕ) (ss : List Triangle) (d : Triangle) (N : Names ss) (fits :
               way = F .way;
               word = way-kept t′ (omega arith) (λ z. eqb-false t t′ e (sym z)) ∙ F .word;
               is = facing-other ms m (getD ss t′ d) (F .way) (index-same N t t′ d h h′ ∙ e) ∙ F .is;
+              own = facing-other ms m (getD ss t′ d) (getD ss t′ d .orientation) (index-same N t t′ d h h′ ∙ e) ∙ F .own;
             }
 
     -- a member's corner is none that is in no group
@@ -292,6 +293,7 @@ module _ (rows : ℕ) (ss : List Triangle) (d : Triangle) (N : Names ss) (fits :
       room = let a = grown in let b = R .room in omega arith;
       group = group;
       faces = faces;
+      rest = λ t′ l r. way-kept t′ r (λ z. omega arith) ∙ R .rest t′ l r;
       stands = stands;
       order = order;
     }

@@ -72,6 +72,7 @@ module _ (rows : ℕ) (ss : List Triangle) (d : Triangle) (N : Names ss) (fits :
     room = R .room;
     group = R .group;
     faces = R .faces;
+    rest = R .rest;
     stands = λ j e h. more-stands gs s w j (getD ms j e) (R .stands j e h);
     order = R .order;
   }
@@ -172,6 +173,7 @@ module _ (rows : ℕ) (ss : List Triangle) (d : Triangle) (N : Names ss) (fits :
       room = subst (λ l. n + zeros l ≤ rows) (sym (O .others groupColumn refl)) (R .room);
       group = λ t i h. ap (λ x. eqb x 0) (cell-moved groupColumn (row t i) refl (fit t i h)) ∙ R .group t i h;
       faces = λ t h. subst (Faces ms (getD ss t d)) (sym (cell-moved orientationColumn t refl (omega arith))) (R .faces t h);
+      rest = λ t l r. cell-moved orientationColumn t refl r ∙ R .rest t l r;
       stands = stands-moved;
       order = λ j k l h. subst (λ x. x ≤ numberOf rows u k) (sym (number-moved j m₀ (omega arith))) (subst (λ x. numberOf rows w j ≤ x) (sym (number-moved k m₀ h)) (R .order j k l h));
     }

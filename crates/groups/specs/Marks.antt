@@ -49,11 +49,12 @@ pub record Stands (rows : ℕ) (ss : List Triangle) (d : Triangle) (gs : List Sp
   pub start : m .start ≡ getD gs group (spotAt ss d 0 one)
   pub way : m .orientation ≡ m .start .tri .orientation
 
--- the orientation's word: a flag, and the triangle has it for a group that has it (so an untouched `group_with_any` one may have any)
+-- the orientation's word: a flag; the triangle has it for a group that has it, and by itself, so that an untouched `group_with_any` one keeps its own
 pub record Faces (ms : List Mark) (t : Triangle) (x : ℕ) : Type 0 where
   pub way : Bool
   pub word : x ≡ flag way
   pub is : facing ms t way ≡ way
+  pub own : facing ms t (t .orientation) ≡ way
 
 -- w stands for the marks ms, n of them, of groups that started at gs; w₀ is the list before step 6
 pub record Marked (rows : ℕ) (ss : List Triangle) (d : Triangle) (w₀ : List ℕ) (ms : List Mark) (gs : List Spot) (w : List ℕ) (n : ℕ) : Type 0 where
@@ -64,6 +65,7 @@ pub record Marked (rows : ℕ) (ss : List Triangle) (d : Triangle) (w₀ : List 
   pub room : n + ungrouped rows w ≤ rows
   pub group : (t : ℕ) (i : Third) → t < length ss → eqb (cell rows groupColumn (row t i) w) 0 ≡ not (grouped ms (spotAt ss d t i))
   pub faces : (t : ℕ) → t < length ss → Faces ms (getD ss t d) (cell rows orientationColumn t w)
+  pub rest : (t : ℕ) → length ss ≤ t → t < rows → cell rows orientationColumn t w ≡ cell rows orientationColumn t w₀
   pub stands : (j : ℕ) (e : Mark) → j < length ms → Stands rows ss d gs w j (getD ms j e)
   pub order : (j k : ℕ) → j ≤ k → k < length ms → numberOf rows w j ≤ numberOf rows w k
 
@@ -102,3 +104,5 @@ pub record Walked (rows : ℕ) (ss : List Triangle) (d : Triangle) (w u : List �
   pub only : Only walkColumns rows w u
   pub count-is : count ≡ length (marks ss (links ss))
   pub grouping : Grouping rows ss d (marks ss (links ss)) groups u
+  -- the orientations of other triangles stand
+  pub rest : (t : ℕ) → length ss ≤ t → t < rows → cell rows orientationColumn t u ≡ cell rows orientationColumn t w

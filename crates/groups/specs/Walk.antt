@@ -103,8 +103,7 @@ pub record Ready (rows tris g n : ℕ) (w : List ℕ) : Type 0 where
   pub room : n + ungrouped rows w ≤ rows
   pub links : (k : ℕ) → k < 3 * tris → cell rows linkColumn k w ≤ 3 * tris
 
--- what a step from s to u ensures: it is what the definition says, at any depth above the number of ungrouped corners; each member is one
--- corner less, and the links stand
+-- what a step from s to u ensures: it is what `said` gives at any depth above the number of ungrouped corners; each member is one ungrouped corner less, and the links stand
 pub record Steps (rows : ℕ) (s u : Walk) (said : ℕ → Walk) : Type 0 where
   pub is : (n : ℕ) → ungrouped rows (s .work) < n → u ≡ said n
   pub fewer : ungrouped rows (u .work) ≤ ungrouped rows (s .work)

@@ -1,6 +1,6 @@
 // Step 6: corners of sound triangles are grouped by walks over linked sides.
 // Carried over from mikktspace.rs (build_4_rule_groups, assign_to_group_recursive) of the Rust crate bevy_mikktspace and ALTERED: written anew in Rattle, a corner step and a side step. See NOTICE.
-// The two call each other, up to 2F - 1 deep for F faces.
+// The two call each other, up to 2F corners deep for F faces, and one call more that stops.
 ghost use mathlib.Core.Path.{_≡_};
 ghost use mathlib.Core.List.{List};
 ghost use Prim.Native.Nat.{ℕ, _+_, _*_, _/_, _<_, _≤_};
@@ -98,7 +98,7 @@ fn enter_at(
 
 // ---- the walk
 
-// From a corner of triangle t over its two sides, the side before the corner first. The result is the number of members.
+// From a corner of triangle t over its two sides, the side before the corner first. The result is the number of members of all groups so far.
 fn corner_step(
     work: &mut [u32],
     rows: usize,

@@ -19,10 +19,11 @@ use Rattle.neighbors.specs.Links.{sameEnds}
 unfoldable pub endRow : ℕ → ℕ
 endRow r = cond (eqb (r % 3) 2) (r - 2) (r + 1)
 
--- the lower and the higher of the vertices in which the side of row r ends
+-- the lower of the vertices in which the side of row r ends
 abbrev pub lowerEnd : ℕ → List ℕ → ℕ → ℕ
 lowerEnd rows w r = min (cell rows vertexColumn r w) (cell rows vertexColumn (endRow r) w)
 
+-- the higher one
 abbrev pub higherEnd : ℕ → List ℕ → ℕ → ℕ
 higherEnd rows w r = max (cell rows vertexColumn r w) (cell rows vertexColumn (endRow r) w)
 

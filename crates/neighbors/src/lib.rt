@@ -1,4 +1,4 @@
-// The side beyond each side: step 5 on the columns of the work list, in a number of steps that is linear in the sides.
+// The side beyond each side: step 5 on the columns of the work list, by a sort and then a number of steps that is linear in the sides.
 // Carried over from mikktspace.rs (build_neighbors_fast) of the Rust crate bevy_mikktspace and ALTERED: written anew in Rattle. See NOTICE.
 ghost use mathlib.Core.Path.{_≡_};
 ghost use mathlib.Core.List.{List, [], _∷_};

@@ -65,7 +65,7 @@ groupColumn = 12
 abbrev pub metColumn : ℕ
 metColumn = 13
 
--- the lower of the two vertices in which a side ends
+-- the lower of the two vertices in which a side ends; 0 while members are sorted
 abbrev pub lowerColumn : ℕ
 lowerColumn = 15
 
@@ -73,7 +73,7 @@ lowerColumn = 15
 abbrev pub higherColumn : ℕ
 higherColumn = 16
 
--- the rows of the sides, in their order
+-- the rows of the sides, in their order; after step 6 the members of each group, in triangle order (column 14 is unused)
 abbrev pub orderColumn : ℕ
 orderColumn = 17
 

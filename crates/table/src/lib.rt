@@ -50,13 +50,13 @@ pub const GROUP: usize = 12;
 // The members of the groups, as rows of corners: groups in the order they started, members as they were met.
 pub const MET: usize = 13;
 
-// The lower of the two vertices in which a side ends.
+// The lower of the two vertices in which a side ends; 0 while members are sorted.
 pub const LOWER: usize = 15;
 
 // The higher one.
 pub const HIGHER: usize = 16;
 
-// The rows of the sides, in their order.
+// The rows of the sides, in their order; after step 6 the members of each group, in triangle order. (Column 14 is unused.)
 pub const ORDER: usize = 17;
 
 // What the sort works in.

@@ -63,5 +63,6 @@ module _ (rows : ℕ) (ss : List Triangle) (d : Triangle) (ms : List Mark) (grou
     number = λ q h. ap (numberOf rows u) (begin-kept q h) ∙ (number-kept (cell rows beginColumn q w) m₀ (G .begun q h) ∙ G .number q h);
     start = λ q e h. subst (λ x. getD ms x e .spot ≡ getD ms x e .start) (sym (begin-kept q h)) (G .start q e h);
     free = λ t i h. ap (λ x. eqb x 0) (group-kept t i h) ∙ G .free t i h;
+    way = λ t h. kept orientationColumn t refl (omega arith) ∙ G .way t h;
     among = λ j e t h l. G .among j e t h l ∙ sym (λ z. eqb (group-kept t one l z) (number-kept j e h z) || (eqb (group-kept t two l z) (number-kept j e h z) || eqb (group-kept t three l z) (number-kept j e h z)));
   }

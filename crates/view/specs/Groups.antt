@@ -15,7 +15,7 @@ use Rattle.definition.specs.declared.Triangle.{Triangle}
 use Rattle.definition.specs.Lists.{keep, has}
 use Rattle.definition.specs.Mesh.{Third, one, two, three, cornerOf, sameTriangle, sameSpot}
 use Rattle.definition.specs.Step4Order.{welded}
-use Rattle.definition.specs.Step6Groups.{Mark, grouped, members}
+use Rattle.definition.specs.Step6Groups.{Mark, grouped, facing, members}
 use Rattle.view.specs.Rows.{row, spotAt}
 
 -- the number of the group of member j, from 1 on
@@ -49,8 +49,10 @@ pub record Grouping (rows : ℕ) (ss : List Triangle) (d : Triangle) (ms : List 
   pub begun : (q : ℕ) → q < groups → cell rows beginColumn q w < length ms
   pub number : (q : ℕ) → q < groups → numberOf rows w (cell rows beginColumn q w) ≡ q + 1
   pub start : (q : ℕ) (e : Mark) → q < groups → getD ms (cell rows beginColumn q w) e .spot ≡ getD ms (cell rows beginColumn q w) e .start
-  -- the group of each corner, or that it is in none
+  -- a corner's word is 0 exactly where it is in no group
   pub free : (t : ℕ) (i : Third) → t < length ss → eqb (cell rows groupColumn (row t i) w) 0 ≡ not (grouped ms (spotAt ss d t i))
+  -- the final orientation of each triangle: of a `group_with_any` one that of the group that touched it first, or its own where none did
+  pub way : (t : ℕ) → t < length ss → cell rows orientationColumn t w ≡ flag (facing ms (getD ss t d) (getD ss t d .orientation))
   -- whether a triangle has a corner in member j's group
   pub among : (j : ℕ) (e : Mark) (t : ℕ) → j < length ms → t < length ss → has (λ k. sameTriangle (k .spot .tri) (getD ss t d)) (members ms (getD ms j e)) ≡ (eqb (cell rows groupColumn (row t one) w) (numberOf rows w j) || (eqb (cell rows groupColumn (row t two) w) (numberOf rows w j) || eqb (cell rows groupColumn (row t three) w) (numberOf rows w j)))
 

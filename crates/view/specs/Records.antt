@@ -1,4 +1,4 @@
--- A triangle in the columns: 23 words, in the three rows of its number or in the one. Definitions only.
+-- A triangle in the columns: 20 words, in the three rows of its number or in the one. Definitions only.
 use Prim.Native.Nat.{ℕ, _+_, _*_, _<_}
 use mathlib.Core.Path.{_≡_}
 use mathlib.Core.Bool.{Bool}

@@ -1,7 +1,7 @@
 -- `grouped::group_mesh` meets its contract. Assumes nothing.
 use native.Mathlib.Omega.{arith}
 use denote.Ref.{now}
-use Rattle.links.proofs.Joined.{left-room}
+use Rattle.linked.proofs.Joined.{left-room}
 use Rattle.grouped.proofs.Joined.{joined}
 use borrow.Author.Needs.{needs}
 use Rattle.grouped.proofs.group_mesh.Statement.{statement}

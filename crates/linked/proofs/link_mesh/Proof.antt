@@ -1,10 +1,10 @@
--- `links::link_mesh` meets its contract. Assumes nothing.
+-- `linked::link_mesh` meets its contract. Assumes nothing.
 use native.Mathlib.Omega.{arith}
 use denote.Ref.{now}
-use Rattle.links.proofs.Joined.{sound-room, left}
+use Rattle.linked.proofs.Joined.{sound-room, left}
 use borrow.Author.Needs.{needs}
-use Rattle.links.proofs.link_mesh.Statement.{statement}
-use Rattle.links.proofs.link_mesh.Tie as tie
+use Rattle.linked.proofs.link_mesh.Statement.{statement}
+use Rattle.linked.proofs.link_mesh.Tie as tie
 
 mul-rows : tie.Need-mul-rows
 mul-rows c = search needs

@@ -32,7 +32,7 @@ use Rattle.view.proofs.Weld.{welds, sound-welds, mesh-sharp}
 use Rattle.listing.specs.Listing.{Listed}
 use Rattle.weld.specs.Welding.{weldColumns, Welded}
 use Rattle.neighbors.specs.Sides.{stepColumns}
-use Rattle.links.specs.Links.{linkedColumns, Left}
+use Rattle.linked.specs.Links.{linkedColumns, Left}
 
 -- there is room for the sound triangles' sides
 pub sound-room : (sizes : List ℕ) (ps ns ts : List Float) (xs : List Triangle) (n m : ℕ) (w u : List ℕ) → Listed sizes ps ns ts xs n m w u → 3 * n ≤ rowsOf (length sizes)

@@ -7,10 +7,10 @@ ghost use Rattle.definition.specs.Limits.{faceLimit};
 ghost use Rattle.definition.specs.Triangles.{triangles};
 ghost use Rattle.definition.specs.Frames.{numbered};
 ghost use Rattle.table.specs.Columns.{columns, rowsOf};
-ghost use Rattle.links.specs.Links.{Left};
+ghost use Rattle.linked.specs.Links.{Left};
 use listing::Counts;
 
-// Steps 1 to 5 of lists that aren't refused.
+// Steps 1 to 5; the columns are spoken for where no corner is bad.
 pub fn link_mesh(
     sizes: &[u8],
     positions: &[f32],
