@@ -29,7 +29,7 @@ pub fn group_mesh(
     ensures { λ r. ⌜ Left (now (sizes .entry)) (now (positions .entry)) (now (normals .entry)) (now (texture .entry)) (triangles (numbered 0 (meshFrom (now (positions .entry)) (now (normals .entry)) (now (texture .entry)) 0 (now (sizes .entry))))) r (now (work .entry)) (now (work .exit)) ⌝ }
 {
     let rows = 6 * sizes.len();
-    let triangles = linked::link_mesh(sizes, positions, normals, texture, work);
+    let triangles = linked::link_mesh(positions, normals, texture, sizes, work);
     let counts = groups::build_4_rule_groups(work, rows, triangles.sound);
     let met = counts.groups;
     let members = counts.members;

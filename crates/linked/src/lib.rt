@@ -12,10 +12,10 @@ use listing::Counts;
 
 // Steps 1 to 5; the columns are spoken for where no corner is bad.
 pub fn link_mesh(
-    sizes: &[u8],
     positions: &[f32],
     normals: &[f32],
     texture: &[f32],
+    sizes: &[u8],
     work: &mut [u32],
 ) -> Counts
     requires { ⌜ (length (now sizes) ≤ faceLimit) × (columns * rowsOf (length (now sizes)) ≤ length (now work)) ⌝ }

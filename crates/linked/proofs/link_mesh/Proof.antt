@@ -35,9 +35,9 @@ returns c =
     let k = e .before .before .before .before in
     let l = k .before .before .before .before .before in
     let s = l .before .before .before .before .before .before .before in
-    let p = l .before .before .before .before .before in
+    let p = l .before .before .before .before .before .before in
     let a = s .args in
-    left (now (a .sizes)) (now (a .positions)) (now (a .normals)) (now (a .texture)) (l .list-triangles .result .sound) (l .list-triangles .result .all) (now (a .work)) _ _ _ (l .list-triangles .ensures) (k .weld .ensures .0) (k .weld .ensures .1) (e .link-sides .ensures .0) (e .link-sides .ensures .1 .0) (e .link-sides .ensures .1 .1) (λ i. p .shared-slice-known2 .given i)
+    left (now (a .sizes)) (now (a .positions)) (now (a .normals)) (now (a .texture)) (l .list-triangles .result .sound) (l .list-triangles .result .all) (now (a .work)) _ _ _ (l .list-triangles .ensures) (k .weld .ensures .0) (k .weld .ensures .1) (e .link-sides .ensures .0) (e .link-sides .ensures .1 .0) (e .link-sides .ensures .1 .1) (λ i. p .shared-slice-known .given i)
 
 pub link-mesh-spec : {M : Type 1} → statement M
 link-mesh-spec =
