@@ -188,6 +188,14 @@ module _ (rows : ℕ) (ss : List Triangle) (d : Triangle) (N : Names ss) (w₀ :
       (λ q. let a = eqb-true (S .group) (T .group) q in let b = number-is j e h in let c = number-is k e l in eq-eqb (numberOf rows w j) (numberOf rows w k) (omega arith))
       (λ q. let a = eqb-true (numberOf rows w j) (numberOf rows w k) q in let b = number-is j e h in let c = number-is k e l in eq-eqb (S .group) (T .group) (omega arith))))
 
+  -- members of one number have one start
+  one-start : (j k : ℕ) (e : Mark) → j < length ms → k < length ms → numberOf rows w j ≡ numberOf rows w k → getD ms j e .start ≡ getD ms k e .start
+  one-start j k e h l z =
+      let S = R .marked .stands j e h in
+      let T = R .marked .stands k e l in
+      let g : S .group ≡ T .group = let b = number-is j e h in let c = number-is k e l in omega arith in
+      S .start ∙ (ap (λ q. getD gs q (spotAt ss d 0 one)) g ∙ sym (T .start))
+
   -- the row of a mark whose corner has a name
   row-of : (l : ℕ) (e : Mark) (t : ℕ) (i : Third) → l < length ms → t < length ss → sameSpot (getD ms l e .spot) (spotAt ss d t i) ≡ true → cell rows metColumn l w ≡ row t i
   row-of l e t i h k q =
@@ -239,6 +247,7 @@ module _ (rows : ℕ) (ss : List Triangle) (d : Triangle) (N : Names ss) (w₀ :
     member = member;
     order = R .marked .order;
     same = same;
+    one-start = one-start;
     begin = R .begins .begin;
     begun = R .begins .begun;
     number = R .begins .number;

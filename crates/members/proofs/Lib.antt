@@ -2,3 +2,4 @@ pub mod Laws
 pub mod Stretches
 pub mod Ordering
 pub mod Whole
+pub mod Triangles

@@ -136,7 +136,7 @@ module _ (rows : ℕ) (ss : List Triangle) (d : Triangle) (groups : ℕ) (w : Li
       true≢false (sym (spot-refl (getD ms j some-mark .spot)) ∙ (ap (sameSpot (getD ms j some-mark .spot)) spots ∙ once-at (at-most-one ss) j k some-mark h l))
 
   -- a corner in a group is a member
-  member-of : (r : ℕ) → r < n → (cell rows groupColumn r w ≡ 0 → ⊥) → (j : ℕ) × (j < length ms) × (met j ≡ r)
+  pub member-of : (r : ℕ) → r < n → (cell rows groupColumn r w ≡ 0 → ⊥) → (j : ℕ) × (j < length ms) × (met j ≡ r)
   unfolding grouped
   member-of r h ne =
       let t = r / 3 in

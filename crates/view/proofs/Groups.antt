@@ -58,6 +58,7 @@ module _ (rows : ℕ) (ss : List Triangle) (d : Triangle) (ms : List Mark) (grou
         };
     order = λ j k l h. subst (λ x. x ≤ numberOf rows u k) (sym (number-kept j m₀ (omega arith))) (subst (λ x. numberOf rows w j ≤ x) (sym (number-kept k m₀ h)) (G .order j k l h));
     same = λ j k e h l. (λ z. eqb (number-kept j e h z) (number-kept k e l z)) ∙ G .same j k e h l;
+    one-start = λ j k e h l z. G .one-start j k e h l (sym (number-kept j e h) ∙ (z ∙ number-kept k e l));
     begin = λ q j h l. (λ z. leb (begin-kept q h z) j) ∙ (G .begin q j h l ∙ ap (ltb q) (sym (number-kept j m₀ l)));
     begun = λ q h. subst (λ x. x < length ms) (sym (begin-kept q h)) (G .begun q h);
     number = λ q h. ap (numberOf rows u) (begin-kept q h) ∙ (number-kept (cell rows beginColumn q w) m₀ (G .begun q h) ∙ G .number q h);

@@ -43,6 +43,7 @@ pub record Grouping (rows : ℕ) (ss : List Triangle) (d : Triangle) (ms : List 
   pub order : (j k : ℕ) → j ≤ k → k < length ms → numberOf rows w j ≤ numberOf rows w k
   -- equal numbers, one group
   pub same : (j k : ℕ) (e : Mark) → j < length ms → k < length ms → eqb (numberOf rows w j) (numberOf rows w k) ≡ sameSpot (getD ms j e .start) (getD ms k e .start)
+  pub one-start : (j k : ℕ) (e : Mark) → j < length ms → k < length ms → numberOf rows w j ≡ numberOf rows w k → getD ms j e .start ≡ getD ms k e .start
   -- the members of group number q + 1 begin where the column says: those from there on are of that group or a later one
   pub begin : (q j : ℕ) → q < groups → j < length ms → leb (cell rows beginColumn q w) j ≡ ltb q (numberOf rows w j)
   -- the first of them is there, has that number, and is the corner at which the group started
