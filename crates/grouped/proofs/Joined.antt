@@ -34,7 +34,8 @@ use Rattle.view.proofs.Records.{any-is}
 use Rattle.view.proofs.Weld.{welds, sound-welds}
 use Rattle.linked.specs.Links.{linkedColumns}
 use Rattle.linked.specs.Links as five
-use Rattle.groups.specs.Marks.{walkColumns, Asked, Walked}
+use Rattle.groups.specs.Walk.{walkColumns}
+use Rattle.groups.specs.Marks.{Asked, Walked}
 use Rattle.members.specs.Members.{orderColumns}
 use Rattle.grouped.specs.declared.Counts.{Counts}
 use Rattle.grouped.specs.Grouped.{groupedColumns, sixColumns, Six, Left}
@@ -61,27 +62,28 @@ module _ (sizes : List ℕ) (ps ns ts : List Float) (n m groups count : ℕ) (w 
   pub joined : five.Left sizes ps ns ts xs n m w u
       → ((ss : List Triangle) (d : Triangle) → length ss ≡ n → Names ss → Sharp ss d → Asked rows ss d u → Walked rows ss d u v groups count)
       → ((ss : List Triangle) (d : Triangle) → 3 * length ss ≤ rows → Names ss → count ≡ length (marks ss (links ss)) → Grouping rows ss d (marks ss (links ss)) groups v → InOrder rows ss groups count z)
+      → Only walkColumns rows u v
       → Only orderColumns rows v z
       → groups ≤ rows
       → Left sizes ps ns ts xs (record { sound = n; all = m; groups = groups; members = count }) w z
-  joined L walked ordered O few = record {
-    sound-count = L .sound-count;
-    count = L .count;
-    fits = L .fits;
-    stands = λ e d.
-        let F = L .stands e d in
-        let W = walked ss d (sym (L .sound-count)) (F .names) (F .sharp) (asked rows sizes ps ns ts xs d u F) in
-        let fit : 3 * length ss ≤ rows = omega (arith, L .fits, length-append ss (broken xs)) in
-        let U : Only groupedColumns rows u z = only-trans groupedColumns rows u v z (only-more walkColumns groupedColumns rows u v refl (W .only)) (only-more orderColumns groupedColumns rows v z refl O) in (
-          record {
-            linked = u;
-            five = F;
-            only = U;
-            members = W .count-is;
-            grouping = grouping-kept rows ss d (marks ss (links ss)) groups orderColumns v z refl fit few O (W .grouping) (mark (spotAt ss d 0 one) (spotAt ss d 0 one));
-            rest = λ t l r. cell-kept orderColumns rows v z O orientationColumn t refl r ∙ W .rest t l r;
-            in-order = ordered ss d fit (F .names) (W .count-is) (W .grouping);
-          },
-          only-trans sixColumns rows w u z (only-more linkedColumns sixColumns rows w u refl (L .only)) (only-more groupedColumns sixColumns rows u z refl U),
-        );
-  }
+  joined L walked ordered first O few =
+      let U : Only groupedColumns rows u z = only-trans groupedColumns rows u v z (only-more walkColumns groupedColumns rows u v refl first) (only-more orderColumns groupedColumns rows v z refl O) in
+      record {
+        sound-count = L .sound-count;
+        count = L .count;
+        fits = L .fits;
+        only = only-trans sixColumns rows w u z (only-more linkedColumns sixColumns rows w u refl (L .only)) (only-more groupedColumns sixColumns rows u z refl U);
+        stands = λ e d.
+            let F = L .stands e d in
+            let W = walked ss d (sym (L .sound-count)) (F .names) (F .sharp) (asked rows sizes ps ns ts xs d u F) in
+            let fit : 3 * length ss ≤ rows = omega (arith, L .fits, length-append ss (broken xs)) in
+            record {
+              linked = u;
+              five = F;
+              only = U;
+              members = W .count-is;
+              grouping = grouping-kept rows ss d (marks ss (links ss)) groups orderColumns v z refl fit few O (W .grouping) (mark (spotAt ss d 0 one) (spotAt ss d 0 one));
+              rest = λ t l r. cell-kept orderColumns rows v z O orientationColumn t refl r ∙ W .rest t l r;
+              in-order = ordered ss d fit (F .names) (W .count-is) (W .grouping);
+            };
+      }

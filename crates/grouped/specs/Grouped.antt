@@ -17,7 +17,7 @@ use Rattle.view.specs.Frame.{Only}
 use Rattle.view.specs.Links.{Five}
 use Rattle.view.specs.Groups.{Grouping, InOrder}
 use Rattle.linked.specs.Links.{linkedColumns}
-use Rattle.groups.specs.Marks.{walkColumns}
+use Rattle.groups.specs.Walk.{walkColumns}
 use Rattle.members.specs.Members.{orderColumns}
 use Rattle.grouped.specs.declared.Counts.{Counts}
 
@@ -45,4 +45,5 @@ pub record Left (sizes : List ℕ) (ps ns ts : List Float) (xs : List Triangle) 
   pub sound-count : c .sound ≡ length (sound xs)
   pub count : c .all ≡ length (sound xs ++ broken xs)
   pub fits : 3 * length (sound xs ++ broken xs) ≤ rowsOf (length sizes)
-  pub stands : badCorner 0 (meshFrom ps ns ts 0 sizes) ≡ none → (d : Triangle) → Six (rowsOf (length sizes)) sizes ps ns ts xs d c u × Only sixColumns (rowsOf (length sizes)) w u
+  pub only : Only sixColumns (rowsOf (length sizes)) w u
+  pub stands : badCorner 0 (meshFrom ps ns ts 0 sizes) ≡ none → (d : Triangle) → Six (rowsOf (length sizes)) sizes ps ns ts xs d c u

@@ -35,8 +35,8 @@ use Rattle.view.specs.Groups.{numberOf, Member, Grouping}
 use Rattle.view.proofs.Lists.{bool-iff, and-both, every-index}
 use Rattle.view.proofs.Frame.{only-none, only-run, only-more, cell-kept}
 use Rattle.view.proofs.Rows.{row-lt, spot-row}
-use Rattle.groups.specs.Walk.{State, ungrouped, turn, cleared}
-use Rattle.groups.specs.Marks.{walkColumns, Fixed, Stands, Faces, Marked, Starts, Begins, Grouped, Asked, Walked}
+use Rattle.groups.specs.Walk.{walkColumns, State, ungrouped, turn, cleared}
+use Rattle.groups.specs.Marks.{Fixed, Stands, Faces, Marked, Starts, Begins, Grouped, Asked, Walked}
 use Rattle.groups.proofs.Laws.{ungrouped-le}
 use Rattle.groups.proofs.Facing.{any-third, three-or}
 use Rattle.groups.proofs.Turning.{all-turns}

@@ -9,9 +9,11 @@ use lib.Arith.{lt-of-le-ne}
 use lib.Dec.{eqb}
 use borrow.Author.Tests.{eqb-true, eqb-false}
 use Rattle.table.specs.Table.{cell, put, column}
-use Rattle.table.specs.Columns.{columns, vertexColumn, linkColumn, orientationColumn, groupColumn}
+use Rattle.table.specs.Columns.{columns, vertexColumn, linkColumn, orientationColumn, groupColumn, metColumn}
 use Rattle.table.proofs.Laws.{column-set, getD-column, length-column}
-use Rattle.groups.specs.Walk.{cornerOf, untouched, adopted, Entered, enter, stopped, marked, zeros, ungrouped}
+use Rattle.view.specs.Frame.{Only}
+use Rattle.view.proofs.Frame.{only-none, only-put}
+use Rattle.groups.specs.Walk.{walkColumns, cornerOf, untouched, adopted, Entered, enter, stopped, marked, zeros, ungrouped}
 use Rattle.groups.specs.declared.Entry.{Entry}
 use Rattle.groups.specs.declared.Entry.the-variants.{At, Stop}
 
@@ -65,10 +67,15 @@ adopted-column rows t o w tri k ne = cond-case (λ (u : List ℕ). column rows k
     (λ _. column-set rows k orientationColumn t o w (omega arith) ∙ ap (λ (b : Bool). cond b (set (column rows k w) t o) (column rows k w)) ne)
     (λ _. refl)
 
--- what entering does to the count of ungrouped corners, and that it leaves the links
+-- nothing but the walk's columns is stored
+pub only-adopted : (rows t o : ℕ) (w₀ w : List ℕ) → t < rows → Only walkColumns rows w₀ w → Only walkColumns rows w₀ (adopted rows t o w)
+unfolding adopted
+only-adopted rows t o w₀ w h O = cond-case (λ (u : List ℕ). Only walkColumns rows w₀ u) (untouched rows t w) (put rows orientationColumn t o w) w (λ _. only-put walkColumns rows w₀ w orientationColumn t o refl (omega arith) h O) (λ _. O)
+
+-- what entering does to the count of ungrouped corners, and which columns it writes
 abbrev pub Grown : ℕ → List ℕ → Entry → List ℕ → Type 0
-Grown rows w Stop u = (ungrouped rows u ≡ ungrouped rows w) × (column rows linkColumn u ≡ column rows linkColumn w)
-Grown rows w (At i) u = (i < 3) × (suc (ungrouped rows u) ≡ ungrouped rows w) × (column rows linkColumn u ≡ column rows linkColumn w)
+Grown rows w Stop u = (ungrouped rows u ≡ ungrouped rows w) × Only walkColumns rows w u
+Grown rows w (At i) u = (i < 3) × (suc (ungrouped rows u) ≡ ungrouped rows w) × Only walkColumns rows w u
 
 module _ (rows t g v o n : ℕ) (w : List ℕ) (tri : 3 * t + 3 ≤ rows) (long : columns * rows ≤ length w) (some : 0 < g) (room : n + ungrouped rows w ≤ rows) where
   -- a corner that was in no group is marked: one ungrouped corner less
@@ -79,8 +86,8 @@ module _ (rows t g v o n : ℕ) (w : List ℕ) (tri : 3 * t + 3 ≤ rows) (long 
       let falls : suc (zeros (set (column rows groupColumn w) (3 * t + i) g)) ≡ zeros (column rows groupColumn w) = zeros-set (column rows groupColumn w) (3 * t + i) g (omega (arith, length-column rows w groupColumn (omega arith))) (getD-column rows w groupColumn (3 * t + i) hi ∙ z) some in
       let hn : n < rows = omega arith in
       let groups = adopted-column rows t o w tri groupColumn refl in
-      let links = adopted-column rows t o w tri linkColumn refl in
-      (lt, simp (column-set, groups) falls, simp (column-set, links))
+      let u = adopted rows t o w in
+      (lt, simp (column-set, groups) falls, only-put walkColumns rows w (put rows metColumn n (3 * t + i) u) groupColumn (3 * t + i) g refl (omega arith) hi (only-put walkColumns rows w u metColumn n (3 * t + i) refl (omega arith) hn (only-adopted rows t o w w (omega arith) (only-none walkColumns rows w))))
 
   -- entering, whatever it meets
   pub enter-grown : Grown rows w (enter rows t g v o n w .entry) (enter rows t g v o n w .work)
@@ -91,9 +98,9 @@ module _ (rows t g v o n : ℕ) (w : List ℕ) (tri : 3 * t + 3 ≤ rows) (long 
       let u = adopted rows t o w in
       let agrees = eqb (cell rows orientationColumn t u) o in
       let free = eqb (cell rows groupColumn (3 * t + i) w) 0 in
-      cond-case P (eqb i 3) (stopped w) (cond free (cond agrees (marked rows t g n i u) (stopped u)) (stopped w)) (λ _. (refl, refl)) λ ne.
+      cond-case P (eqb i 3) (stopped w) (cond free (cond agrees (marked rows t g n i u) (stopped u)) (stopped w)) (λ _. (refl, only-none walkColumns rows w)) λ ne.
       cond-case P free (cond agrees (marked rows t g n i u) (stopped u)) (stopped w)
       (λ z. cond-case P agrees (marked rows t g n i u) (stopped u)
       (λ _. marked-grown i (lt-of-le-ne (cornerOf-le rows t v w) (eqb-false i 3 ne)) (eqb-true (cell rows groupColumn (3 * t + i) w) 0 z))
-      (λ _. (ap zeros (adopted-column rows t o w tri groupColumn refl), adopted-column rows t o w tri linkColumn refl)))
-      (λ _. (refl, refl))
+      (λ _. (ap zeros (adopted-column rows t o w tri groupColumn refl), only-adopted rows t o w w (omega arith) (only-none walkColumns rows w))))
+      (λ _. (refl, only-none walkColumns rows w))

@@ -27,9 +27,9 @@ use Rattle.view.specs.Links.{LinkWord}
 use Rattle.view.specs.Groups.{numberOf}
 use Rattle.view.proofs.Frame.{only-none, only-put}
 use Rattle.view.proofs.Rows.{num-lt, row-lt, spot-row}
-use Rattle.groups.specs.Walk.{untouched, adopted, ungrouped}
-use Rattle.groups.specs.Marks.{walkColumns, Fixed, Stands, Faces, Marked}
-use Rattle.groups.proofs.Laws.{cond-case, adopted-column, marked-grown}
+use Rattle.groups.specs.Walk.{walkColumns, untouched, adopted, ungrouped}
+use Rattle.groups.specs.Marks.{Fixed, Stands, Faces, Marked}
+use Rattle.groups.proofs.Laws.{cond-case, adopted-column, only-adopted, marked-grown}
 use Rattle.groups.proofs.Facing.{grouped-snoc, facing-other}
 
 or-true : (b : Bool) → (b || true) ≡ true
@@ -50,10 +50,6 @@ module _ (rows t o : ℕ) (w : List ℕ) where
   pub adopted-length : length (adopted rows t o w) ≡ length w
   unfolding adopted
   adopted-length = cond-case (λ (u : List ℕ). length u ≡ length w) (untouched rows t w) (put rows orientationColumn t o w) w (λ _. length-set w (orientationColumn * rows + t) o) (λ _. refl)
-
-only-adopted : (rows t o : ℕ) (w₀ w : List ℕ) → t < rows → Only walkColumns rows w₀ w → Only walkColumns rows w₀ (adopted rows t o w)
-unfolding adopted
-only-adopted rows t o w₀ w h O = cond-case (λ (u : List ℕ). Only walkColumns rows w₀ u) (untouched rows t w) (put rows orientationColumn t o w) w (λ _. only-put walkColumns rows w₀ w orientationColumn t o refl (omega arith) h O) (λ _. O)
 
 pub num-not-three : (i : Third) → eqb (num i) 3 ≡ false
 unfolding num

@@ -1,7 +1,7 @@
 -- How the steps of the walk go together: what the proofs of the code cite, with no word of the code. Assumes nothing.
 use mathlib.Core.Path.{_≡_, refl, sym, ap, _∙_}
 use mathlib.Core.Bool.{Bool, false, cond}
-use mathlib.Core.List.{List}
+use mathlib.Core.List.{List, [], _∷_}
 use Prim.Native.Nat.{ℕ, zero, suc, _+_, _*_, _/_, _%_, _≤_, _<_}
 use native.Mathlib.Nat.{le-refl}
 use native.Mathlib.Omega.{arith}
@@ -9,10 +9,14 @@ use lib.Dec.{eqb}
 use lib.ListN.{length, getD, set, length-set}
 use Rattle.table.specs.Table.{cell, put, column}
 use Rattle.table.specs.Columns.{columns, linkColumn, groupColumn, beginColumn}
+use Rattle.table.specs.Loop.{listOf}
+use Rattle.table.proofs.Loops.{length-listOf}
 use Rattle.table.proofs.Laws.{getD-column, column-set, filled-column, length-fill}
 use Rattle.neighbors.specs.declared.Link.the-variants.{To, Nothing}
 use Rattle.neighbors.specs.Links.{linkOf}
-use Rattle.groups.specs.Walk.{enter, Walk, walk, side, follow, corner, zeros, ungrouped, cleared, Ready, Steps}
+use Rattle.view.specs.Frame.{Only}
+use Rattle.view.proofs.Frame.{only-none, only-trans, only-more, only-run, only-put}
+use Rattle.groups.specs.Walk.{walkColumns, enter, Walk, walk, side, follow, corner, zeros, ungrouped, cleared, Ready, Steps}
 use Rattle.groups.specs.declared.Entry.{Entry}
 use Rattle.groups.specs.declared.Entry.the-variants.{At, Stop}
 use Rattle.groups.proofs.Laws.{Grown, enter-grown, ungrouped-le}
@@ -36,7 +40,7 @@ ready-moves rows tris g n m w u R e room links = record {
 
 -- the state after a step is ready for the next
 pub ready-steps : (rows tris g n m : ℕ) (w u : List ℕ) (said : ℕ → Walk) → Ready rows tris g n w → Steps rows (walk w n) (walk u m) said → length u ≡ length w → Ready rows tris g m u
-ready-steps rows tris g n m w u said R S e = ready-moves rows tris g n m w u R e (omega (arith, R .room, S .same)) (S .links)
+ready-steps rows tris g n m w u said R S e = ready-moves rows tris g n m w u R e (omega (arith, R .room, S .same)) (S .only .others linkColumn refl)
 
 -- ---- a corner step
 
@@ -57,7 +61,7 @@ module _ (rows tris t g v o n : ℕ) (w : List ℕ) (tri : t < tris) (R : Ready 
         ];
         fewer = omega arith;
         same = omega arith;
-        links = G .1;
+        only = G .1;
       }
 
   module _ (i : ℕ) (e : r ≡ At i) where
@@ -75,7 +79,7 @@ module _ (rows tris t g v o n : ℕ) (w : List ℕ) (tri : t < tris) (R : Ready 
 
     -- ready for the side steps
     pub corner-ready : length u ≡ length w → Ready rows tris g (n + 1) u
-    corner-ready k = ready-moves rows tris g n (n + 1) w u R k (omega (arith, R .room, G .1)) (G .2)
+    corner-ready k = ready-moves rows tris g n (n + 1) w u R k (omega (arith, R .room, G .1)) (G .2 .others linkColumn refl)
 
     -- the walk goes on over the two sides
     pub corner-goes : (s₁ s₂ : Walk)
@@ -90,7 +94,7 @@ module _ (rows tris t g v o n : ℕ) (w : List ℕ) (tri : t < tris) (R : Ready 
       ];
       fewer = omega (arith, G .1, S₁ .fewer, S₂ .fewer);
       same = omega (arith, G .1, S₁ .same, S₂ .same);
-      links = S₂ .links ∙ S₁ .links ∙ G .2;
+      only = only-trans walkColumns rows w u (s₂ .work) (G .2) (only-trans walkColumns rows u (s₁ .work) (s₂ .work) (S₁ .only) (S₂ .only));
     }
 
 -- ---- a side step
@@ -102,7 +106,7 @@ side-stops rows g v o n k w e = record {
   is = λ m h. ap (follow (corner rows g v o m) (walk w n)) e;
   fewer = le-refl (ungrouped rows w);
   same = refl;
-  links = refl;
+  only = only-none walkColumns rows w;
 }
 
 -- a side beyond which is the side of row u
@@ -112,7 +116,7 @@ side-goes rows g v o n k u w s e S = record {
   is = λ m h. S .is m h ∙ ap (follow (corner rows g v o m) (walk w n)) e;
   fewer = S .fewer;
   same = S .same;
-  links = S .links;
+  only = S .only;
 }
 
 -- ---- the groups
@@ -124,6 +128,10 @@ ready-next rows tris g n w R = record { long = R .long; few = R .few; fits = R .
 -- where a group begins is stored in a column that the walk does not read
 begun-column : (rows c b : ℕ) (w : List ℕ) → b < rows → (k : ℕ) → eqb beginColumn k ≡ false → column rows k (put rows beginColumn b c w) ≡ column rows k w
 begun-column rows c b w h k ne = column-set rows k beginColumn b c w h ∙ ap (λ (q : Bool). cond q (set (column rows k w) b c) (column rows k w)) ne
+
+-- which is one of the walk's
+pub only-begun : (rows c b : ℕ) (w : List ℕ) → b < rows → Only walkColumns rows w (put rows beginColumn b c w)
+only-begun rows c b w h = only-put walkColumns rows w w beginColumn b c refl (omega arith) h (only-none walkColumns rows w)
 
 -- it leaves the ungrouped corners
 pub begun-ungrouped : (rows c b : ℕ) (w : List ℕ) → b < rows → ungrouped rows (put rows beginColumn b c w) ≡ ungrouped rows w
@@ -148,3 +156,8 @@ ready-cleared rows tris w fits long few L =
       room = omega (arith, ungrouped-le rows (cleared rows w) long');
       links = links-stand rows tris w (cleared rows w) fits (filled-column rows groupColumn linkColumn (λ _. 0) w (omega arith)) L;
     }
+
+-- nothing but the walk's columns is stored after that
+pub only-after : (rows : ℕ) (w u v : List ℕ) → u ≡ cleared rows w → Only walkColumns rows u v → Only walkColumns rows w v
+only-after rows w u v e O =
+    only-trans walkColumns rows w u v (only-more (groupColumn ∷ []) walkColumns rows w u refl (only-run (groupColumn ∷ []) rows groupColumn 0 w u (listOf rows (λ _. 0)) refl (omega arith) (omega (arith, length-listOf {S = ℕ} rows (λ _. 0))) e)) O

@@ -17,11 +17,7 @@ use Rattle.view.specs.Rows.{row, spotAt}
 use Rattle.view.specs.Weld.{Welds}
 use Rattle.view.specs.Links.{Linked}
 use Rattle.view.specs.Groups.{numberOf, Grouping}
-use Rattle.groups.specs.Walk.{State, ungrouped}
-
--- the columns that the walks write
-abbrev pub walkColumns : List ℕ
-walkColumns = groupColumn ∷ orientationColumn ∷ metColumn ∷ beginColumn ∷ []
+use Rattle.groups.specs.Walk.{walkColumns, State, ungrouped}
 
 -- a corner that stands in a row
 pub record Place (ss : List Triangle) (d : Triangle) (s : Spot) : Type 0 where

@@ -7,12 +7,17 @@ use lib.ListN.{length}
 use lib.Dec.{eqb}
 use Rattle.table.specs.Table.{cell, put, column, filledTo}
 use Rattle.table.specs.Columns.{columns, vertexColumn, linkColumn, orientationColumn, anyColumn, groupColumn, metColumn, beginColumn}
+use Rattle.view.specs.Frame.{Only}
 use Rattle.neighbors.specs.declared.Link.{Link}
 use Rattle.neighbors.specs.declared.Link.the-variants.{To, Nothing}
 use Rattle.neighbors.specs.Links.{linkOf}
 use Rattle.groups.specs.declared.Counts.{Counts}
 use Rattle.groups.specs.declared.Entry.{Entry}
 use Rattle.groups.specs.declared.Entry.the-variants.{At, Stop}
+
+-- the columns that the walks write
+abbrev pub walkColumns : List ℕ
+walkColumns = groupColumn ∷ orientationColumn ∷ metColumn ∷ beginColumn ∷ []
 
 -- the corner of triangle t that has vertex v, 3 where none has
 unfoldable pub cornerOf : ℕ → ℕ → ℕ → List ℕ → ℕ
@@ -103,12 +108,12 @@ pub record Ready (rows tris g n : ℕ) (w : List ℕ) : Type 0 where
   pub room : n + ungrouped rows w ≤ rows
   pub links : (k : ℕ) → k < 3 * tris → cell rows linkColumn k w ≤ 3 * tris
 
--- what a step from s to u ensures: it is what `said` gives at any depth above the number of ungrouped corners; each member is one ungrouped corner less, and the links stand
+-- what a step from s to u ensures: it is what `said` gives at any depth above the number of ungrouped corners; each member is one ungrouped corner less, and other columns stand
 pub record Steps (rows : ℕ) (s u : Walk) (said : ℕ → Walk) : Type 0 where
   pub is : (n : ℕ) → ungrouped rows (s .work) < n → u ≡ said n
   pub fewer : ungrouped rows (u .work) ≤ ungrouped rows (s .work)
   pub same : u .count + ungrouped rows (u .work) ≡ s .count + ungrouped rows (s .work)
-  pub links : column rows linkColumn (u .work) ≡ column rows linkColumn (s .work)
+  pub only : Only walkColumns rows (s .work) (u .work)
 
 -- the state of the whole: the work list, and the counts of groups and of members
 pub record State : Type 0 where
@@ -143,6 +148,7 @@ pub record Turned (rows tris k : ℕ) (s u : State) : Type 0 where
   pub is : u ≡ turn rows k s
   pub few : u .groups ≤ k + 1
   pub ready : Ready rows tris (u .groups + 1) (u .members) (u .work)
+  pub only : Only walkColumns rows (s .work) (u .work)
 
 -- no corner is in a group
 abbrev pub cleared : ℕ → List ℕ → List ℕ

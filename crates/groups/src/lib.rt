@@ -10,6 +10,7 @@ ghost use Rattle.table.specs.Table.{cell};
 ghost use Rattle.table.specs.Loop.{upTo};
 ghost use Rattle.definition.specs.declared.Triangle.{Triangle};
 ghost use Rattle.laws.proofs.Mutual.{Names};
+ghost use Rattle.view.specs.Frame.{Only};
 ghost use Rattle.view.specs.Weld.{Sharp};
 ghost use Rattle.groups.specs.Marks.{Asked, Walked};
 ghost use Rattle.groups.specs.Walk as spec;
@@ -172,6 +173,7 @@ fn walk_all(work: &mut [u32], rows: usize, tris: usize) -> Counts
     requires { ⌜ (3 * tris ≤ rows) × (columns * rows ≤ length (now work)) × (rows < 4294967295) × ((r : ℕ) → r < 3 * tris → cell rows linkColumn r (now work) ≤ 3 * tris) ⌝ }
     ensures is { λ r. ⌜ spec.state (now (work .exit)) r ≡ upTo (3 * tris) (spec.turn rows) (spec.state (spec.cleared rows (now (work .entry))) (record { groups = 0; members = 0 })) ⌝ }
     ensures few { λ r. ⌜ (r .groups ≤ 3 * tris) × (r .members ≤ rows) ⌝ }
+    ensures only { λ _. ⌜ Only spec.walkColumns rows (now (work .entry)) (now (work .exit)) ⌝ }
 {
     let mut s = Counts {
         groups: 0,
@@ -189,6 +191,7 @@ pub fn build_4_rule_groups(work: &mut [u32], rows: usize, tris: usize) -> Counts
     requires { ⌜ (3 * tris ≤ rows) × (columns * rows ≤ length (now work)) × (rows < 4294967295) × ((r : ℕ) → r < 3 * tris → cell rows linkColumn r (now work) ≤ 3 * tris) ⌝ }
     ensures grouped { λ r. ⌜ ((ss : List Triangle) (d : Triangle) → length ss ≡ tris → Names ss → Sharp ss d → Asked rows ss d (now (work .entry)) → Walked rows ss d (now (work .entry)) (now (work .exit)) (r .groups) (r .members)) ⌝ }
     ensures few { λ r. ⌜ (r .groups ≤ 3 * tris) × (r .members ≤ rows) ⌝ }
+    ensures only { λ _. ⌜ Only spec.walkColumns rows (now (work .entry)) (now (work .exit)) ⌝ }
 {
     walk_all(work, rows, tris)
 }

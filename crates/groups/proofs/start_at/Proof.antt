@@ -6,8 +6,9 @@ use lib.ListN.{length-set}
 use borrow.Author.Tests.{eq-eqb, ne-eqb}
 use borrow.Author.Needs.{needs}
 use Rattle.table.specs.Columns.{beginColumn}
+use Rattle.view.proofs.Frame.{only-none, only-trans}
 use Rattle.groups.specs.Walk.{turn, started}
-use Rattle.groups.proofs.Steps.{ready-steps, ready-next, ready-begun, begun-ungrouped}
+use Rattle.groups.proofs.Steps.{ready-steps, ready-next, ready-begun, only-begun, begun-ungrouped}
 use Rattle.groups.proofs.start_at.Statement.{statement}
 use Rattle.groups.proofs.start_at.Tie as tie
 
@@ -25,7 +26,7 @@ slice-read-if1 c = search needs
 
 returns : tie.Need-returns
 unfolding turn
-returns c = record { is = simp (ne-eqb _ _ (c .if1 .taken)); few = omega arith; ready = c .before .before .before .pre .2 }
+returns c = record { is = simp (ne-eqb _ _ (c .if1 .taken)); few = omega arith; ready = c .before .before .before .pre .2; only = only-none _ _ _ }
 
 mul-if2 : tie.Need-mul-if2
 mul-if2 c = search needs
@@ -41,7 +42,7 @@ slice-read-if2 c = search needs
 
 returns-2 : tie.Need-returns-2
 unfolding turn
-returns-2 c = record { is = simp (eq-eqb _ _ (c .before .before .if1 .left), ne-eqb _ _ (c .if2 .taken)); few = omega arith; ready = c .before .before .before .before .before .pre .2 }
+returns-2 c = record { is = simp (eq-eqb _ _ (c .before .before .if1 .left), ne-eqb _ _ (c .if2 .taken)); few = omega arith; ready = c .before .before .before .before .before .pre .2; only = only-none _ _ _ }
 
 mul-vertex : tie.Need-mul-vertex
 mul-vertex c = search needs
@@ -113,6 +114,7 @@ returns-3 c =
       is = simp (eq-eqb _ _ (c .before .before .before .before .before .before .before .before .if1 .left), eq-eqb _ _ (c .before .before .before .before .before .before .if2 .left)) (ap (started (a .s .groups + 1)) (step .ensures .is (a .rows + 1) (omega (arith, R .room, begun))));
       few = omega arith;
       ready = ready-next _ _ _ _ _ (ready-steps _ _ _ _ _ _ _ _ (ready-begun _ _ _ _ _ _ _ (omega (arith, R .fits)) R) (step .ensures) (step .kept .0));
+      only = only-trans _ _ _ _ _ (only-begun (a .rows) (a .s .members) (a .s .groups) (a .work .now) (omega (arith, R .fits))) (step .ensures .only);
     }
 
 pub start-at-spec : {M : Type 1} → statement M

@@ -7,13 +7,15 @@ use lib.ListN.{length}
 use borrow.Author.Needs.{needs}
 use Rattle.table.specs.Loop.{upTo}
 use Rattle.table.proofs.Loops.{upTo-none, upTo-more}
-use Rattle.groups.specs.Walk.{turn, state, Ready}
-use Rattle.groups.proofs.Steps.{ready-cleared}
+use Rattle.view.specs.Frame.{Only}
+use Rattle.view.proofs.Frame.{only-none, only-trans}
+use Rattle.groups.specs.Walk.{walkColumns, turn, state, Ready}
+use Rattle.groups.proofs.Steps.{ready-cleared, only-after}
 use Rattle.groups.proofs.walk_all.Statement.{statement}
 use Rattle.groups.proofs.walk_all.Tie as tie
 
 abbrev Inv-loop : tie.InvT-loop
-Inv-loop work₀ rows tris s₀ k₀ k-end work s k = (k ≤ k-end) × (s .groups ≤ k) × Ready rows tris (s .groups + 1) (s .members) work × (state work s ≡ upTo k (turn rows) (state work₀ s₀)) × (length work ≡ length work₀)
+Inv-loop work₀ rows tris s₀ k₀ k-end work s k = (k ≤ k-end) × (s .groups ≤ k) × Ready rows tris (s .groups + 1) (s .members) work × (state work s ≡ upTo k (turn rows) (state work₀ s₀)) × Only walkColumns rows work₀ work
 
 abbrev μ-loop : tie.MeasureT-loop
 μ-loop work₀ rows tris s₀ k₀ k-end work s k = k-end - k
@@ -28,7 +30,7 @@ loop-holds : tie.Need-loop-holds Inv-loop μ-loop
 loop-holds c =
     let start = c .before .before .before .before .before in
     let ready = ready-cleared (start .args .rows) (start .args .tris) (start .args .work .now) (start .pre .0) (start .pre .1) (start .pre .2) (start .pre .3) in
-    (omega arith, omega arith, subst (Ready (start .args .rows) (start .args .tris) 1 0) (sym (c .before .before .clear .ensures)) ready, upTo-none _ _, refl)
+    (omega arith, omega arith, subst (Ready (start .args .rows) (start .args .tris) 1 0) (sym (c .before .before .clear .ensures)) ready, upTo-none _ _, only-none _ _ _)
 
 start-at-requires : tie.Need-start-at-requires Inv-loop μ-loop
 start-at-requires c κs = search needs
@@ -43,15 +45,15 @@ loop-again : tie.Need-loop-again Inv-loop μ-loop
 loop-again c =
     let one = c .before .before .start-at in
     let loop = c .before .before .before .before .before .loop in
-    (omega arith, one .ensures .few, one .ensures .ready, one .ensures .is ∙ ap (turn _ _) (loop .inv .3) ∙ upTo-more _ _ _, one .kept .0 ∙ loop .inv .4)
+    (omega arith, one .ensures .few, one .ensures .ready, one .ensures .is ∙ ap (turn _ _) (loop .inv .3) ∙ upTo-more _ _ _, only-trans _ _ _ _ _ (loop .inv .4) (one .ensures .only))
 
 same-length : tie.Need-same-length Inv-loop μ-loop
-same-length c = c .before .loop .inv .4 ∙ c .before .before .before .before .clear .kept .0
+same-length c = c .before .loop .inv .4 .size ∙ c .before .before .before .before .clear .kept .0
 
 returns : tie.Need-returns Inv-loop μ-loop
 returns c =
     let l = c .before .loop .inv in
-    (rw (← c .before .before .before .before .clear .ensures) (rw (le-antisymm (l .0) (c .loop-test .left)) at (l .3)), (omega (arith, l .0, l .1), omega (arith, l .2 .room)))
+    (rw (← c .before .before .before .before .clear .ensures) (rw (le-antisymm (l .0) (c .loop-test .left)) at (l .3)), ((omega (arith, l .0, l .1), omega (arith, l .2 .room)), only-after _ _ _ _ (c .before .before .before .before .clear .ensures) (l .4)))
 
 pub walk-all-spec : {M : Type 1} → statement M
 walk-all-spec =
