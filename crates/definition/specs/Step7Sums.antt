@@ -14,6 +14,7 @@ use Rattle.tangent.specs.declared.RawTangentSpace.{RawTangentSpace}
 use Rattle.tangent.specs.Space.{zeroTangent}
 use Rattle.definition.specs.declared.Corner.{Corner}
 use Rattle.definition.specs.declared.Triangle.{Triangle}
+use Rattle.definition.specs.declared.Sum.{Sum}
 use Rattle.definition.specs.Lists.{keep, has, run}
 use Rattle.definition.specs.Mesh.{Spot, next, prior, cornerOf, slotOf, sameTriangle}
 use Rattle.definition.specs.Step6Groups.{Mark, members, cornerIn}
@@ -36,10 +37,9 @@ subgroup h ss ms m =
     let g = members ms m in
     keep (λ t. has (λ k. sameTriangle (k .spot .tri) t) g && joins h (cornerOf (m .spot) .normal) (m .spot .tri) t) ss
 
--- a sum of contributions: of the angles, and of the tangents weighted by them
-pub record Sum : Type 0 where
-  pub angles : Float
-  pub weighted : RawTangentSpace
+-- no contribution yet. (A sum is the struct of src/lib.rt: of the angles, and of the tangents weighted by them.)
+abbrev pub emptySum : Sum
+emptySum = record { angles = zeroᶠ; weighted = zeroTangent }
 
 -- the angle at a corner, between its two sides, each projected
 unfoldable pub opening : Spot → Float
@@ -86,7 +86,7 @@ finish z =
 
 -- 'as in `evaluate_tangent_space`': triangles in order, at the corner c
 unfoldable pub evaluate : Corner → List Triangle → RawTangentSpace
-evaluate c ts = finish (run (contribute c) (record { angles = zeroᶠ; weighted = zeroTangent }) ts)
+evaluate c ts = finish (run (contribute c) emptySum ts)
 
 -- what a member brings to its slot: the slot's face and corner, the tangent space, its group's orientation
 pub record Brought : Type 0 where

@@ -35,3 +35,9 @@ pub struct Triangle {
     pub orientation: bool,
     pub tangent: RawTangentSpace,
 }
+
+// A sum of contributions (step 7): of the angles, and of the tangents weighted by them.
+pub struct Sum {
+    pub angles: f32,
+    pub weighted: RawTangentSpace,
+}

@@ -21,8 +21,10 @@ use Rattle.definition.specs.Handed.{cornerCount, slotCount}
 use Rattle.laws.proofs.Part.{Every, every-nil, every-cons, every-append}
 use Rattle.view.specs.Frame.{outside, Only}
 use Rattle.view.specs.Records.{part, numbers, names, threeOf, lengths, From, Stored, Held, recordColumns}
-use Rattle.view.proofs.Frame.{only-none, only-trans, only-sets}
-use Rattle.listing.specs.Listing.{Entry, storing, placeEntries, tangentEntries, flagEntries, stored, Added, pick}
+use Rattle.view.proofs.Frame.{only-none, only-trans}
+use Rattle.view.specs.Stores.{Entry, storing}
+use Rattle.view.proofs.Stores.{Fitting, within, storing-column, storing-only, storing-append}
+use Rattle.listing.specs.Listing.{placeEntries, tangentEntries, flagEntries, stored, Added, pick}
 
 -- ---- lists
 
@@ -46,35 +48,6 @@ mid-same i x y z l h =
     ∙ ap (take 3) (drop-at (take i l) ((x ∷ y ∷ z ∷ []) ++ drop (i + 3) l) i (length-take-le i l (omega arith)))
     ∙ take-at (x ∷ y ∷ z ∷ []) (drop (i + 3) l) 3 refl
 
--- ---- entries
-
--- an entry of the triangles' columns that fits into its column
-pub record Fitting (rows : ℕ) (e : Entry) : Type 0 where
-  pub inside : e .row + length (e .words) ≤ rows
-  pub below : e .column < columns
-  pub among : outside recordColumns (e .column) ≡ false
-
--- what entries leave of column k
-within : ℕ → List Entry → List ℕ → List ℕ
-within k [] c = c
-within k (e ∷ es) c = within k es (cond (eqb (e .column) k) (sets c (e .row) (e .words)) c)
-
-module _ (rows : ℕ) where
-  storing-column : (k : ℕ) {es : List Entry} → Every (Fitting rows) es → (w : List ℕ) → column rows k (storing rows es w) ≡ within k es (column rows k w)
-  unfolding storing within
-  storing-column k every-nil w = refl
-  storing-column k (every-cons {x} {l} f r) w = storing-column k r (sets w (x .column * rows + x .row) (x .words)) ∙ ap (within k l) (column-sets rows k (x .column) (x .row) (x .words) w (f .inside))
-
-  storing-only : {es : List Entry} → Every (Fitting rows) es → (w u : List ℕ) → Only recordColumns rows w u → Only recordColumns rows w (storing rows es u)
-  unfolding storing
-  storing-only every-nil w u O = O
-  storing-only (every-cons {x} f r) w u O = storing-only r w _ (only-sets recordColumns rows w u (x .column) (x .row) (x .words) (f .among) (f .below) (f .inside) O)
-
-storing-append : (rows : ℕ) (es fs : List Entry) (w : List ℕ) → storing rows fs (storing rows es w) ≡ storing rows (es ++ fs) w
-unfolding storing
-storing-append rows [] fs w = refl
-storing-append rows (e ∷ es) fs w = storing-append rows es fs _
-
 -- ---- a triangle stored
 
 module _ (rows t base slot : ℕ) (x : Triangle) (w : List ℕ) (room : 3 * t + 3 ≤ rows) where
@@ -85,14 +58,14 @@ module _ (rows t base slot : ℕ) (x : Triangle) (w : List ℕ) (room : 3 * t + 
   entries = placeEntries t base slot x ++ (tangentEntries t (x .tangent) (x .marked) ++ flagEntries t (x .orientation) (x .any))
 
   -- three words in the rows of t
-  three : (k a b c : ℕ) → outside recordColumns k ≡ false → k < columns → Fitting rows (record { column = k; row = 3 * t; words = a ∷ b ∷ c ∷ [] })
+  three : (k a b c : ℕ) → outside recordColumns k ≡ false → k < columns → Fitting recordColumns rows (record { column = k; row = 3 * t; words = a ∷ b ∷ c ∷ [] })
   three k a b c o h = record { inside = room; below = h; among = o }
 
   -- one word in row t
-  own : (k a : ℕ) → outside recordColumns k ≡ false → k < columns → Fitting rows (record { column = k; row = t; words = a ∷ [] })
+  own : (k a : ℕ) → outside recordColumns k ≡ false → k < columns → Fitting recordColumns rows (record { column = k; row = t; words = a ∷ [] })
   own k a o h = record { inside = omega arith; below = h; among = o }
 
-  fitting : Every (Fitting rows) entries
+  fitting : Every (Fitting recordColumns rows) entries
   fitting =
       every-cons (three cornerColumn _ _ _ refl (omega arith)) (every-cons (three slotColumn _ _ _ refl (omega arith)) (every-cons (three nameColumn _ _ _ refl (omega arith))
       (every-cons (three sColumn _ _ _ refl (omega arith)) (every-cons (three tColumn _ _ _ refl (omega arith)) (every-cons (three magnitudeColumn _ _ _ refl (omega arith))
@@ -103,11 +76,11 @@ module _ (rows t base slot : ℕ) (x : Triangle) (w : List ℕ) (room : 3 * t + 
   is = ap (storing rows (flagEntries t (x .orientation) (x .any))) (storing-append rows (placeEntries t base slot x) (tangentEntries t (x .tangent) (x .marked)) w) ∙ storing-append rows (placeEntries t base slot x ++ tangentEntries t (x .tangent) (x .marked)) (flagEntries t (x .orientation) (x .any)) w
 
   stored-column : (k : ℕ) → column rows k u ≡ within k entries (column rows k w)
-  stored-column k = ap (column rows k) is ∙ storing-column rows k fitting w
+  stored-column k = ap (column rows k) is ∙ storing-column recordColumns rows k fitting w
 
   -- the frame
   pub only-stored : Only recordColumns rows w u
-  only-stored = subst (Only recordColumns rows w) (sym is) (storing-only rows fitting w w (only-none recordColumns rows w))
+  only-stored = subst (Only recordColumns rows w) (sym is) (storing-only recordColumns rows fitting w w (only-none recordColumns rows w))
 
   -- what stands in its own rows
   module _ (long : columns * rows ≤ length w) where

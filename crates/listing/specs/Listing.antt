@@ -5,7 +5,6 @@ use mathlib.Core.Bool.{Bool, Bool·beq}
 use mathlib.Core.List.{List, [], _∷_, _++_}
 use lib.Dec.{T}
 use lib.ListN.{length, take}
-use lib.Seq.{sets}
 use lib.Ieee.{Float, binary32, fits}
 use Rattle.tangent.specs.declared.RawTangentSpace.{RawTangentSpace}
 use Rattle.tangent.specs.Slot.{flag}
@@ -17,20 +16,10 @@ use Rattle.definition.specs.Triangles.{triangles}
 use Rattle.definition.specs.Step4Order.{sound, broken}
 use Rattle.definition.specs.Frames.{numbered}
 use Rattle.view.specs.Frame.{Only}
+use Rattle.view.specs.Stores.{Entry, storing}
 use Rattle.view.specs.Records.{numbers, names, threeOf, lengths, From, Held, recordColumns}
 
 -- ---- words
-
--- words that are stored from a row of a column on
-pub record Entry : Type 0 where
-  pub column : ℕ
-  pub row : ℕ
-  pub words : List ℕ
-
--- entries stored one after the other
-unfoldable pub storing : ℕ → List Entry → List ℕ → List ℕ
-storing rows [] w = w
-storing rows (e ∷ es) w = storing rows es (sets w (e .column * rows + e .row) (e .words))
 
 -- what is stored of triangle number t: the numbers of its corners and slots, its names
 abbrev pub placeEntries : ℕ → ℕ → ℕ → Triangle → List Entry

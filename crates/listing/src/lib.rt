@@ -16,6 +16,7 @@ ghost use Rattle.definition.specs.Triangles.{nook, pieces, triangles};
 ghost use Rattle.definition.specs.Frames.{numbered};
 ghost use Rattle.table.specs.Columns.{columns, rowsOf, sColumn, tColumn, magnitudeColumn};
 ghost use Rattle.table.specs.Table.{put};
+ghost use Rattle.view.specs.Stores.{storing};
 ghost use Rattle.view.specs.Records.{numbers, names, threeOf, lengths};
 ghost use Rattle.listing.specs.Listing as spec;
 use definition::Kept;
@@ -87,7 +88,7 @@ fn put_lengths(work: &mut [u32], at: usize, g: RawTangentSpace, m: bool)
 // The tangent in its three columns.
 fn put_tangent(work: &mut [u32], rows: usize, t: usize, g: RawTangentSpace, m: bool)
     requires { ⌜ (3 * t + 3 ≤ rows) × (columns * rows ≤ length (now work)) ⌝ }
-    ensures { λ _. ⌜ (now (work .exit) ≡ spec.storing rows (spec.tangentEntries t g m) (now (work .entry))) × HeldSpace g ⌝ }
+    ensures { λ _. ⌜ (now (work .exit) ≡ storing rows (spec.tangentEntries t g m) (now (work .entry))) × HeldSpace g ⌝ }
 {
     let s = g.s;
     let v = g.t;
@@ -99,7 +100,7 @@ fn put_tangent(work: &mut [u32], rows: usize, t: usize, g: RawTangentSpace, m: b
 // The names and numbers in their three columns.
 fn put_places(work: &mut [u32], rows: usize, t: usize, base: u32, slot: u32, x: Triangle)
     requires { ⌜ (3 * t + 3 ≤ rows) × (columns * rows ≤ length (now work)) × spec.Small base x × spec.Small slot x ⌝ }
-    ensures { λ _. ⌜ now (work .exit) ≡ spec.storing rows (spec.placeEntries t base slot x) (now (work .entry)) ⌝ }
+    ensures { λ _. ⌜ now (work .exit) ≡ storing rows (spec.placeEntries t base slot x) (now (work .entry)) ⌝ }
 {
     put_numbers(work, table::CORNER * rows + 3 * t, base, x);
     put_numbers(work, table::SLOT * rows + 3 * t, slot, x);
@@ -109,7 +110,7 @@ fn put_places(work: &mut [u32], rows: usize, t: usize, base: u32, slot: u32, x: 
 // The orientation and `group_with_any`, at the triangle's own row.
 fn put_flags(work: &mut [u32], rows: usize, t: usize, way: bool, any: bool)
     requires { ⌜ (3 * t + 3 ≤ rows) × (columns * rows ≤ length (now work)) ⌝ }
-    ensures { λ _. ⌜ now (work .exit) ≡ spec.storing rows (spec.flagEntries t way any) (now (work .entry)) ⌝ }
+    ensures { λ _. ⌜ now (work .exit) ≡ storing rows (spec.flagEntries t way any) (now (work .entry)) ⌝ }
 {
     let a = word_of(way);
     let f = word_of(any);

@@ -32,7 +32,7 @@ fn copy_members(work: &mut [u32], rows: usize, count: usize)
 }
 
 // Where the members of group number q + 1 begin; past the last group, where all end.
-fn begin_at(work: &[u32], rows: usize, q: usize, s: Counts) -> usize
+pub fn begin_at(work: &[u32], rows: usize, q: usize, s: Counts) -> usize
     requires { ⌜ (s .groups ≤ rows) × (columns * rows ≤ length (now work)) ⌝ }
     ensures { λ r. ⌜ (r ≡ spec.beginOf rows (s .groups) (s .members) (now (work .entry)) q) × (r ≤ s .members) ⌝ }
 {

@@ -3,10 +3,10 @@ use mathlib.Core.Path.{_≡_, refl, sym, ap, _∙_, subst}
 use mathlib.Core.Bool.{Bool, true, false, cond}
 use mathlib.Core.List.{List, [], _∷_, _++_, append-nil}
 use mathlib.Core.Logic.{_⊎_, inl, inr, ⊎-elim}
-use Prim.Native.Nat.{ℕ, suc, _+_, _*_, _-_, _≤_, _<_}
+use Prim.Native.Nat.{ℕ, zero, suc, _+_, _*_, _-_, _≤_, _<_}
 use native.Mathlib.Nat.{suc-mul, mul-le-mul-right, add-zero, add-suc, suc-add, le-of-lt}
 use native.Mathlib.Omega.{arith}
-use lib.ListN.{length, take, drop, getD, set, length-drop, length-set}
+use lib.ListN.{length, take, drop, getD, set, replicate, length-drop, length-set}
 use lib.Seq.{length-take-le, getD-take, getD-drop, drop-set-add, drop-set-lt, take-set-lt, take-set-le, sets, sets-eq, length-sets, drop-length}
 use lib.Arith.{lt-of-le-ne}
 use Rattle.table.specs.Loop.{listOf}
@@ -154,3 +154,13 @@ run-keeps rows j k from w u vs e ne h = ap (column rows k) e ∙ column-sets row
 
 pub run-fills : (rows j from : ℕ) (w u vs : List ℕ) → u ≡ sets w (j * rows + from) vs → from + length vs ≤ rows → column rows j u ≡ sets (column rows j w) from vs
 run-fills rows j from w u vs e h = ap (column rows j) e ∙ column-sets-same rows j from vs w h
+
+-- ---- the first words of a list, zeros
+
+zeros-suc : (n : ℕ) (l : List ℕ) → n < length l → set (replicate n 0 ++ drop n l) n 0 ≡ replicate (suc n) 0 ++ drop (suc n) l
+zeros-suc n [] h = absurd (omega arith)
+zeros-suc zero (x ∷ l) h = refl
+zeros-suc (suc n) (x ∷ l) h = ap (λ (k : List ℕ). 0 ∷ k) (zeros-suc n l (omega arith))
+
+pub zeros-more : (n : ℕ) (l : List ℕ) → n < length l → set (replicate n 0 ++ drop n l) n 0 ≡ replicate (n + 1) 0 ++ drop (n + 1) l
+zeros-more n l h = let e : suc n ≡ n + 1 = omega arith in zeros-suc n l h ∙ ap (λ (k : ℕ). replicate k 0 ++ drop k l) e

@@ -73,7 +73,7 @@ lowerColumn = 15
 abbrev pub higherColumn : ℕ
 higherColumn = 16
 
--- the rows of the sides, in their order; after step 6 the members of each group, in triangle order (column 14 is unused)
+-- the rows of the sides, in their order; after step 6 the members of each group, in triangle order
 abbrev pub orderColumn : ℕ
 orderColumn = 17
 
@@ -92,3 +92,31 @@ nextColumn = 20
 -- where each group's members begin among all of them; the welding's buckets are done with by then
 abbrev pub beginColumn : ℕ
 beginColumn = 19
+
+-- what a corner brings to a sum of step 7: the x, y and z of its s, projected; what these columns and the next held before is done with by then
+abbrev pub sxColumn : ℕ
+sxColumn = 0
+
+abbrev pub syColumn : ℕ
+syColumn = 1
+
+abbrev pub szColumn : ℕ
+szColumn = 11
+
+-- of its t, projected
+abbrev pub txColumn : ℕ
+txColumn = 14
+
+abbrev pub tyColumn : ℕ
+tyColumn = 15
+
+abbrev pub tzColumn : ℕ
+tzColumn = 16
+
+-- its angle
+abbrev pub openingColumn : ℕ
+openingColumn = 18
+
+-- whether a member, in triangle order, is in the subgroup of the member at hand
+abbrev pub joinedColumn : ℕ
+joinedColumn = 20

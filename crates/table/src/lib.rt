@@ -2,7 +2,8 @@
 // The cell of a column at a row is word column * rows + row. Each column has its name here and in specs/Columns.antt.
 ghost use mathlib.Core.Path.{_≡_};
 ghost use Prim.Native.Nat.{_*_, _≤_, _<_};
-ghost use lib.ListN.{length};
+ghost use mathlib.Core.List.{_++_};
+ghost use lib.ListN.{length, drop, replicate};
 ghost use Rattle.table.specs.Columns.{columns};
 ghost use Rattle.table.specs.Table.{filledTo};
 
@@ -56,7 +57,7 @@ pub const LOWER: usize = 15;
 // The higher one.
 pub const HIGHER: usize = 16;
 
-// The rows of the sides, in their order; after step 6 the members of each group, in triangle order. (Column 14 is unused.)
+// The rows of the sides, in their order; after step 6 the members of each group, in triangle order.
 pub const ORDER: usize = 17;
 
 // What the sort works in.
@@ -71,6 +72,26 @@ pub const NEXT: usize = 20;
 // Where each group's members begin among all of them; the welding's buckets are done with by then.
 pub const BEGIN: usize = 19;
 
+// What a corner brings to a sum (step 7): the x, y and z of its projected s; the columns before it are done with by then.
+pub const S_X: usize = 0;
+
+pub const S_Y: usize = 1;
+
+pub const S_Z: usize = 11;
+
+// Of its projected t.
+pub const T_X: usize = 14;
+
+pub const T_Y: usize = 15;
+
+pub const T_Z: usize = 16;
+
+// Its angle.
+pub const OPENING: usize = 18;
+
+// Whether a member, in triangle order, is in the subgroup of the member at hand.
+pub const JOINED: usize = 20;
+
 // A column of zeros.
 pub fn clear(work: &mut [u32], rows: usize, column: usize)
     requires { ⌜ (column < columns) × (columns * rows ≤ length (now work)) ⌝ }
@@ -78,5 +99,15 @@ pub fn clear(work: &mut [u32], rows: usize, column: usize)
 {
     for r in 0..rows {
         work[column * rows + r] = 0;
+    }
+}
+
+// The first words of a list, zeros.
+pub fn clear_first(words: &mut [u32], count: usize)
+    requires { ⌜ count ≤ length (now words) ⌝ }
+    ensures { λ _. ⌜ now (words .exit) ≡ replicate count 0 ++ drop count (now (words .entry)) ⌝ }
+{
+    for i in 0..count {
+        words[i] = 0;
     }
 }

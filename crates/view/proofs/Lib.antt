@@ -1,5 +1,6 @@
 pub mod Lists
 pub mod Frame
+pub mod Stores
 pub mod Rows
 pub mod Weld
 pub mod Records

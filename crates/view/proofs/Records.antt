@@ -8,17 +8,22 @@ use lib.Dec.{eqb}
 use lib.ListN.{length, getD, take, drop}
 use lib.Seq.{getD-take, getD-drop}
 use lib.Ieee.{Float}
-use Rattle.tangent.specs.Slot.{flag}
+use Rattle.bits.specs.Word.{word, number}
+use Rattle.bits.proofs.Back.{number-word}
+use Rattle.math.specs.declared.Vec3.{Vec3}
+use Rattle.math.specs.Held.{HeldVec}
+use Rattle.tangent.specs.Slot.{flag, vectorOf}
 use Rattle.table.specs.Table.{cell, column}
-use Rattle.table.specs.Columns.{cornerColumn, slotColumn, orientationColumn, anyColumn}
+use Rattle.table.specs.Columns.{cornerColumn, slotColumn, nameColumn, sColumn, tColumn, magnitudeColumn, orientationColumn, anyColumn}
 use Rattle.table.proofs.Laws.{getD-column}
 use Rattle.definition.specs.declared.Triangle.{Triangle}
 use Rattle.definition.specs.Mesh.{Third, one, two, three, kept, cornerOf}
 use Rattle.definition.specs.Handed.{cornerAt, cornerCount, slotCount}
 use Rattle.view.specs.Frame.{outside, Only, disjoint}
 use Rattle.view.specs.Rows.{num, row, spotAt}
-use Rattle.view.specs.Records.{part, numbers, Stored, Held, recordColumns}
+use Rattle.view.specs.Records.{part, numbers, threeOf, lengths, names, Stored, Held, recordColumns, Told, Tells, toldColumns}
 use Rattle.view.proofs.Frame.{apart, cell-kept}
+use Rattle.view.proofs.Rows.{num-lt}
 
 -- a word of the three
 pub part-cell : (rows k t j : ℕ) (w : List ℕ) → j < 3 → 3 * t + 3 ≤ rows → cell rows k (3 * t + j) w ≡ getD (part rows k t w) j 0
@@ -31,7 +36,7 @@ flag-zero true = refl
 flag-zero false = refl
 
 -- numbers in the three words, by corner
-number-at : (rows k t base : ℕ) (w : List ℕ) (x : Triangle) → 3 * t + 3 ≤ rows → part rows k t w ≡ numbers base x → (i : Third) → cell rows k (row t i) w ≡ base + kept x i .which
+pub number-at : (rows k t base : ℕ) (w : List ℕ) (x : Triangle) → 3 * t + 3 ≤ rows → part rows k t w ≡ numbers base x → (i : Third) → cell rows k (row t i) w ≡ base + kept x i .which
 unfolding num kept
 number-at rows k t base w x room e one = part-cell rows k t 0 w (omega arith) room ∙ ap (λ (l : List ℕ). getD l 0 0) e
 number-at rows k t base w x room e two = part-cell rows k t 1 w (omega arith) room ∙ ap (λ (l : List ℕ). getD l 1 0) e
@@ -71,3 +76,65 @@ module _ (rows : ℕ) (sizes : List ℕ) (ps ns ts : List Float) (xs : List Tria
     where
       same : (k : ℕ) → outside recordColumns k ≡ false → take 3 (drop (3 * t) (column rows k u)) ≡ take 3 (drop (3 * t) (column rows k w))
       same k e = ap (λ (l : List ℕ). take 3 (drop (3 * t) l)) (O .others k (apart recordColumns ks c k e))
+
+-- ---- what is told of a triangle, whatever its orientation
+
+-- a held vector from its three words
+pub vector-back : (v : Vec3) → HeldVec v → vectorOf (word (v .x)) (word (v .y)) (word (v .z)) ≡ v
+unfolding vectorOf
+vector-back v h = λ k. record { x = number-word (v .x) (h .x-held) k; y = number-word (v .y) (h .y-held) k; z = number-word (v .z) (h .z-held) k }
+
+three-back : (rows k t : ℕ) (w : List ℕ) (v : Vec3) → 3 * t + 3 ≤ rows → part rows k t w ≡ threeOf v → HeldVec v → vectorOf (cell rows k (3 * t) w) (cell rows k (3 * t + 1) w) (cell rows k (3 * t + 2) w) ≡ v
+three-back rows k t w v room e h =
+    (λ z.
+    vectorOf (((ap (λ (n : ℕ). cell rows k n w) (zero-more t)) ∙ (part-cell rows k t 0 w (omega arith) room ∙ ap (λ (l : List ℕ). getD l 0 0) e)) z)
+    ((part-cell rows k t 1 w (omega arith) room ∙ ap (λ (l : List ℕ). getD l 1 0) e) z)
+    ((part-cell rows k t 2 w (omega arith) room ∙ ap (λ (l : List ℕ). getD l 2 0) e) z))
+    ∙ vector-back v h
+  where
+    zero-more : (t : ℕ) → 3 * t ≡ 3 * t + 0
+    zero-more t = omega arith
+
+-- the columns that hold a triangle tell of it
+pub told-stored : (rows : ℕ) (sizes : List ℕ) (ps ns ts : List Float) (w : List ℕ) (t : ℕ) (x : Triangle) → 3 * t + 3 ≤ rows → Stored rows sizes ps ns ts w t x → Told rows sizes ps ns ts w t x
+told-stored rows sizes ps ns ts w t x room S = record {
+  number = number-at rows cornerColumn t _ w x room (S .corner);
+  corner = λ i. S .from .corner i ∙ ap (cornerAt ps ns ts) (sym (number-at rows cornerColumn t _ w x room (S .corner) i));
+  slot = number-at rows slotColumn t _ w x room (S .slot);
+  face = first nameColumn ∙ ap (λ (l : List ℕ). getD l 0 0) (S .name);
+  missing = part-cell rows nameColumn t 2 w (omega arith) room ∙ ap (λ (l : List ℕ). getD l 2 0) (S .name);
+  along = three-back rows sColumn t w (x .tangent .s) room (S .along) (S .held .s-held);
+  up = three-back rows tColumn t w (x .tangent .t) room (S .up) (S .held .t-held);
+  s-long = ap number (first magnitudeColumn ∙ ap (λ (l : List ℕ). getD l 0 0) (S .long)) ∙ number-word _ (S .held .s-magnitude-held);
+  t-long = ap number (part-cell rows magnitudeColumn t 1 w (omega arith) room ∙ ap (λ (l : List ℕ). getD l 1 0) (S .long)) ∙ number-word _ (S .held .t-magnitude-held);
+  marked = part-cell rows magnitudeColumn t 2 w (omega arith) room ∙ ap (λ (l : List ℕ). getD l 2 0) (S .long);
+  loose = S .loose;
+}
+  where
+    first : (k : ℕ) → cell rows k (3 * t) w ≡ getD (part rows k t w) 0 0
+    first k = let e : 3 * t ≡ 3 * t + 0 = omega arith in ap (λ (n : ℕ). cell rows k n w) e ∙ part-cell rows k t 0 w (omega arith) room
+
+-- stores in other columns leave what is told
+pub told-kept : (rows : ℕ) (sizes : List ℕ) (ps ns ts : List Float) (ks w u : List ℕ) (t : ℕ) (x : Triangle) → 3 * t + 3 ≤ rows → disjoint toldColumns ks ≡ true → Only ks rows w u → Told rows sizes ps ns ts w t x → Told rows sizes ps ns ts u t x
+told-kept rows sizes ps ns ts ks w u t x room c O S = record {
+  number = λ i. at cornerColumn refl i ∙ S .number i;
+  corner = λ i. S .corner i ∙ ap (cornerAt ps ns ts) (sym (at cornerColumn refl i));
+  slot = λ i. at slotColumn refl i ∙ S .slot i;
+  face = same nameColumn refl (3 * t) (omega arith) ∙ S .face;
+  missing = same nameColumn refl (3 * t + 2) (omega arith) ∙ S .missing;
+  along = three sColumn refl ∙ S .along;
+  up = three tColumn refl ∙ S .up;
+  s-long = ap number (same magnitudeColumn refl (3 * t) (omega arith)) ∙ S .s-long;
+  t-long = ap number (same magnitudeColumn refl (3 * t + 1) (omega arith)) ∙ S .t-long;
+  marked = same magnitudeColumn refl (3 * t + 2) (omega arith) ∙ S .marked;
+  loose = same anyColumn refl t (omega arith) ∙ S .loose;
+}
+  where
+    same : (k : ℕ) → outside toldColumns k ≡ false → (i : ℕ) → i < rows → cell rows k i u ≡ cell rows k i w
+    same k e i h = cell-kept ks rows w u O k i (apart toldColumns ks c k e) h
+
+    at : (k : ℕ) → outside toldColumns k ≡ false → (i : Third) → cell rows k (row t i) u ≡ cell rows k (row t i) w
+    at k e i = same k e (row t i) (omega (arith, num-lt i, room))
+
+    three : (k : ℕ) → outside toldColumns k ≡ false → vectorOf (cell rows k (3 * t) u) (cell rows k (3 * t + 1) u) (cell rows k (3 * t + 2) u) ≡ vectorOf (cell rows k (3 * t) w) (cell rows k (3 * t + 1) w) (cell rows k (3 * t + 2) w)
+    three k e = λ z. vectorOf (same k e (3 * t) (omega arith) z) (same k e (3 * t + 1) (omega arith) z) (same k e (3 * t + 2) (omega arith) z)

@@ -1,6 +1,9 @@
 pub mod Frame
+pub mod Stores
 pub mod Rows
 pub mod Records
 pub mod Weld
 pub mod Links
 pub mod Groups
+pub mod Contributions
+pub mod Answer

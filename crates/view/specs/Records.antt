@@ -5,16 +5,17 @@ use mathlib.Core.Bool.{Bool}
 use mathlib.Core.List.{List, [], _∷_}
 use lib.ListN.{length, getD, take, drop}
 use lib.Ieee.{Float}
-use Rattle.bits.specs.Word.{word}
+use Rattle.bits.specs.Word.{word, number as numberOf}
 use Rattle.math.specs.declared.Vec3.{Vec3}
 use Rattle.tangent.specs.declared.RawTangentSpace.{RawTangentSpace}
-use Rattle.tangent.specs.Slot.{flag}
+use Rattle.tangent.specs.Slot.{flag, vectorOf}
 use Rattle.tangent.specs.Held.{HeldSpace}
 use Rattle.table.specs.Table.{cell, column}
 use Rattle.table.specs.Columns.{cornerColumn, slotColumn, nameColumn, sColumn, tColumn, magnitudeColumn, orientationColumn, anyColumn}
 use Rattle.definition.specs.declared.Triangle.{Triangle}
 use Rattle.definition.specs.Mesh.{Third, kept}
 use Rattle.definition.specs.Handed.{cornerAt, cornerCount, slotCount}
+use Rattle.view.specs.Rows.{row}
 
 -- the three words of triangle t in column k
 unfoldable pub part : ℕ → ℕ → ℕ → List ℕ → List ℕ
@@ -61,3 +62,25 @@ Held rows sizes ps ns ts xs d w = (t : ℕ) → t < length xs → Stored rows si
 -- the columns of a triangle
 abbrev pub recordColumns : List ℕ
 recordColumns = cornerColumn ∷ slotColumn ∷ nameColumn ∷ sColumn ∷ tColumn ∷ magnitudeColumn ∷ orientationColumn ∷ anyColumn ∷ []
+
+-- What the columns tell of x as triangle number t, for the lists handed in: all that steps 7 to 9 read of it. Its orientation, which step 6 alters, is not among it.
+pub record Told (rows : ℕ) (sizes : List ℕ) (ps ns ts : List Float) (w : List ℕ) (t : ℕ) (x : Triangle) : Type 0 where
+  pub number : (i : Third) → cell rows cornerColumn (row t i) w ≡ cornerCount (take (x .face) sizes) + kept x i .which
+  pub corner : (i : Third) → kept x i .corner ≡ cornerAt ps ns ts (cell rows cornerColumn (row t i) w)
+  pub slot : (i : Third) → cell rows slotColumn (row t i) w ≡ slotCount (take (x .face) sizes) + kept x i .which
+  pub face : cell rows nameColumn (3 * t) w ≡ x .face
+  pub missing : cell rows nameColumn (3 * t + 2) w ≡ x .missing
+  pub along : vectorOf (cell rows sColumn (3 * t) w) (cell rows sColumn (3 * t + 1) w) (cell rows sColumn (3 * t + 2) w) ≡ x .tangent .s
+  pub up : vectorOf (cell rows tColumn (3 * t) w) (cell rows tColumn (3 * t + 1) w) (cell rows tColumn (3 * t + 2) w) ≡ x .tangent .t
+  pub s-long : numberOf (cell rows magnitudeColumn (3 * t) w) ≡ x .tangent .«s_magnitude»
+  pub t-long : numberOf (cell rows magnitudeColumn (3 * t + 1) w) ≡ x .tangent .«t_magnitude»
+  pub marked : cell rows magnitudeColumn (3 * t + 2) w ≡ flag (x .marked)
+  pub loose : cell rows anyColumn t w ≡ flag (x .any)
+
+-- of the triangles xs, in their order
+abbrev pub Tells : ℕ → List ℕ → List Float → List Float → List Float → List Triangle → Triangle → List ℕ → Type 0
+Tells rows sizes ps ns ts xs d w = (t : ℕ) → t < length xs → Told rows sizes ps ns ts w t (getD xs t d)
+
+-- the columns of a triangle but for its orientation
+abbrev pub toldColumns : List ℕ
+toldColumns = cornerColumn ∷ slotColumn ∷ nameColumn ∷ sColumn ∷ tColumn ∷ magnitudeColumn ∷ anyColumn ∷ []

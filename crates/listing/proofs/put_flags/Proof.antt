@@ -1,7 +1,7 @@
 -- Proof that `put_flags` meets its contract. Assumes nothing.
 use native.Mathlib.Omega.{arith}
 use lib.ListN.{length-set}
-use Rattle.listing.specs.Listing.{storing}
+use Rattle.view.specs.Stores.{storing}
 use borrow.Author.Needs.{needs}
 use Rattle.listing.proofs.put_flags.Statement.{statement}
 use Rattle.listing.proofs.put_flags.Tie as tie

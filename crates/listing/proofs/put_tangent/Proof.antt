@@ -1,5 +1,5 @@
 -- Proof that `put_tangent` meets its contract. Assumes nothing.
-use Rattle.listing.specs.Listing.{storing}
+use Rattle.view.specs.Stores.{storing}
 use borrow.Author.Needs.{needs}
 use Rattle.listing.proofs.put_tangent.Statement.{statement}
 use Rattle.listing.proofs.put_tangent.Tie as tie

@@ -1,0 +1,58 @@
+-- What storing a corner's contribution leaves. Definitions only.
+use Prim.Native.Nat.{ℕ, _+_, _*_, _<_}
+use mathlib.Core.Path.{_≡_}
+use mathlib.Core.Bool.{false}
+use mathlib.Core.List.{List}
+use lib.Dec.{eqb}
+use lib.Ieee.{Float}
+use Rattle.bits.specs.Word.{number}
+use Rattle.math.specs.declared.Vec3.{Vec3}
+use Rattle.tangent.specs.declared.RawTangentSpace.{RawTangentSpace}
+use Rattle.tangent.specs.Slot.{vectorOf}
+use Rattle.table.specs.Table.{cell}
+use Rattle.table.specs.Columns.{cornerColumn, sColumn, tColumn, magnitudeColumn, openingColumn}
+use Rattle.definition.specs.declared.Triangle.{Triangle}
+use Rattle.definition.specs.Handed.{vectorAt}
+use Rattle.definition.specs.Mesh.{Third, Spot}
+use Rattle.definition.specs.Step7Sums.{projected}
+use Rattle.sums.specs.Sums.{openingAt}
+use Rattle.view.specs.Frame.{Only}
+use Rattle.view.specs.Rows.{row}
+use Rattle.view.specs.Records.{Told}
+use Rattle.view.specs.Contributions.{sAt, tAt, Brings, contributionColumns}
+
+-- the tangent in the columns of triangle t
+unfoldable pub tangentAt : ℕ → ℕ → List ℕ → RawTangentSpace
+tangentAt rows t w =
+    record {
+      s = vectorOf (cell rows sColumn (3 * t) w) (cell rows sColumn (3 * t + 1) w) (cell rows sColumn (3 * t + 2) w);
+      t = vectorOf (cell rows tColumn (3 * t) w) (cell rows tColumn (3 * t + 1) w) (cell rows tColumn (3 * t + 2) w);
+      «s_magnitude» = number (cell rows magnitudeColumn (3 * t) w);
+      «t_magnitude» = number (cell rows magnitudeColumn (3 * t + 1) w);
+    }
+
+-- row k has what it had
+pub record Same (rows k : ℕ) (w u : List ℕ) : Type 0 where
+  pub along : sAt rows k u ≡ sAt rows k w
+  pub up : tAt rows k u ≡ tAt rows k w
+  pub angle : cell rows openingColumn k u ≡ cell rows openingColumn k w
+
+-- the two directions and the angle stand in row r, the other rows of their columns have what they had, and so have the other columns
+pub record Stored (rows r : ℕ) (s t : Vec3) (a : Float) (w u : List ℕ) : Type 0 where
+  pub along : sAt rows r u ≡ s
+  pub up : tAt rows r u ≡ t
+  pub angle : number (cell rows openingColumn r u) ≡ a
+  pub others : (k : ℕ) → k < rows → eqb r k ≡ false → Same rows k w u
+  pub only : Only contributionColumns rows w u
+
+-- what the corner at row r brings, of a triangle with the tangent g, with its neighbours at rows q and p, by the numbers in the column of corners
+abbrev pub Brought : ℕ → List Float → List Float → RawTangentSpace → ℕ → ℕ → ℕ → List ℕ → List ℕ → Type 0
+Brought rows ps ns g r q p w u =
+    let n = vectorAt ns (cell rows cornerColumn r w) in
+    Stored rows r (projected n (g .s)) (projected n (g .t)) (openingAt n (vectorAt ps (cell rows cornerColumn r w)) (vectorAt ps (cell rows cornerColumn q w)) (vectorAt ps (cell rows cornerColumn p w))) w u
+
+-- the three corners of triangle t bring what they should, where the columns tell of it; the rows before them have what they had
+pub record Turn (rows : ℕ) (ps ns : List Float) (t : ℕ) (w u : List ℕ) : Type 0 where
+  pub brings : (sizes : List ℕ) (ts : List Float) (x : Triangle) → Told rows sizes ps ns ts w t x → (i : Third) → Brings rows u (row t i) (record { tri = x; at = i })
+  pub before : (k : ℕ) → k < 3 * t → Same rows k w u
+  pub only : Only contributionColumns rows w u

@@ -1,0 +1,220 @@
+// What each corner of a sound triangle brings to a sum of step 7, once per corner and kept in columns: both directions of its triangle's tangent, projected, and its angle.
+// Carried over from mikktspace.rs (evaluate_tangent_space) of the Rust crate bevy_mikktspace and ALTERED: written anew in Rattle, once per corner. See NOTICE.
+ghost use mathlib.Core.Path.{_≡_};
+ghost use mathlib.Core.List.{List};
+ghost use Prim.Native.Nat.{ℕ, _+_, _*_, _<_, _≤_};
+ghost use lib.ListN.{length, getD, set};
+ghost use lib.Ieee.{Float};
+ghost use Rattle.bits.specs.Word.{word};
+ghost use Rattle.angle.specs.Table as angles;
+ghost use Rattle.math.specs.Held.{HeldVec};
+ghost use Rattle.tangent.specs.Slot.{vectorOf};
+ghost use Rattle.table.specs.Columns.{columns, sColumn, tColumn, magnitudeColumn};
+ghost use Rattle.definition.specs.declared.Triangle.{Triangle};
+ghost use Rattle.view.specs.Frame.{Only};
+ghost use Rattle.view.specs.Records.{Tells};
+ghost use Rattle.view.specs.Contributions.{sAt, tAt, Contributed, contributionColumns};
+ghost use Rattle.contributions.specs.Contributions as spec;
+use math::Vec3;
+use tangent::RawTangentSpace;
+
+// ---- vectors in the work list
+
+// The vector of three words.
+fn vector_of(work: &[u32], x: usize, y: usize, z: usize) -> Vec3
+    requires { ⌜ (x < length (now work)) × (y < length (now work)) × (z < length (now work)) ⌝ }
+    ensures { λ r. ⌜ r ≡ vectorOf (getD (now (work .entry)) x 0) (getD (now (work .entry)) y 0) (getD (now (work .entry)) z 0) ⌝ }
+{
+    Vec3::new(
+        bits::number(work[x]),
+        bits::number(work[y]),
+        bits::number(work[z]),
+    )
+}
+
+// Three words of a vector.
+fn put_vector(work: &mut [u32], x: usize, y: usize, z: usize, v: Vec3)
+    requires { ⌜ (x < length (now work)) × (y < length (now work)) × (z < length (now work)) ⌝ }
+    ensures { λ _. ⌜ (now (work .exit) ≡ set (set (set (now (work .entry)) x (word (v .x))) y (word (v .y))) z (word (v .z))) × HeldVec v ⌝ }
+{
+    let a = bits::word(v.x);
+    let b = bits::word(v.y);
+    let c = bits::word(v.z);
+    work[x] = a;
+    work[y] = b;
+    work[z] = c;
+}
+
+// The projected s of the corner at a row.
+pub fn s_at(work: &[u32], rows: usize, r: usize) -> Vec3
+    requires { ⌜ (r < rows) × (columns * rows ≤ length (now work)) ⌝ }
+    ensures { λ v. ⌜ v ≡ sAt rows r (now (work .entry)) ⌝ }
+{
+    vector_of(
+        work,
+        table::S_X * rows + r,
+        table::S_Y * rows + r,
+        table::S_Z * rows + r,
+    )
+}
+
+// The projected t of the corner at a row.
+pub fn t_at(work: &[u32], rows: usize, r: usize) -> Vec3
+    requires { ⌜ (r < rows) × (columns * rows ≤ length (now work)) ⌝ }
+    ensures { λ v. ⌜ v ≡ tAt rows r (now (work .entry)) ⌝ }
+{
+    vector_of(
+        work,
+        table::T_X * rows + r,
+        table::T_Y * rows + r,
+        table::T_Z * rows + r,
+    )
+}
+
+// The first-order tangent of triangle t.
+fn tangent_at(work: &[u32], rows: usize, t: usize) -> RawTangentSpace
+    requires { ⌜ (3 * t + 3 ≤ rows) × (columns * rows ≤ length (now work)) ⌝ }
+    ensures { λ g. ⌜ g ≡ spec.tangentAt rows t (now (work .entry)) ⌝ }
+{
+    let at = 3 * t;
+    let s = vector_of(
+        work,
+        table::TANGENT_S * rows + at,
+        table::TANGENT_S * rows + (at + 1),
+        table::TANGENT_S * rows + (at + 2),
+    );
+    let v = vector_of(
+        work,
+        table::TANGENT_T * rows + at,
+        table::TANGENT_T * rows + (at + 1),
+        table::TANGENT_T * rows + (at + 2),
+    );
+    RawTangentSpace {
+        s,
+        t: v,
+        s_magnitude: bits::number(work[table::MAGNITUDE * rows + at]),
+        t_magnitude: bits::number(work[table::MAGNITUDE * rows + (at + 1)]),
+    }
+}
+
+// ---- one corner
+
+// What the corner at row r brings, in its columns.
+fn store(work: &mut [u32], rows: usize, r: usize, s: Vec3, t: Vec3, opening: f32)
+    requires { ⌜ (r < rows) × (columns * rows ≤ length (now work)) ⌝ }
+    ensures { λ _. ⌜ spec.Stored rows r s t opening (now (work .entry)) (now (work .exit)) ⌝ }
+{
+    put_vector(
+        work,
+        table::S_X * rows + r,
+        table::S_Y * rows + r,
+        table::S_Z * rows + r,
+        s,
+    );
+    put_vector(
+        work,
+        table::T_X * rows + r,
+        table::T_Y * rows + r,
+        table::T_Z * rows + r,
+        t,
+    );
+    let a = bits::word(opening);
+    work[table::OPENING * rows + r] = a;
+}
+
+// The corner at row r of a triangle with the tangent g; the next corner is at row q, the one before it at row p.
+fn contribute(
+    work: &mut [u32],
+    rows: usize,
+    cosines: &[u32; 1025],
+    positions: &[f32],
+    normals: &[f32],
+    g: RawTangentSpace,
+    r: usize,
+    q: usize,
+    p: usize,
+)
+    requires { ⌜ (now cosines ≡ angles.cosines) × (r < rows) × (q < rows) × (p < rows) × (columns * rows ≤ length (now work)) ⌝ }
+    ensures { λ _. ⌜ spec.Brought rows (now (positions .entry)) (now (normals .entry)) g r q p (now (work .entry)) (now (work .exit)) ⌝ }
+{
+    let corner = work[table::CORNER * rows + r];
+    let next = work[table::CORNER * rows + q];
+    let prior = work[table::CORNER * rows + p];
+    let n = mesh::vector_at(normals, corner);
+    let at = mesh::vector_at(positions, corner);
+    let to = mesh::vector_at(positions, next);
+    let from = mesh::vector_at(positions, prior);
+    let opening = sums::opening(cosines, n, at, to, from);
+    let s = sums::project(n, g.s);
+    let t = sums::project(n, g.t);
+    store(work, rows, r, s, t, opening);
+}
+
+// ---- all of them
+
+// The three corners of triangle t.
+fn contribute_triangle(
+    work: &mut [u32],
+    rows: usize,
+    cosines: &[u32; 1025],
+    positions: &[f32],
+    normals: &[f32],
+    t: usize,
+)
+    requires { ⌜ (now cosines ≡ angles.cosines) × (3 * t + 3 ≤ rows) × (columns * rows ≤ length (now work)) ⌝ }
+    ensures { λ _. ⌜ spec.Turn rows (now (positions .entry)) (now (normals .entry)) t (now (work .entry)) (now (work .exit)) ⌝ }
+{
+    let g = tangent_at(work, rows, t);
+    let at = 3 * t;
+    contribute(
+        work,
+        rows,
+        cosines,
+        positions,
+        normals,
+        g,
+        at,
+        at + 1,
+        at + 2,
+    );
+    contribute(
+        work,
+        rows,
+        cosines,
+        positions,
+        normals,
+        g,
+        at + 1,
+        at + 2,
+        at,
+    );
+    contribute(
+        work,
+        rows,
+        cosines,
+        positions,
+        normals,
+        g,
+        at + 2,
+        at,
+        at + 1,
+    );
+}
+
+// The corners of the first tris triangles.
+pub fn contribute_all(
+    work: &mut [u32],
+    rows: usize,
+    tris: usize,
+    positions: &[f32],
+    normals: &[f32],
+)
+    requires { ⌜ (3 * tris ≤ rows) × (columns * rows ≤ length (now work)) ⌝ }
+    ensures brings { λ _. ⌜ ((sizes : List ℕ) (ts : List Float) (ss : List Triangle) (d : Triangle) → length ss ≡ tris → Tells rows sizes (now (positions .entry)) (now (normals .entry)) ts ss d (now (work .entry)) → Contributed rows ss d (now (work .exit))) ⌝ }
+    ensures only { λ _. ⌜ Only contributionColumns rows (now (work .entry)) (now (work .exit)) ⌝ }
+{
+    let cosines = angle::table();
+    for t in 0..tris {
+        contribute_triangle(work, rows, &cosines, positions, normals, t);
+    }
+}
