@@ -83,25 +83,6 @@ pub contribute-spec : {M : Type 1} → statement M
 contribute-spec =
     tie.close
     (tie.spec
-    mul-corner
-    add-corner
-    mul-corner-2
-    slice-read-corner
-    mul-next
-    add-next
-    mul-next-2
-    slice-read-next
-    mul-prior
-    add-prior
-    mul-prior-2
-    slice-read-prior
-    vector-at-requires
-    vector-at-requires-2
-    vector-at-requires-3
-    vector-at-requires-4
-    opening-requires
-    project-requires
-    project-requires-2
-    store-requires
-    same-length
-    returns)
+    mul-corner add-corner mul-corner-2 slice-read-corner mul-next add-next mul-next-2 slice-read-next mul-prior
+    add-prior mul-prior-2 slice-read-prior vector-at-requires vector-at-requires-2 vector-at-requires-3
+    vector-at-requires-4 opening-requires project-requires project-requires-2 store-requires same-length returns)

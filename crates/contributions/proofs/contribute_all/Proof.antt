@@ -1,4 +1,4 @@
--- \`contributions::contribute_all\` meets its contract. Assumes nothing.
+-- `contributions::contribute_all` meets its contract. Assumes nothing.
 use Prim.Native.Nat.{_-_, _≤_}
 use native.Mathlib.Nat.{le-antisymm}
 use native.Mathlib.Omega.{arith}
@@ -57,13 +57,5 @@ pub contribute-all-spec : {M : Type 1} → statement M
 contribute-all-spec =
     tie.close
     (tie.spec
-    Inv-loop
-    μ-loop
-    table-requires
-    loop-holds
-    contribute-triangle-requires
-    add-t
-    loop-less
-    loop-again
-    same-length
+    Inv-loop μ-loop table-requires loop-holds contribute-triangle-requires add-t loop-less loop-again same-length
     returns)

@@ -54,16 +54,5 @@ pub contribute-triangle-spec : {M : Type 1} → statement M
 contribute-triangle-spec =
     tie.close
     (tie.spec
-    tangent-at-requires
-    mul-at
-    add-contribute
-    add-contribute-2
-    contribute-requires
-    add-contribute-3
-    add-contribute-4
-    contribute-requires-2
-    add-contribute-5
-    add-contribute-6
-    contribute-requires-3
-    same-length
-    returns)
+    tangent-at-requires mul-at add-contribute add-contribute-2 contribute-requires add-contribute-3 add-contribute-4
+    contribute-requires-2 add-contribute-5 add-contribute-6 contribute-requires-3 same-length returns)

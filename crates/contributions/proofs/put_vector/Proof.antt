@@ -45,14 +45,5 @@ pub put-vector-spec : {M : Type 1} → statement M
 put-vector-spec =
     tie.close
     (tie.spec
-    word-requires
-    word-requires-2
-    word-requires-3
-    mul-work
-    slice-write-work
-    mul-work-2
-    slice-write-work-2
-    mul-work-3
-    slice-write-work-3
-    same-length
-    returns)
+    word-requires word-requires-2 word-requires-3 mul-work slice-write-work mul-work-2 slice-write-work-2 mul-work-3
+    slice-write-work-3 same-length returns)

@@ -33,11 +33,5 @@ pub s-at-spec : {M : Type 1} → statement M
 s-at-spec =
     tie.close
     (tie.spec
-    mul-vector-of
-    add-vector-of
-    mul-vector-of-2
-    add-vector-of-2
-    mul-vector-of-3
-    add-vector-of-3
-    vector-of-requires
+    mul-vector-of add-vector-of mul-vector-of-2 add-vector-of-2 mul-vector-of-3 add-vector-of-3 vector-of-requires
     returns)

@@ -93,24 +93,7 @@ pub store-spec : {M : Type 1} → statement M
 store-spec =
     tie.close
     (tie.spec
-    mul-put-vector
-    add-put-vector
-    mul-put-vector-2
-    add-put-vector-2
-    mul-put-vector-3
-    add-put-vector-3
-    put-vector-requires
-    mul-put-vector-4
-    add-put-vector-4
-    mul-put-vector-5
-    add-put-vector-5
-    mul-put-vector-6
-    add-put-vector-6
-    put-vector-requires-2
-    word-requires
-    mul-work
-    add-work
-    mul-work-2
-    slice-write-work
-    same-length
+    mul-put-vector add-put-vector mul-put-vector-2 add-put-vector-2 mul-put-vector-3 add-put-vector-3
+    put-vector-requires mul-put-vector-4 add-put-vector-4 mul-put-vector-5 add-put-vector-5 mul-put-vector-6
+    add-put-vector-6 put-vector-requires-2 word-requires mul-work add-work mul-work-2 slice-write-work same-length
     returns)

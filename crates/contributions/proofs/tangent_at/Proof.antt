@@ -109,34 +109,8 @@ pub tangent-at-spec : {M : Type 1} → statement M
 tangent-at-spec =
     tie.close
     (tie.spec
-    mul-at
-    mul-vector-of
-    add-vector-of
-    mul-vector-of-2
-    add-vector-of-2
-    add-vector-of-3
-    mul-vector-of-3
-    add-vector-of-4
-    add-vector-of-5
-    vector-of-requires
-    mul-vector-of-4
-    add-vector-of-6
-    mul-vector-of-5
-    add-vector-of-7
-    add-vector-of-8
-    mul-vector-of-6
-    add-vector-of-9
-    add-vector-of-10
-    vector-of-requires-2
-    mul-number
-    add-number
-    mul-number-2
-    shared-slice-read-number
-    number-requires
-    mul-number-3
-    add-number-2
-    add-number-3
-    mul-number-4
-    shared-slice-read-number-2
-    number-requires-2
-    returns)
+    mul-at mul-vector-of add-vector-of mul-vector-of-2 add-vector-of-2 add-vector-of-3 mul-vector-of-3 add-vector-of-4
+    add-vector-of-5 vector-of-requires mul-vector-of-4 add-vector-of-6 mul-vector-of-5 add-vector-of-7 add-vector-of-8
+    mul-vector-of-6 add-vector-of-9 add-vector-of-10 vector-of-requires-2 mul-number add-number mul-number-2
+    shared-slice-read-number number-requires mul-number-3 add-number-2 add-number-3 mul-number-4
+    shared-slice-read-number-2 number-requires-2 returns)

@@ -42,14 +42,5 @@ pub vector-of-spec : {M : Type 1} → statement M
 vector-of-spec =
     tie.close
     (tie.spec
-    mul-number
-    shared-slice-read-number
-    number-requires
-    mul-number-2
-    shared-slice-read-number-2
-    number-requires-2
-    mul-number-3
-    shared-slice-read-number-3
-    number-requires-3
-    new-requires
-    returns)
+    mul-number shared-slice-read-number number-requires mul-number-2 shared-slice-read-number-2 number-requires-2
+    mul-number-3 shared-slice-read-number-3 number-requires-3 new-requires returns)

@@ -26,8 +26,4 @@ pub finish-spec : {M : Type 1} → statement M
 finish-spec =
     tie.close
     (tie.spec
-    normalized-or-zero-requires
-    normalized-or-zero-requires-2
-    per-angle-requires
-    per-angle-requires-2
-    returns)
+    normalized-or-zero-requires normalized-or-zero-requires-2 per-angle-requires per-angle-requires-2 returns)

@@ -31,10 +31,4 @@ pub opening-spec : {M : Type 1} → statement M
 opening-spec =
     tie.close
     (tie.spec
-    sub-requires
-    project-requires
-    sub-requires-2
-    project-requires-2
-    dot-requires
-    acos-by-requires
-    returns)
+    sub-requires project-requires sub-requires-2 project-requires-2 dot-requires acos-by-requires returns)

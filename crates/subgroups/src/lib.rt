@@ -1,0 +1,157 @@
+// Step 7: the subgroup of a member, and the sum of its contributions.
+// Carried over from mikktspace.rs (generate_tangent_spaces, evaluate_tangent_space) of the Rust crate bevy_mikktspace and ALTERED: written anew in Rattle, over columns. See NOTICE.
+// A pair of members costs two dot products and two comparisons; a sum is worked out again only where the subgroup is another than that of the member before.
+ghost use mathlib.Core.Path.{_≡_};
+ghost use mathlib.Core.Bool.{true};
+ghost use mathlib.Core.List.{[], _∷_};
+ghost use Prim.Native.Nat.{_-_, _*_, _<_, _≤_};
+ghost use lib.ListN.{length};
+ghost use Rattle.table.specs.Columns.{columns, orderColumn, joinedColumn};
+ghost use Rattle.table.specs.Table.{cell, put};
+ghost use Rattle.view.specs.Frame.{Only};
+ghost use Rattle.subgroups.specs.Subgroups as spec;
+use definition::Sum;
+use math::Vec3;
+use tangent::RawTangentSpace;
+
+// ---- the subgroup
+
+// What the test of a pair asks of a corner: whether its triangle is `group_with_any`, its face, and both directions, projected.
+pub struct Peer {
+    pub any: bool,
+    pub face: u32,
+    pub s: Vec3,
+    pub t: Vec3,
+}
+
+// The corner at a row.
+fn peer_at(work: &[u32], rows: usize, r: usize) -> Peer
+    requires { ⌜ (r < rows) × (columns * rows ≤ length (now work)) ⌝ }
+    ensures { λ p. ⌜ p ≡ spec.peerAt rows r (now (work .entry)) ⌝ }
+{
+    let any = work[table::ANY * rows + r / 3] == 1;
+    let face = work[table::NAME * rows + 3 * (r / 3)];
+    let s = contributions::s_at(work, rows, r);
+    let t = contributions::t_at(work, rows, r);
+    Peer { any, face, s, t }
+}
+
+// Whether the corner at row r is in the subgroup of a member: either `group_with_any`, the same face, or both cosines strictly above the threshold.
+fn joins(work: &[u32], rows: usize, threshold: f32, m: Peer, r: usize) -> bool
+    requires { ⌜ (r < rows) × (columns * rows ≤ length (now work)) ⌝ }
+    ensures { λ b. ⌜ b ≡ spec.joinsBy threshold m (spec.peerAt rows r (now (work .entry))) ⌝ }
+{
+    if m.any {
+        return true;
+    }
+    if work[table::ANY * rows + r / 3] == 1 {
+        return true;
+    }
+    if m.face == work[table::NAME * rows + 3 * (r / 3)] {
+        return true;
+    }
+    if threshold < m.s.dot(contributions::s_at(work, rows, r)) {
+        return threshold < m.t.dot(contributions::t_at(work, rows, r));
+    }
+    false
+}
+
+// Whether the p-th in triangle order is in it, marked; the result says whether it was marked so before.
+fn mark(work: &mut [u32], rows: usize, threshold: f32, m: Peer, p: usize) -> bool
+    requires { ⌜ (p < rows) × (cell rows orderColumn p (now work) < rows) × (columns * rows ≤ length (now work)) ⌝ }
+    ensures { λ r. ⌜ (now (work .exit) ≡ put rows joinedColumn p (spec.markOf rows threshold m p (now (work .entry))) (now (work .entry))) × (r ≡ true → now (work .exit) ≡ now (work .entry)) ⌝ }
+{
+    let r = work[table::ORDER * rows + p] as usize;
+    let b = tangent::flag(joins(work, rows, threshold, m, r));
+    if work[table::JOINED * rows + p] == b {
+        return true;
+    }
+    work[table::JOINED * rows + p] = b;
+    false
+}
+
+// The whole subgroup, of the group whose members stand from one place to another; the result says whether it is the one that was marked before.
+fn mark_subgroup(
+    work: &mut [u32],
+    rows: usize,
+    threshold: f32,
+    m: Peer,
+    from: usize,
+    to: usize,
+) -> bool
+    requires { ⌜ (from ≤ to) × (to ≤ rows) × (columns * rows ≤ length (now work)) × spec.Ranged rows to (now work) ⌝ }
+    ensures { λ r. ⌜ spec.Marked rows threshold m from (to - from) (now (work .entry)) (now (work .exit)) × (r ≡ true → now (work .exit) ≡ now (work .entry)) ⌝ }
+{
+    let mut same = true;
+    for p in from..to {
+        same = mark(work, rows, threshold, m, p) & same;
+    }
+    same
+}
+
+// ---- its sum
+
+// The contribution of the corner at row r; none of a `group_with_any` triangle.
+fn add_row(work: &[u32], rows: usize, r: usize, z: Sum) -> Sum
+    requires { ⌜ (r < rows) × (columns * rows ≤ length (now work)) ⌝ }
+    ensures { λ y. ⌜ y ≡ spec.addRow rows (now (work .entry)) r z ⌝ }
+{
+    if work[table::ANY * rows + r / 3] == 1 {
+        return z;
+    }
+    let s = contributions::s_at(work, rows, r);
+    let t = contributions::t_at(work, rows, r);
+    let g = RawTangentSpace {
+        s,
+        t,
+        s_magnitude: bits::number(work[table::MAGNITUDE * rows + 3 * (r / 3)]),
+        t_magnitude: bits::number(work[table::MAGNITUDE * rows + (3 * (r / 3) + 1)]),
+    };
+    let angle = bits::number(work[table::OPENING * rows + r]);
+    sums::weigh(z, angle, g)
+}
+
+// The contribution of the p-th in triangle order, if it is marked.
+fn add_marked(work: &[u32], rows: usize, p: usize, z: Sum) -> Sum
+    requires { ⌜ (p < rows) × (cell rows orderColumn p (now work) < rows) × (columns * rows ≤ length (now work)) ⌝ }
+    ensures { λ y. ⌜ y ≡ spec.addMarked rows (now (work .entry)) p z ⌝ }
+{
+    if work[table::JOINED * rows + p] != 1 {
+        return z;
+    }
+    add_row(work, rows, work[table::ORDER * rows + p] as usize, z)
+}
+
+// The sum of all that are marked, made a tangent space.
+pub fn evaluate_tangent_space(work: &[u32], rows: usize, from: usize, to: usize) -> RawTangentSpace
+    requires { ⌜ (from ≤ to) × (to ≤ rows) × (columns * rows ≤ length (now work)) × spec.Ranged rows to (now work) ⌝ }
+    ensures { λ g. ⌜ g ≡ spec.evaluated rows from (to - from) (now (work .entry)) ⌝ }
+{
+    let mut z = sums::nothing();
+    for p in from..to {
+        z = add_marked(work, rows, p, z);
+    }
+    sums::finish(z)
+}
+
+// ---- a member
+
+// What the member at row r brings; `before` is what the marked ones give, and is taken again where the marks stay.
+pub fn space_of(
+    work: &mut [u32],
+    rows: usize,
+    threshold: f32,
+    r: usize,
+    from: usize,
+    to: usize,
+    before: RawTangentSpace,
+) -> RawTangentSpace
+    requires { ⌜ (from ≤ to) × (to ≤ rows) × (columns * rows ≤ length (now work)) × spec.Ranged rows to (now work) × (r < rows) × (before ≡ spec.evaluated rows from (to - from) (now work)) ⌝ }
+    ensures { λ g. ⌜ (g ≡ spec.valueOf rows threshold r from (to - from) (now (work .entry))) × (g ≡ spec.evaluated rows from (to - from) (now (work .exit))) × Only (joinedColumn ∷ []) rows (now (work .entry)) (now (work .exit)) ⌝ }
+{
+    let m = peer_at(work, rows, r);
+    if mark_subgroup(work, rows, threshold, m, from, to) {
+        return before;
+    }
+    evaluate_tangent_space(work, rows, from, to)
+}
