@@ -33,7 +33,7 @@ use Rattle.laws.proofs.Mutual.{Names, names-nil, names-cons}
 
 -- ---- ten words a slot
 
-all-words : (l : List Reading) → length (flatMap slot.words l) ≡ slotWords * length l
+pub all-words : (l : List Reading) → length (flatMap slot.words l) ≡ slotWords * length l
 unfolding flatMap
 all-words [] = refl
 all-words (r ∷ l) = length-append (slot.words r) (flatMap slot.words l) ∙ (let a = words-length r in let b = all-words l in omega arith)
@@ -43,7 +43,7 @@ unfolding nooks
 nooks-length i [] = refl
 nooks-length i (c ∷ l) = ap suc (nooks-length (suc i) l)
 
-readings-length : (bs : List Brought) (ss : List Triangle) (f : Face) → length (faceReadings bs ss f) ≡ length (usable (f .corners))
+pub readings-length : (bs : List Brought) (ss : List Triangle) (f : Face) → length (faceReadings bs ss f) ≡ length (usable (f .corners))
 unfolding faceReadings
 readings-length bs ss f = length-map (nooks 0 (usable (f .corners))) _ ∙ nooks-length 0 (usable (f .corners))
 
@@ -53,7 +53,7 @@ used-more n = rw (ne-eqb (suc (suc (suc (suc (suc n))))) 3 (λ e. omega arith), 
 
 module _ (ps ns ts : List Float) where
   -- a face of 3 or 4 takes its size of slots, another none
-  face-slots : (i n : ℕ) → length (usable (cornersFrom ps ns ts i n)) ≡ cond (used n) n 0
+  pub face-slots : (i n : ℕ) → length (usable (cornersFrom ps ns ts i n)) ≡ cond (used n) n 0
   unfolding usable cornersFrom used
   face-slots i zero = refl
   face-slots i (suc zero) = refl

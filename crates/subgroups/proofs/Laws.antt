@@ -18,7 +18,7 @@ use Rattle.bits.specs.Word.{number}
 use Rattle.table.specs.Loop.{upTo, listOf}
 use Rattle.table.specs.Table.{cell, put}
 use Rattle.table.specs.Columns.{columns, nameColumn, magnitudeColumn, anyColumn, metColumn, orderColumn, openingColumn, joinedColumn, sxColumn, syColumn, szColumn, txColumn, tyColumn, tzColumn}
-use Rattle.table.proofs.Loops.{upTo-more, length-listOf, getD-listOf}
+use Rattle.table.proofs.Loops.{upTo-same, length-listOf, getD-listOf}
 use Rattle.table.proofs.Laws.{run-more}
 use Rattle.definition.specs.declared.Sum.{Sum}
 use Rattle.definition.specs.Step7Sums.{emptySum, finish}
@@ -167,12 +167,6 @@ module _ (rows : ℕ) (h : Float) (m : Peer) (from : ℕ) (w : List ℕ) (room :
 
 -- ---- the sum
 
--- two loops with the same turns
-same-turns : {S : Type 0} (n : ℕ) (f g : ℕ → S → S) (z : S) → ((k : ℕ) (y : S) → k < n → f k y ≡ g k y) → upTo n f z ≡ upTo n g z
-unfolding upTo
-same-turns zero f g z e = refl
-same-turns (suc n) f g z e = e n (upTo n f z) (omega arith) ∙ ap (g n) (same-turns n f g z (λ k y l. e k y (omega arith)))
-
 module _ (rows : ℕ) (w u : List ℕ) (O : Only (joinedColumn ∷ []) rows w u) where
   -- (row 3 * (r / 3) + 1 may be the first of the next column)
   long-kept : (r : ℕ) → r < rows → cell rows magnitudeColumn (3 * (r / 3) + 1) u ≡ cell rows magnitudeColumn (3 * (r / 3) + 1) w
@@ -193,13 +187,26 @@ module _ (rows : ℕ) (w u : List ℕ) (O : Only (joinedColumn ∷ []) rows w u)
   unfolding addRow
   row-kept r y h = λ z. cond (eqb (kept rows w u O anyColumn (r / 3) (omega (arith, row-floor r)) refl z) 1) y (weighedBy y (number (kept rows w u O openingColumn r h refl z)) (space-kept r h z))
 
+  -- and so what a member brings
+  pub value-kept : (h : Float) (r from n : ℕ) → r < rows → from + n ≤ rows → ((p : ℕ) → p < from + n → cell rows orderColumn p w < rows) → valueOf rows h r from n u ≡ valueOf rows h r from n w
+  unfolding valueOf addJoined joinsAt
+  value-kept h r from n l f R =
+      let m = peer-kept rows w u O r l in
+      ap finish
+      (upTo-same n _ _ emptySum
+      (λ k y b.
+      let g = R (from + k) (omega arith) in
+      let o = order-kept rows w u O (from + k) (omega arith) in
+      (λ z. cond (joinsBy h (m z) (peerAt rows (o z) u)) (addRow rows u (o z) y) y)
+      ∙ (λ z. cond (joinsBy h (peerAt rows r w) (peer-kept rows w u O (cell rows orderColumn (from + k) w) g z)) (row-kept (cell rows orderColumn (from + k) w) y g z) y)))
+
 -- the sum of the marked is the sum of those that join the member
 pub value-marked : (rows : ℕ) (h : Float) (r from n : ℕ) (w u : List ℕ) → columns * rows ≤ length w → from + n ≤ rows → ((p : ℕ) → p < from + n → cell rows orderColumn p w < rows) → Marked rows h (peerAt rows r w) from n w u → evaluated rows from n u ≡ valueOf rows h r from n w
 unfolding evaluated valueOf addMarked addJoined
 value-marked rows h r from n w u room f R M =
     let O = marked-only rows h (peerAt rows r w) from w room n u f M in
     ap finish
-    (same-turns n _ _ emptySum
+    (upTo-same n _ _ emptySum
     (λ k y l.
     let p : from + k < rows = omega arith in
     let g = R (from + k) (omega arith) in

@@ -5,3 +5,4 @@ pub mod Rows
 pub mod Weld
 pub mod Records
 pub mod Groups
+pub mod Answer

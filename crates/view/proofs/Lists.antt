@@ -1,11 +1,18 @@
--- The definition's searches by index, and two tests that imply each other. Assumes nothing.
-use Prim.Native.Nat.{ℕ, zero, suc, _<_}
+-- The definition's searches by index, two tests that imply each other, runs of stores in joined lists, and lists of a function's values. Assumes nothing.
+use Prim.Native.Nat.{ℕ, zero, suc, _+_, _<_}
+use native.Mathlib.Nat.{zero-add, suc-add}
+use native.Mathlib.Numerals.{add-one}
 use native.Mathlib.Omega.{arith}
 use mathlib.Core.Path.{_≡_, refl, sym, _∙_, ap}
 use mathlib.Core.Bool.{Bool, true, false, cond, _&&_, true≢false, false≢true}
-use mathlib.Core.List.{List, [], _∷_}
+use mathlib.Core.List.{List, [], _∷_, _++_, flatMap, append-assoc}
 use mathlib.Core.Option.{none, some}
-use lib.ListN.{length, getD}
+use lib.Dec.{eqb}
+use lib.ListN.{length, getD, set, replicate, length-append, length-set, replicate-append-replicate}
+use lib.Seq.{sets, sets-eq, drop-at, getD-set-same, getD-set-other, ext-getD}
+use borrow.Author.Tests.{eqb-true, eqb-false}
+use Rattle.table.specs.Loop.{listOf}
+use Rattle.table.proofs.Loops.{length-listOf, getD-listOf}
 use Rattle.definition.specs.Lists.{first}
 use Rattle.laws.proofs.Part.{Every, every-nil, every-cons}
 
@@ -39,3 +46,57 @@ every-index (every-cons o r) (suc i) d h = every-index r i d (omega arith)
 pub index-every : {X : Type 0} (P : X → Type 0) (l : List X) (d : X) → ((k : ℕ) → k < length l → P (getD l k d)) → Every P l
 index-every P [] d f = every-nil
 index-every P (x ∷ l) d f = every-cons (f 0 (omega arith)) (index-every P l d (λ k h. f (suc k) (omega arith)))
+
+-- ---- two lists joined
+
+-- what is made of each element of both
+pub flatMap-append : {X Y : Type 0} (f : X → List Y) (l k : List X) → flatMap f (l ++ k) ≡ flatMap f l ++ flatMap f k
+unfolding flatMap
+flatMap-append f [] k = refl
+flatMap-append {Y = Y} f (x ∷ l) k = ap (λ (r : List Y). f x ++ r) (flatMap-append f l k) ∙ sym (append-assoc (f x) (flatMap f l) (flatMap f k))
+
+module _ {X : Type 0} where
+  -- a run of stores past the first element leaves that one
+  sets-cons : (x : X) (l : List X) (p : ℕ) (vs : List X) → sets (x ∷ l) (suc p) vs ≡ x ∷ sets l p vs
+  sets-cons x l p [] = refl
+  sets-cons x l p (v ∷ vs) = sets-cons x (set l p v) (suc p) vs
+
+  -- a run of stores past a front leaves the front
+  pub sets-after : (xs ys : List X) (p : ℕ) (vs : List X) → sets (xs ++ ys) (length xs + p) vs ≡ xs ++ sets ys p vs
+  sets-after [] ys p vs = ap (λ (k : ℕ). sets ys k vs) (zero-add p)
+  sets-after (x ∷ xs) ys p vs =
+      ap (λ (k : ℕ). sets (x ∷ (xs ++ ys)) k vs) (suc-add (length xs) p) ∙ sets-cons x (xs ++ ys) (length xs + p) vs
+      ∙ ap (λ (r : List X). x ∷ r) (sets-after xs ys p vs)
+
+  -- a run of stores over a front as long replaces it
+  pub sets-front : (xs ys vs : List X) → length xs ≡ length vs → sets (xs ++ ys) 0 vs ≡ vs ++ ys
+  sets-front xs ys vs e = sets-eq vs (xs ++ ys) 0 (omega (arith, length-append xs ys)) ∙ ap (λ (r : List X). vs ++ r) (drop-at xs ys (0 + length vs) (omega arith))
+
+  -- ---- the list of a function's values
+
+  -- of two functions that agree
+  pub listOf-same : (n : ℕ) (f q : ℕ → X) → ((i : ℕ) → i < n → f i ≡ q i) → listOf n f ≡ listOf n q
+  unfolding listOf
+  listOf-same zero f q e = refl
+  listOf-same (suc n) f q e = λ z. listOf-same n f q (λ i h. e i (omega arith)) z ++ (e n (omega arith) z ∷ [])
+
+  -- of a function that differs at one place
+  pub listOf-set : (n i : ℕ) (f q : ℕ → X) → i < n → ((j : ℕ) → (j ≡ i → ⊥) → q j ≡ f j) → listOf n q ≡ set (listOf n f) i (q i)
+  listOf-set n i f q h o =
+      ext-getD (q i) (listOf n q) (set (listOf n f) i (q i)) (length-listOf n q ∙ sym (length-set (listOf n f) i (q i) ∙ length-listOf n f))
+      (λ j l. getD-listOf n q (q i) j (omega (arith, length-listOf n q)) ∙ go j (omega (arith, length-listOf n q)) (eqb j i) refl)
+    where
+      go : (j : ℕ) → j < n → (b : Bool) → eqb j i ≡ b → q j ≡ getD (set (listOf n f) i (q i)) j (q i)
+      go j l true e = ap q (eqb-true j i e) ∙ sym (ap (λ (k : ℕ). getD (set (listOf n f) i (q i)) k (q i)) (eqb-true j i e) ∙ getD-set-same (listOf n f) i (q i) (q i) (omega (arith, length-listOf n f)))
+      go j l false e = o j (eqb-false j i e) ∙ sym (getD-set-other (listOf n f) i j (q i) (q i) (eqb-false j i e) ∙ getD-listOf n f (q i) j l)
+
+  -- of a list's own elements
+  pub listOf-getD : (l : List X) (d : X) → listOf (length l) (λ i. getD l i d) ≡ l
+  listOf-getD l d =
+      ext-getD d (listOf (length l) (λ i. getD l i d)) l (length-listOf (length l) (λ i. getD l i d)) (λ j h. getD-listOf (length l) (λ i. getD l i d) d j (omega (arith, length-listOf (length l) (λ i. getD l i d))))
+
+  -- of one value
+  pub listOf-one : (n : ℕ) (x : X) → listOf n (λ _. x) ≡ replicate n x
+  unfolding listOf
+  listOf-one zero x = refl
+  listOf-one (suc n) x = ap (λ (l : List X). l ++ (x ∷ [])) (listOf-one n x) ∙ replicate-append-replicate n 1 x ∙ ap (λ (k : ℕ). replicate k x) (add-one n)

@@ -2,7 +2,7 @@ use mathlib.Core.Path.{ap, _∙_}
 use Rattle.math.specs.declared.Vec3.{Vec3}
 use Rattle.definition.specs.Step7Sums.{projected}
 use Rattle.sums.specs.Sums.{openingAt}
--- \`contributions::contribute\` meets its contract. Assumes nothing.
+-- `contributions::contribute` meets its contract. Assumes nothing.
 use Rattle.contributions.proofs.Laws.{stored-named}
 use borrow.Author.Needs.{needs}
 use Rattle.contributions.proofs.contribute.Statement.{statement}

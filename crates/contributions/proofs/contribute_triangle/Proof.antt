@@ -1,4 +1,4 @@
--- \`contributions::contribute_triangle\` meets its contract. Assumes nothing.
+-- `contributions::contribute_triangle` meets its contract. Assumes nothing.
 use native.Mathlib.Omega.{arith}
 use Rattle.contributions.proofs.Laws.{turn}
 use borrow.Author.Needs.{needs}

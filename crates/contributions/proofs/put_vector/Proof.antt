@@ -1,4 +1,4 @@
--- \`contributions::put_vector\` meets its contract. Assumes nothing.
+-- `contributions::put_vector` meets its contract. Assumes nothing.
 use Rattle.math.specs.Held.{HeldVec}
 use borrow.Author.Needs.{needs}
 use Rattle.contributions.proofs.put_vector.Statement.{statement}

@@ -1,4 +1,4 @@
--- \`contributions::store\` meets its contract. Assumes nothing.
+-- `contributions::store` meets its contract. Assumes nothing.
 use native.Mathlib.Omega.{arith}
 use Prim.Native.Nat.{ℕ, _+_, _*_}
 use mathlib.Core.Path.{ap, _∙_}

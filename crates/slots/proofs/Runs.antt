@@ -1,0 +1,53 @@
+-- A run of words of a list: read one by one, and stored one by one; a slot that is written or copied, where the list has it and where not. Assumes nothing.
+use Prim.Native.Nat.{ℕ, _+_, _*_, _/_, _≤_, _<_}
+use native.Mathlib.Numerals.{add-one}
+use native.Mathlib.Omega.{arith}
+use mathlib.Core.Path.{_≡_, sym, _∙_, ap}
+use mathlib.Core.Bool.{Bool, cond}
+use mathlib.Core.List.{List}
+use lib.ListN.{length, getD, set, take, drop, length-drop}
+use lib.Seq.{sets, take-suc, length-take-le, getD-take, getD-drop, ext-getD}
+use borrow.Author.Tests.{lt-ltb, le-ltb}
+use Rattle.tangent.specs.Slot.{slotWords}
+use Rattle.table.specs.Loop.{listOf}
+use Rattle.table.proofs.Loops.{length-listOf, getD-listOf}
+use Rattle.table.proofs.Laws.{sets-snoc}
+use Rattle.slots.specs.Slots.{wordsAt, writtenAt, copiedAt}
+
+-- n words from place p on
+pub run-read : (n p : ℕ) (a : List ℕ) → p + n ≤ length a → listOf n (λ i. getD a (p + i) 0) ≡ take n (drop p a)
+run-read n p a h =
+    let m = length-take-le n (drop p a) (omega (arith, length-drop p a)) in
+    ext-getD 0 (listOf n (λ i. getD a (p + i) 0)) (take n (drop p a)) (length-listOf n (λ i. getD a (p + i) 0) ∙ sym m)
+    (λ i l. at i (omega (arith, length-listOf n (λ i. getD a (p + i) 0))))
+  where
+    at : (i : ℕ) → i < n → getD (listOf n (λ i. getD a (p + i) 0)) i 0 ≡ getD (take n (drop p a)) i 0
+    at i l = getD-listOf n (λ i. getD a (p + i) 0) 0 i l ∙ sym (getD-take n (drop p a) i 0 l ∙ getD-drop p a i 0)
+
+-- one word more of those that are stored from place p on
+pub run-more : (a u ws : List ℕ) (p i : ℕ) → i < length ws → u ≡ sets a p (take i ws) → set u (p + i) (getD ws i 0) ≡ sets a p (take (i + 1) ws)
+run-more a u ws p i h e =
+    (λ z. set (e z) (at z) (getD ws i 0)) ∙ sets-snoc a p (take i ws) (getD ws i 0) ∙ ap (sets a p) (sym (ap (λ (k : ℕ). take k ws) (add-one i) ∙ take-suc ws i 0 h))
+  where
+    at : p + i ≡ p + length (take i ws)
+    at = omega (arith, length-take-le i ws (omega arith))
+
+-- a slot that the list has, written
+pub written-there : (slot : ℕ) (ws a : List ℕ) → slot < length a / slotWords → writtenAt slot ws a ≡ sets a (slotWords * slot) ws
+unfolding writtenAt
+written-there slot ws a h = ap (λ (b : Bool). cond b (sets a (slotWords * slot) ws) a) (lt-ltb slot (length a / slotWords) h)
+
+-- and one that it has not
+pub written-not : (slot : ℕ) (ws a : List ℕ) → length a / slotWords ≤ slot → writtenAt slot ws a ≡ a
+unfolding writtenAt
+written-not slot ws a h = ap (λ (b : Bool). cond b (sets a (slotWords * slot) ws) a) (le-ltb slot (length a / slotWords) h)
+
+-- a slot that the list has, copied
+pub copied-there : (from to : ℕ) (a : List ℕ) → from < length a / slotWords → copiedAt from to a ≡ writtenAt to (wordsAt from a) a
+unfolding copiedAt
+copied-there from to a h = ap (λ (b : Bool). cond b (writtenAt to (wordsAt from a) a) a) (lt-ltb from (length a / slotWords) h)
+
+-- and one that it has not
+pub copied-not : (from to : ℕ) (a : List ℕ) → length a / slotWords ≤ from → copiedAt from to a ≡ a
+unfolding copiedAt
+copied-not from to a h = ap (λ (b : Bool). cond b (writtenAt to (wordsAt from a) a) a) (le-ltb from (length a / slotWords) h)

@@ -1,0 +1,43 @@
+-- `slots::copy` meets its contract. Assumes nothing.
+use Prim.Native.Nat.{_*_}
+use mathlib.Core.Path.{sym, _∙_, ap}
+use lib.Seq.{sets}
+use Rattle.slots.specs.Slots.{wordsAt}
+use Rattle.slots.proofs.Runs.{written-there, written-not, copied-there, copied-not}
+use borrow.Author.Needs.{needs}
+use Rattle.slots.proofs.copy.Statement.{statement}
+use Rattle.slots.proofs.copy.Tie as tie
+
+returns : tie.Need-returns
+returns c =
+    let a = c .before .before .args in
+    let l = a .answer .now in
+    sym (copied-not (a .from) (a .to) l (c .if1 .taken))
+
+returns-2 : tie.Need-returns-2
+returns-2 c =
+    let a = c .before .before .before .args in
+    let l = a .answer .now in
+    sym (copied-there (a .from) (a .to) l (c .before .if1 .left) ∙ written-not (a .to) (wordsAt (a .from) l) l (c .if2 .taken))
+
+words-at-requires : tie.Need-words-at-requires
+words-at-requires c κs = search needs
+
+put-requires : tie.Need-put-requires
+put-requires c κs = search needs
+
+same-length : tie.Need-same-length
+same-length c = search needs
+
+returns-3 : tie.Need-returns-3
+returns-3 c =
+    let w = c .before .before .before .before in
+    let e = w .before .before in
+    let a = e .before .before .before .args in
+    let l = a .answer .now in
+    c .before .before .put .ensures ∙ ap (sets l (10 * a .to)) (w .words-at .ensures)
+    ∙ sym (copied-there (a .from) (a .to) l (e .before .if1 .left) ∙ written-there (a .to) (wordsAt (a .from) l) l (e .if2 .left))
+
+pub copy-spec : {M : Type 1} → statement M
+copy-spec =
+    tie.close (tie.spec returns returns-2 words-at-requires put-requires same-length returns-3)

@@ -1,0 +1,72 @@
+-- `slots::put` meets its contract. Assumes nothing.
+use Prim.Native.Nat.{_*_, _-_, _≤_}
+use native.Mathlib.Nat.{le-antisymm}
+use native.Mathlib.Omega.{arith}
+use mathlib.Core.Path.{_≡_, refl, _∙_, ap}
+use lib.ListN.{length, take, length-set}
+use lib.Seq.{sets, take-all}
+use Rattle.slots.proofs.Runs.{run-more}
+use borrow.Author.Needs.{needs}
+use Rattle.slots.proofs.put.Statement.{statement}
+use Rattle.slots.proofs.put.Tie as tie
+
+abbrev Inv-loop : tie.InvT-loop
+Inv-loop answer₀ slot words i₀ answer i = (i ≤ 10) × (answer ≡ sets answer₀ (10 * slot) (take i words)) × (length answer ≡ length answer₀)
+
+abbrev μ-loop : tie.MeasureT-loop
+μ-loop answer₀ slot words i₀ answer i = 10 - i
+
+-- the words are ten
+ten : (c : tie.Start Inv-loop μ-loop) → length (c .args .t3) ≡ 10
+ten c = c .good .1 .1 .0 .1 .0 .1
+
+loop-holds : tie.Need-loop-holds Inv-loop μ-loop
+loop-holds c = (omega arith, refl, refl)
+
+mul-answer : tie.Need-mul-answer Inv-loop μ-loop
+mul-answer c = search needs
+
+array-read-answer : tie.Need-array-read-answer Inv-loop μ-loop
+array-read-answer c = search needs
+
+mul-answer-2 : tie.Need-mul-answer-2 Inv-loop μ-loop
+mul-answer-2 c = search needs
+
+add-answer : tie.Need-add-answer Inv-loop μ-loop
+add-answer c = search needs
+
+mul-answer-3 : tie.Need-mul-answer-3 Inv-loop μ-loop
+mul-answer-3 c = search needs
+
+slice-write-answer : tie.Need-slice-write-answer Inv-loop μ-loop
+slice-write-answer c = search needs
+
+add-i : tie.Need-add-i Inv-loop μ-loop
+add-i c = search needs
+
+loop-less : tie.Need-loop-less Inv-loop μ-loop
+loop-less c = search needs
+
+loop-again : tie.Need-loop-again Inv-loop μ-loop
+loop-again c =
+    let l = c .before .loop in
+    let s = c .before .before in
+    let n = ten s in
+    (omega arith, run-more (s .args .answer .now) (l .answer) (s .args .t3) (10 * s .args .slot) (l .i) (omega arith) (l .inv .1), simp length-set (l .inv .2))
+
+same-length : tie.Need-same-length Inv-loop μ-loop
+same-length c = search needs
+
+returns : tie.Need-returns Inv-loop μ-loop
+returns c =
+    let l = c .before .loop in
+    let s = c .before .before in
+    let n = ten s in
+    rw (le-antisymm (l .inv .0) (c .loop-test .left)) at (l .inv .1) ∙ ap (sets (s .args .answer .now) (10 * s .args .slot)) (take-all 10 (s .args .t3) (omega arith))
+
+pub put-spec : {M : Type 1} → statement M
+put-spec =
+    tie.close
+    (tie.spec
+    Inv-loop μ-loop loop-holds mul-answer array-read-answer mul-answer-2 add-answer mul-answer-3 slice-write-answer
+    add-i loop-less loop-again same-length returns)

@@ -1,0 +1,55 @@
+-- `slots::reach` meets its contract. Assumes nothing.
+use Prim.Native.Nat.{_*_}
+use mathlib.Core.Path.{sym, _∙_, ap}
+use lib.Seq.{sets}
+use Rattle.tangent.specs.declared.Reading.{Reading}
+use Rattle.tangent.specs.Slot.{words, readingOf}
+use Rattle.tangent.specs.Space.{reached}
+use Rattle.slots.specs.Slots.{wordsAt, reachedAt}
+use Rattle.slots.proofs.Runs.{written-there, written-not}
+use borrow.Author.Needs.{needs}
+use Rattle.slots.proofs.reach.Statement.{statement}
+use Rattle.slots.proofs.reach.Tie as tie
+
+returns : tie.Need-returns
+unfolding reachedAt
+returns c =
+    let a = c .before .before .args in
+    let l = a .answer .now in
+    sym (written-not (a .slot) (words (reached (readingOf (wordsAt (a .slot) l)) (a .v) (a .orientation))) l (c .if1 .taken))
+
+words-at-requires : tie.Need-words-at-requires
+words-at-requires c κs = search needs
+
+reading-of-requires : tie.Need-reading-of-requires
+reading-of-requires c κs = search needs
+
+reached-requires : tie.Need-reached-requires
+reached-requires c κs = search needs
+
+words-requires : tie.Need-words-requires
+words-requires c κs = search needs
+
+put-requires : tie.Need-put-requires
+put-requires c κs = search needs
+
+same-length : tie.Need-same-length
+same-length c = search needs
+
+returns-2 : tie.Need-returns-2
+unfolding reachedAt
+returns-2 c =
+    let w = c .before .before .before .before in
+    let e = w .before .before .before .before .before in
+    let a = e .before .before .args in
+    let l = a .answer .now in
+    let before = w .before .before .reading-of .ensures ∙ ap readingOf (w .before .before .before .words-at .ensures) in
+    let after = w .words .ensures ∙ ap words (w .before .reached .ensures ∙ ap (λ (r : Reading). reached r (a .v) (a .orientation)) before) in
+    c .before .before .put .ensures ∙ ap (sets l (10 * a .slot)) after
+    ∙ sym (written-there (a .slot) (words (reached (readingOf (wordsAt (a .slot) l)) (a .v) (a .orientation))) l (e .if1 .left))
+
+pub reach-spec : {M : Type 1} → statement M
+reach-spec =
+    tie.close
+    (tie.spec
+    returns words-at-requires reading-of-requires reached-requires words-requires put-requires same-length returns-2)

@@ -1,0 +1,76 @@
+// Step 8, and what step 9 does to one slot: the answer list by slots of ten words.
+// Carried over from mikktspace.rs (generate_tangent_spaces) of the Rust crate bevy_mikktspace and ALTERED: written anew in Rattle, over the lent list. See NOTICE.
+// Every function does nothing where the list is too short for the slot.
+ghost use mathlib.Core.Path.{_≡_};
+ghost use Prim.Native.Nat.{_+_, _*_, _≤_};
+ghost use lib.ListN.{length};
+ghost use lib.Seq.{sets};
+ghost use Rattle.tangent.specs.Slot.{slotWords};
+ghost use Rattle.slots.specs.Slots as spec;
+use tangent::RawTangentSpace;
+
+// The ten words of a slot.
+fn words_at(answer: &[u32], slot: usize) -> [u32; 10]
+    requires { ⌜ slotWords * slot + slotWords ≤ length (now answer) ⌝ }
+    ensures { λ r. ⌜ r ≡ spec.wordsAt slot (now (answer .entry)) ⌝ }
+{
+    let at = 10 * slot;
+    [
+        answer[at],
+        answer[at + 1],
+        answer[at + 2],
+        answer[at + 3],
+        answer[at + 4],
+        answer[at + 5],
+        answer[at + 6],
+        answer[at + 7],
+        answer[at + 8],
+        answer[at + 9],
+    ]
+}
+
+// Ten words into a slot.
+fn put(answer: &mut [u32], slot: usize, words: [u32; 10])
+    requires { ⌜ slotWords * slot + slotWords ≤ length (now answer) ⌝ }
+    ensures { λ _. ⌜ now (answer .exit) ≡ sets (now (answer .entry)) (slotWords * slot) words ⌝ }
+{
+    for i in 0..10 {
+        answer[10 * slot + i] = words[i];
+    }
+}
+
+// A slot reached by a tangent space: combined where it was reached before.
+pub fn reach(answer: &mut [u32], slot: usize, v: RawTangentSpace, orientation: bool)
+    ensures { λ _. ⌜ now (answer .exit) ≡ spec.reachedAt slot v orientation (now (answer .entry)) ⌝ }
+{
+    if answer.len() / 10 <= slot {
+        return;
+    }
+    let before = tangent::reading_of(words_at(answer, slot));
+    let words = tangent::words(tangent::reached(before, v, orientation));
+    put(answer, slot, words);
+}
+
+// One slot's words into another.
+pub fn copy(answer: &mut [u32], from: usize, to: usize)
+    ensures { λ _. ⌜ now (answer .exit) ≡ spec.copiedAt from to (now (answer .entry)) ⌝ }
+{
+    if answer.len() / 10 <= from {
+        return;
+    }
+    if answer.len() / 10 <= to {
+        return;
+    }
+    let words = words_at(answer, from);
+    put(answer, to, words);
+}
+
+// A slot made absent.
+pub fn clear(answer: &mut [u32], slot: usize)
+    ensures { λ _. ⌜ now (answer .exit) ≡ spec.clearedAt slot (now (answer .entry)) ⌝ }
+{
+    if answer.len() / 10 <= slot {
+        return;
+    }
+    put(answer, slot, [0; 10]);
+}
