@@ -20,3 +20,4 @@ pub mod Marked
 pub mod Twice
 pub mod Targets
 pub mod Sharp
+pub mod Held

@@ -1,13 +1,15 @@
--- Two corners are welded to the same corner exactly when they have the same bits. Assumes nothing.
+-- Two corners are welded to the same corner exactly when they have the same bits; then they have one normal. Assumes nothing.
 use Prim.Native.Nat.{ℕ}
 use mathlib.Core.Path.{_≡_, refl, sym, _∙_, ap, subst}
 use mathlib.Core.Bool.{Bool, true, false, _&&_, false≢true}
 use mathlib.Core.List.{List, [], _∷_, _++_}
 use mathlib.Core.Option.{Option, none, some}
-use lib.Dec.{eqb}
-use lib.Ieee.{Float, binary32, toBits}
+use lib.Dec.{T, eqb}
+use lib.Ieee.{Float, binary32, toBits, fits}
 use borrow.Author.Tests.{eq-eqb, eqb-true}
+use Rattle.bits.proofs.Back.{same-word}
 use Rattle.math.specs.declared.Vec3.{Vec3}
+use Rattle.math.specs.Held.{HeldVec}
 use Rattle.definition.specs.declared.Corner.{Corner}
 use Rattle.definition.specs.declared.Triangle.{Triangle}
 use Rattle.definition.specs.Lists.{first}
@@ -48,7 +50,7 @@ welded-as c d x e =
     let h₂ = and-left pq (sameBits (c .u) (d .u)) h₁ in
     rw (vector-as (c .place) (d .place) (x .place) (and-left _ _ h₂), vector-as (c .normal) (d .normal) (x .normal) (and-right (sameVector (c .place) (d .place)) _ h₂), bits-as (c .u) (d .u) (x .u) (and-right pq _ h₁), bits-as (c .v) (d .v) (x .v) (and-right (pq && sameBits (c .u) (d .u)) _ e))
 
-first-same : {X : Type 0} (p q : X → Bool) → ((x : X) → p x ≡ q x) → (l : List X) → first p l ≡ first q l
+pub first-same : {X : Type 0} (p q : X → Bool) → ((x : X) → p x ≡ q x) → (l : List X) → first p l ≡ first q l
 unfolding first
 first-same p q e [] = refl
 first-same p q e (x ∷ l) = rw (e x, first-same p q e l)
@@ -75,3 +77,27 @@ one-weld ts c d s e f =
     let h = found-at (Found (λ t. welded c (cornerOf t)) (λ t. Unit {0})) s (first-found (λ t. welded c (cornerOf t)) (every-any _)) e in
     let k = found-at (Found (λ t. welded d (cornerOf t)) (λ t. Unit {0})) s (first-found (λ t. welded d (cornerOf t)) (every-any _)) f in
     welded-as c (cornerOf s) d (h .passes) ∙ (welded-sym (cornerOf s) d ∙ k .passes)
+
+-- ---- welded corners have one normal, where single precision holds its numbers
+
+bits-one : (x y : Float) → T (fits binary32 x) → T (fits binary32 y) → sameBits x y ≡ true → x ≡ y
+unfolding sameBits
+bits-one x y h k e = same-word x y h k (eqb-true (toBits binary32 x) (toBits binary32 y) e)
+
+vector-one : (a b : Vec3) → HeldVec a → HeldVec b → sameVector a b ≡ true → a ≡ b
+unfolding sameVector
+vector-one a b h k e =
+    let xy = and-left (sameBits (a .x) (b .x) && sameBits (a .y) (b .y)) (sameBits (a .z) (b .z)) e in
+    λ i.
+    record {
+      x = bits-one (a .x) (b .x) (h .x-held) (k .x-held) (and-left _ _ xy) i;
+      y = bits-one (a .y) (b .y) (h .y-held) (k .y-held) (and-right (sameBits (a .x) (b .x)) _ xy) i;
+      z = bits-one (a .z) (b .z) (h .z-held) (k .z-held) (and-right (sameBits (a .x) (b .x) && sameBits (a .y) (b .y)) _ e) i;
+    }
+
+pub welded-normal : (c d : Corner) → HeldVec (c .normal) → HeldVec (d .normal) → welded c d ≡ true → c .normal ≡ d .normal
+unfolding welded
+welded-normal c d h k e =
+    let pq = sameVector (c .place) (d .place) && sameVector (c .normal) (d .normal) in
+    let h₁ = and-left (pq && sameBits (c .u) (d .u)) (sameBits (c .v) (d .v)) e in
+    vector-one (c .normal) (d .normal) h k (and-right (sameVector (c .place) (d .place)) _ (and-left pq (sameBits (c .u) (d .u)) h₁))

@@ -3,3 +3,4 @@ pub mod Stretches
 pub mod Ordering
 pub mod Whole
 pub mod Triangles
+pub mod Begins

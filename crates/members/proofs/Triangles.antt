@@ -28,7 +28,7 @@ use Rattle.members.proofs.Ordering.{member-of}
 
 -- ---- lists
 
-keep-snoc : {A : Type 0} (p : A → Bool) (l : List A) (x : A) → keep p (l ++ (x ∷ [])) ≡ keep p l ++ cond (p x) (x ∷ []) []
+pub keep-snoc : {A : Type 0} (p : A → Bool) (l : List A) (x : A) → keep p (l ++ (x ∷ [])) ≡ keep p l ++ cond (p x) (x ∷ []) []
 unfolding keep
 keep-snoc p [] x = refl
 keep-snoc p (y ∷ l) x = step (p y) (keep-snoc p l x)
@@ -65,7 +65,7 @@ module _ (rows : ℕ) (ss : List Triangle) (d : Triangle) (groups : ℕ) (w : Li
   Q r = eqb (cell rows groupColumn r w) g
 
   -- a corner of the group is welded to the group's start
-  joined : (t : ℕ) (i : Third) → t < length ss → Q (row t i) ≡ true → welded (cornerOf (getD ms j e .start)) (cornerOf (spotAt ss d t i)) ≡ true
+  pub joined : (t : ℕ) (i : Third) → t < length ss → Q (row t i) ≡ true → welded (cornerOf (getD ms j e .start)) (cornerOf (spotAt ss d t i)) ≡ true
   joined t i l q =
       let n = eqb-true (cell rows groupColumn (row t i) w) g q in
       let m = member-of rows ss d groups w N G (row t i) (row-lt t (length ss) i l) (λ z. let a = G .member j e h .some in omega arith) in

@@ -1,5 +1,5 @@
 -- The columns of members in triangle order, from those of the groups. Assumes nothing.
-use Prim.Native.Nat.{ℕ, zero, suc, _+_, _*_, _^_, _≤_, _<_, min}
+use Prim.Native.Nat.{ℕ, suc, _+_, _*_, _^_, _≤_, _<_}
 use native.Mathlib.Numerals.{add-one}
 use native.Mathlib.Omega.{arith}
 use mathlib.Core.Path.{_≡_, refl, sym, ap, _∙_, subst}
@@ -7,8 +7,8 @@ use mathlib.Core.Bool.{Bool, true, false, cond}
 use mathlib.Core.List.{List, [], _∷_}
 use lib.Dec.{eqb, ltb}
 use lib.ListN.{length, getD, List·getD-append}
-use lib.Seq.{slice, sets, sets-eq}
-use borrow.Author.Tests.{eq-eqb, leb-true, lt-ltb, ltb-true, ltb-false}
+use lib.Seq.{slice, sets-eq}
+use borrow.Author.Tests.{eq-eqb, lt-ltb, ltb-true}
 use Rattle.table.specs.Table.{cell, column, filledTo}
 use Rattle.table.specs.Loop.{listOf}
 use Rattle.table.specs.Columns.{columns, groupColumn, metColumn, lowerColumn, higherColumn, orderColumn, spareColumn, beginColumn}
@@ -23,10 +23,11 @@ use Rattle.laws.proofs.Mutual.{Names}
 use Rattle.sort.specs.Sort.{sorted, ends, key}
 use Rattle.sort.proofs.Keys.{ends-at}
 use Rattle.view.specs.Frame.{outside, Only}
-use Rattle.view.specs.Groups.{numberOf, Grouping, beginAt, InOrder}
+use Rattle.view.specs.Groups.{Grouping, beginAt, InOrder}
 use Rattle.view.proofs.Lists.{index-every}
 use Rattle.view.proofs.Frame.{only-trans, only-more, only-run, cell-kept}
 use Rattle.members.specs.Members.{beginOf, Sorting, orderColumns}
+use Rattle.members.proofs.Begins.{plain, grow, below}
 use Rattle.members.proofs.Stretches.{slice-same}
 use Rattle.members.proofs.Ordering.{sorting-only, sorting-far, begin-kept, stretch}
 
@@ -105,16 +106,8 @@ module _ (rows groups count : ℕ) (w w₁ w₂ w₃ u : List ℕ) (few : groups
     b q = beginOf rows groups count w₃ q
 
     -- where each group begins, before and after
-    plain : (q : ℕ) → beginOf rows groups count w q ≡ beginAt rows groups count w q
-    unfolding beginOf
-    plain q = step (ltb q groups) refl
-      where
-        step : (x : Bool) → ltb q groups ≡ x → cond x (min (cell rows beginColumn q w) count) count ≡ cond x (cell rows beginColumn q w) count
-        step true h = let a = G .begun q (ltb-true q groups h) in omega arith
-        step false h = refl
-
     begins : (q : ℕ) → b q ≡ beginAt rows groups count w q
-    begins q = begin-kept orderColumns rows groups count w w₃ refl few to-three q ∙ plain q
+    begins q = begin-kept orderColumns rows groups count w w₃ refl few to-three q ∙ plain rows ss d (marks ss (links ss)) groups count w all G q
 
     at-end : (q : ℕ) → beginAt rows groups count u q ≡ beginAt rows groups count w q
     at-end q = step (ltb q groups) refl
@@ -124,20 +117,8 @@ module _ (rows groups count : ℕ) (w w₁ w₂ w₃ u : List ℕ) (few : groups
         step false h = refl
 
     -- they rise
-    grow : (q : ℕ) → beginAt rows groups count w q ≤ beginAt rows groups count w (suc q)
-    grow q = step (ltb q groups) refl (ltb (suc q) groups) refl
-      where
-        step : (x : Bool) → ltb q groups ≡ x → (y : Bool) → ltb (suc q) groups ≡ y → cond x (cell rows beginColumn q w) count ≤ cond y (cell rows beginColumn (suc q) w) count
-        step true h true k =
-            let a = ltb-true q groups h in
-            let c = ltb-true (suc q) groups k in
-            leb-true (cell rows beginColumn q w) (cell rows beginColumn (suc q) w) (G .begin q (cell rows beginColumn (suc q) w) a (G .begun (suc q) c) ∙ lt-ltb q (numberOf rows w (cell rows beginColumn (suc q) w)) (omega (arith, G .number (suc q) c)))
-        step true h false k = omega (arith, G .begun q (ltb-true q groups h))
-        step false h true k = let a = ltb-false q groups h in let c = ltb-true (suc q) groups k in absurd (omega arith)
-        step false h false k = omega arith
-
     rises : (q : ℕ) → b q ≤ b (suc q)
-    rises q = omega (arith, begins q, begins (suc q), grow q)
+    rises q = omega (arith, begins q, begins (suc q), grow rows ss d (marks ss (links ss)) groups count w all G q)
 
     -- what the definition's groups are in triangle order
     pub in-order : InOrder rows ss groups count u
@@ -159,16 +140,12 @@ module _ (rows groups count : ℕ) (w w₁ w₂ w₃ u : List ℕ) (few : groups
         second : beginAt rows groups count u (q + 1) ≡ b (suc q)
         second = at-end (q + 1) ∙ (ap (beginAt rows groups count w) (add-one q) ∙ sym (begins (suc q)))
 
-        below : b (suc q) ≤ count
-        below = omega (arith, begins (suc q), last (ltb (suc q) groups) refl)
-          where
-            last : (x : Bool) → ltb (suc q) groups ≡ x → cond x (cell rows beginColumn (suc q) w) count ≤ count
-            last true k = omega (arith, G .begun (suc q) (ltb-true (suc q) groups k))
-            last false k = omega arith
+        end : b (suc q) ≤ count
+        end = omega (arith, begins (suc q), below rows ss d (marks ss (links ss)) groups count w all G (suc q))
 
         met-stretch : slice (b q) (b (suc q)) (column rows orderColumn w₃) ≡ slice (cell rows beginColumn q w) (beginAt rows groups (length (marks ss (links ss))) w (q + 1)) (column rows metColumn w)
         met-stretch =
-            slice-same (b q) (b (suc q)) (column rows orderColumn w₃) (column rows metColumn w) (omega (arith, below, length-column rows w₃ orderColumn (omega (arith, long₃)))) (omega (arith, below, length-column rows w metColumn (omega arith))) (λ i x y. copied i (omega (arith, below, y)))
+            slice-same (b q) (b (suc q)) (column rows orderColumn w₃) (column rows metColumn w) (omega (arith, end, length-column rows w₃ orderColumn (omega (arith, long₃)))) (omega (arith, end, length-column rows w metColumn (omega arith))) (λ i x y. copied i (omega (arith, end, y)))
             ∙ (λ z. slice ((begins q ∙ here) z) (there z) (column rows metColumn w))
 
         tests : keep (λ r. eqb (cell rows groupColumn r w) (q + 1)) (listOf (3 * length ss) (λ k. k)) ≡ keep (λ r. eqb (cell rows groupColumn r u) (q + 1)) (listOf (3 * length ss) (λ k. k))

@@ -1,24 +1,23 @@
 -- The marks of subgroups change nothing that slots are reached by. Assumes nothing.
-use Prim.Native.Nat.{ℕ, suc, _+_, _-_, _*_, _/_, _≤_, _<_, min}
+use Prim.Native.Nat.{ℕ, suc, _+_, _-_, _/_, _≤_, _<_, min}
 use native.Mathlib.Nat.{div-add-mod, le-refl, min-le-right}
 use native.Mathlib.Omega.{arith}
-use mathlib.Core.Path.{_≡_, refl, sym, ap, _∙_, subst}
+use mathlib.Core.Path.{_≡_, refl, sym, ap, _∙_}
 use mathlib.Core.Bool.{Bool, true, false, cond}
 use mathlib.Core.List.{List, [], _∷_}
 use lib.Dec.{eqb, ltb}
 use borrow.Author.Tests.{ltb-true, ltb-false}
-use lib.ListN.{length}
 use lib.Ieee.{Float}
 use Rattle.table.specs.Loop.{upTo}
 use Rattle.table.specs.Table.{cell}
-use Rattle.table.specs.Columns.{columns, slotColumn, orientationColumn, metColumn, orderColumn, joinedColumn, beginColumn}
-use Rattle.table.proofs.Loops.{upTo-same, upTo-more}
+use Rattle.table.specs.Columns.{slotColumn, orientationColumn, metColumn, orderColumn, joinedColumn, beginColumn}
+use Rattle.table.proofs.Loops.{upTo-same}
 use Rattle.view.specs.Frame.{Only}
 use Rattle.view.proofs.Frame.{cell-kept}
 use Rattle.slots.specs.Slots.{reachedAt}
 use Rattle.members.specs.Members.{beginOf}
 use Rattle.members.proofs.Ordering.{begin-kept}
-use Rattle.subgroups.specs.Subgroups.{Ranged, valueOf}
+use Rattle.subgroups.specs.Subgroups.{Ranged}
 use Rattle.subgroups.proofs.Laws.{value-kept}
 use Rattle.spaces.specs.Spaces.{reachRow, reachGroup}
 

@@ -1,5 +1,5 @@
 -- The laws of subgroups: the test of a pair, the marks of a subgroup, and that the sum of the marked is the sum of those that join. Assumes nothing.
-use Prim.Native.Nat.{ℕ, zero, suc, _+_, _*_, _/_, _-_, _≤_, _<_}
+use Prim.Native.Nat.{ℕ, suc, _+_, _*_, _/_, _-_, _≤_, _<_}
 use native.Mathlib.Nat.{div-add-mod}
 use native.Mathlib.Omega.{arith}
 use mathlib.Core.Path.{_≡_, refl, sym, ap, _∙_, subst}
@@ -12,10 +12,9 @@ use lib.Seq.{sets, sets-eq, length-take-le, getD-append-add}
 use lib.Ieee as Ieee
 use lib.Ieee.{Float}
 use Rattle.math.specs.Vector.{dot}
-use Rattle.tangent.specs.declared.RawTangentSpace.{RawTangentSpace}
 use Rattle.tangent.specs.Slot.{flag, vectorOf}
 use Rattle.bits.specs.Word.{number}
-use Rattle.table.specs.Loop.{upTo, listOf}
+use Rattle.table.specs.Loop.{listOf}
 use Rattle.table.specs.Table.{cell, put}
 use Rattle.table.specs.Columns.{columns, nameColumn, magnitudeColumn, anyColumn, metColumn, orderColumn, openingColumn, joinedColumn, sxColumn, syColumn, szColumn, txColumn, tyColumn, tzColumn}
 use Rattle.table.proofs.Loops.{upTo-same, length-listOf, getD-listOf}
@@ -25,7 +24,7 @@ use Rattle.definition.specs.Step7Sums.{emptySum, finish}
 use Rattle.sums.specs.Sums.{weighedBy}
 use Rattle.view.specs.Frame.{Only}
 use Rattle.view.specs.Contributions.{sAt, tAt}
-use Rattle.view.proofs.Frame.{only-none, only-run, cell-kept}
+use Rattle.view.proofs.Frame.{only-run, cell-kept}
 use Rattle.subgroups.specs.declared.Peer.{Peer}
 use Rattle.subgroups.specs.Subgroups.{peerAt, joinsBy, joinsAt, markOf, Ranged, Marked, spaceAt, addRow, addMarked, evaluated, addJoined, valueOf}
 
@@ -79,7 +78,7 @@ module _ (h : Float) (m p : Peer) where
   unfolding joinsBy
   join-far a b c d = sym (ap (λ x. x && near-t) d) ∙ last-two (m .any) (p .any) (eqb (m .face) (p .face)) near-s near-t a b c
 
-flag-one : (b : Bool) → eqb (flag b) 1 ≡ b
+pub flag-one : (b : Bool) → eqb (flag b) 1 ≡ b
 unfolding flag
 flag-one true = refl
 flag-one false = refl

@@ -1,6 +1,6 @@
 -- `spaces::reach_at` meets its contract. Assumes nothing.
 use native.Mathlib.Omega.{arith}
-use mathlib.Core.List.{List, [], _∷_}
+use mathlib.Core.List.{[], _∷_}
 use Rattle.table.specs.Columns.{joinedColumn}
 use Rattle.view.proofs.Frame.{only-none}
 use Rattle.spaces.proofs.Kept.{reach-none, ranged-less, group-same}

@@ -1,6 +1,6 @@
 -- `spaces::reach_group` meets its contract. Assumes nothing.
 use Rattle.view.proofs.Frame.{only-none, only-trans, cell-kept}
-use Rattle.table.proofs.Loops.{upTo-none, upTo-more}
+use Rattle.table.proofs.Loops.{upTo-more}
 use Rattle.subgroups.proofs.Laws.{ranged-kept}
 use Rattle.spaces.proofs.Kept.{member-kept}
 use Prim.Native.Nat.{ℕ, _+_, _-_, _*_, _≤_, _<_}

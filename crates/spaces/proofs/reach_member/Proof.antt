@@ -5,7 +5,7 @@ use lib.Dec.{eqb}
 use Rattle.table.specs.Table.{cell}
 use Rattle.table.specs.Columns.{slotColumn, orientationColumn}
 use Rattle.slots.specs.Slots.{reachedAt}
-use mathlib.Core.Path.{_≡_, refl, sym, ap, _∙_}
+use mathlib.Core.Path.{ap, _∙_}
 use Rattle.spaces.specs.Spaces.{reachRow}
 use borrow.Author.Needs.{needs}
 use Rattle.spaces.proofs.reach_member.Statement.{statement}

@@ -1,6 +1,5 @@
 -- `subgroups::add_row` meets its contract. Assumes nothing.
-use mathlib.Core.Path.{_≡_, sym, ap, _∙_}
-use mathlib.Core.Bool.{Bool, cond}
+use mathlib.Core.Path.{_∙_}
 use borrow.Author.Tests.{eq-eqb, ne-eqb}
 use Rattle.sums.specs.Sums.{weighedBy}
 use Rattle.subgroups.specs.Subgroups.{spaceAt, addRow}

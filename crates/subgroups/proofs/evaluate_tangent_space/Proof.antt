@@ -2,7 +2,7 @@
 use Prim.Native.Nat.{ℕ, _+_, _-_, _≤_}
 use native.Mathlib.Nat.{le-antisymm}
 use native.Mathlib.Omega.{arith}
-use mathlib.Core.Path.{_≡_, refl, sym, ap, _∙_, subst}
+use mathlib.Core.Path.{_≡_, ap, _∙_}
 use Rattle.definition.specs.declared.Sum.{Sum}
 use Rattle.definition.specs.Step7Sums.{emptySum, finish}
 use Rattle.table.specs.Loop.{upTo}

@@ -1,5 +1,5 @@
 -- `subgroups::joins` meets its contract. Assumes nothing.
-use mathlib.Core.Path.{_≡_, sym, ap, _∙_}
+use mathlib.Core.Path.{sym, ap, _∙_}
 use lib.Ieee as Ieee
 use borrow.Author.Tests.{eq-eqb, ne-eqb}
 use Rattle.math.specs.Vector.{dot}

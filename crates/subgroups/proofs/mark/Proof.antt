@@ -1,5 +1,5 @@
 -- `subgroups::mark` meets its contract. Assumes nothing.
-use mathlib.Core.Path.{_≡_, refl, sym, ap, _∙_}
+use mathlib.Core.Path.{refl, sym, ap, _∙_}
 use mathlib.Core.Bool.{false≢true}
 use lib.ListN.{set}
 use lib.Seq.{set-getD}

@@ -1,7 +1,7 @@
 -- `subgroups::space_of` meets its contract. Assumes nothing.
 use Prim.Native.Nat.{_-_}
 use native.Mathlib.Omega.{arith}
-use mathlib.Core.Path.{_≡_, refl, sym, ap, _∙_}
+use mathlib.Core.Path.{sym, ap, _∙_}
 use Rattle.subgroups.specs.Subgroups.{evaluated}
 use Rattle.subgroups.proofs.Laws.{space-marked, ranged-kept}
 use borrow.Author.Needs.{needs}
