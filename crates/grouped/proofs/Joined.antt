@@ -65,13 +65,16 @@ module _ (sizes : List ℕ) (ps ns ts : List Float) (n m groups count : ℕ) (w 
       → Only walkColumns rows u v
       → Only orderColumns rows v z
       → groups ≤ rows
+      → count ≤ rows
       → Left sizes ps ns ts xs (record { sound = n; all = m; groups = groups; members = count }) w z
-  joined L walked ordered first O few =
+  joined L walked ordered first O few small =
       let U : Only groupedColumns rows u z = only-trans groupedColumns rows u v z (only-more walkColumns groupedColumns rows u v refl first) (only-more orderColumns groupedColumns rows v z refl O) in
       record {
         sound-count = L .sound-count;
         count = L .count;
         fits = L .fits;
+        few = few;
+        small = small;
         only = only-trans sixColumns rows w u z (only-more linkedColumns sixColumns rows w u refl (L .only)) (only-more groupedColumns sixColumns rows u z refl U);
         stands = λ e d.
             let F = L .stands e d in

@@ -40,10 +40,12 @@ pub record Six (rows : ℕ) (sizes : List ℕ) (ps ns ts : List Float) (xs : Lis
   pub rest : (t : ℕ) → length (sound xs) ≤ t → t < rows → cell rows orientationColumn t u ≡ cell rows orientationColumn t linked
   pub in-order : InOrder rows (sound xs) (c .groups) (c .members) u
 
--- the counts, what is altered from the list w to u, and what the columns stand for, where refusal 4 does not catch the lists
+-- the counts, which fit into the rows, what is altered from the list w to u, and what the columns stand for, where refusal 4 does not catch the lists
 pub record Left (sizes : List ℕ) (ps ns ts : List Float) (xs : List Triangle) (c : Counts) (w u : List ℕ) : Type 0 where
   pub sound-count : c .sound ≡ length (sound xs)
   pub count : c .all ≡ length (sound xs ++ broken xs)
   pub fits : 3 * length (sound xs ++ broken xs) ≤ rowsOf (length sizes)
+  pub few : c .groups ≤ rowsOf (length sizes)
+  pub small : c .members ≤ rowsOf (length sizes)
   pub only : Only sixColumns (rowsOf (length sizes)) w u
   pub stands : badCorner 0 (meshFrom ps ns ts 0 sizes) ≡ none → (d : Triangle) → Six (rowsOf (length sizes)) sizes ps ns ts xs d c u

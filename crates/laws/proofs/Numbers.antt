@@ -59,7 +59,7 @@ every-unit : (l : List Corner) → Every (λ c. Unit {0}) l
 every-unit [] = every-nil
 every-unit (c ∷ l) = every-cons tt (every-unit l)
 
-pieces-face : (n : ℕ) (cs : List Corner) → Every (Of n (λ c. Unit {0})) (pieces n cs)
+pub pieces-face : (n : ℕ) (cs : List Corner) → Every (Of n (λ c. Unit {0})) (pieces n cs)
 pieces-face n cs = pieces-of n (λ c. Unit {0}) cs (every-unit (usable cs))
 
 -- later faces have higher numbers

@@ -1,12 +1,12 @@
 -- Where the groups begin among all members: at 0, rising, up to the end; and which members are of a group. Assumes nothing.
-use Prim.Native.Nat.{ℕ, suc, _+_, _≤_, _<_, min}
+use Prim.Native.Nat.{ℕ, suc, _+_, _-_, _≤_, _<_, min}
 use native.Mathlib.Omega.{arith}
 use mathlib.Core.Path.{_≡_, refl, sym, _∙_}
 use mathlib.Core.Bool.{Bool, true, false, cond}
 use mathlib.Core.List.{List}
 use lib.Dec.{ltb}
 use lib.ListN.{length}
-use borrow.Author.Tests.{leb-true, lt-ltb, le-leb, lt-leb, ltb-true, ltb-false}
+use borrow.Author.Tests.{leb-true, leb-false, lt-ltb, le-ltb, le-leb, lt-leb, ltb-true, ltb-false}
 use Rattle.table.specs.Table.{cell}
 use Rattle.table.specs.Columns.{beginColumn}
 use Rattle.definition.specs.declared.Triangle.{Triangle}
@@ -87,3 +87,20 @@ module _ (rows : ℕ) (ss : List Triangle) (d : Triangle) (ms : List Mark) (grou
               let n = ltb-false (suc q) (numberOf rows w j) (sym c ∙ lt-leb (cell rows beginColumn (suc q) w) j g) in
               omega arith
           last false m g a b = let c = ltb-false (suc q) groups m in omega arith
+
+  -- and a member stands from the place of its group's number to the next one's
+  pub of-number : Mark → (j : ℕ) → j < length ms → let q = numberOf rows w j - 1 in (q < groups) × (beginAt rows groups count w q ≤ j) × (j < beginAt rows groups count w (q + 1))
+  of-number e j l =
+      let M = G .member j e l in
+      let q : ℕ = numberOf rows w j - 1 in
+      let n : numberOf rows w j ≡ q + 1 = omega (arith, M .some) in
+      let few : q < groups = omega (arith, n, M .known) in
+      (few, first q n (ltb q groups) refl, last q n few (ltb (q + 1) groups) refl)
+    where
+      first : (q : ℕ) → numberOf rows w j ≡ q + 1 → (x : Bool) → ltb q groups ≡ x → cond x (cell rows beginColumn q w) count ≤ j
+      first q n true k = leb-true (cell rows beginColumn q w) j (G .begin q j (ltb-true q groups k) l ∙ lt-ltb q (numberOf rows w j) (omega arith))
+      first q n false k = absurd (omega (arith, n, ltb-false q groups k, G .member j e l .known))
+
+      last : (q : ℕ) → numberOf rows w j ≡ q + 1 → q < groups → (x : Bool) → ltb (q + 1) groups ≡ x → j < cond x (cell rows beginColumn (q + 1) w) count
+      last q n f true k = leb-false (cell rows beginColumn (q + 1) w) j (G .begin (q + 1) j (ltb-true (q + 1) groups k) l ∙ le-ltb (q + 1) (numberOf rows w j) (omega arith))
+      last q n f false k = omega (arith, all)

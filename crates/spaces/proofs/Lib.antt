@@ -1,3 +1,4 @@
 pub mod Kept
 pub mod Sums
 pub mod Shown
+pub mod Ranged

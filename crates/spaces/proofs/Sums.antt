@@ -88,7 +88,7 @@ kept-pass {A} {P} p (every-cons {x} {l} h r) = step (p x) refl (kept-pass p r)
     step true e k = every-cons (h, e) k
     step false e k = k
 
-all-below : (n m : ℕ) → m ≤ n → Every (λ k. k < n) (listOf m (λ k. k))
+pub all-below : (n m : ℕ) → m ≤ n → Every (λ k. k < n) (listOf m (λ k. k))
 unfolding listOf
 all-below n zero l = every-nil
 all-below n (suc m) l = every-append (all-below n m (omega arith)) (every-cons l every-nil)

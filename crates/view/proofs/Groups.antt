@@ -1,20 +1,26 @@
--- Stores in other columns leave the groups. Assumes nothing.
+-- Stores in other columns leave the groups, and their members in triangle order. Assumes nothing.
 use Prim.Native.Nat.{ℕ, _+_, _*_, _≤_, _<_}
 use native.Mathlib.Omega.{arith}
 use mathlib.Core.Path.{_≡_, refl, sym, _∙_, ap, subst}
-use mathlib.Core.Bool.{true, false, _||_}
+use mathlib.Core.Bool.{Bool, true, false, cond, _||_}
 use mathlib.Core.List.{List, [], _∷_}
 use lib.Dec.{eqb, leb, ltb}
 use lib.ListN.{length, getD}
+use lib.Seq.{slice}
+use borrow.Author.Tests.{ltb-true}
 use Rattle.table.specs.Table.{cell}
-use Rattle.table.specs.Columns.{orientationColumn, groupColumn, metColumn, beginColumn}
+use Rattle.table.specs.Columns.{orientationColumn, groupColumn, metColumn, orderColumn, beginColumn}
+use Rattle.table.specs.Loop.{listOf}
+use Rattle.table.proofs.Loops.{length-listOf, getD-listOf}
 use Rattle.definition.specs.declared.Triangle.{Triangle}
 use Rattle.definition.specs.Mesh.{Third, one, two, three}
 use Rattle.definition.specs.Step6Groups.{Mark}
 use Rattle.view.specs.Frame.{outside, disjoint, Only}
 use Rattle.view.specs.Rows.{row}
-use Rattle.view.specs.Groups.{numberOf, Member, Grouping}
+use Rattle.view.specs.Groups.{numberOf, Member, Grouping, beginAt, InOrder}
 use Rattle.view.proofs.Frame.{apart, cell-kept}
+use Rattle.laws.proofs.Part.{keep-same}
+use Rattle.view.proofs.Lists.{index-every}
 use Rattle.view.proofs.Rows.{row-lt}
 
 -- the columns of the groups
@@ -67,3 +73,29 @@ module _ (rows : ℕ) (ss : List Triangle) (d : Triangle) (ms : List Mark) (grou
     way = λ t h. kept orientationColumn t refl (omega arith) ∙ G .way t h;
     among = λ j e t h l. G .among j e t h l ∙ sym (λ z. eqb (group-kept t one l z) (number-kept j e h z) || (eqb (group-kept t two l z) (number-kept j e h z) || eqb (group-kept t three l z) (number-kept j e h z)));
   }
+
+-- the columns of the members in triangle order
+abbrev pub orderedColumns : List ℕ
+orderedColumns = orderColumn ∷ groupColumn ∷ beginColumn ∷ []
+
+module _ (rows : ℕ) (ss : List Triangle) (groups count : ℕ) (ks w u : List ℕ) (c : disjoint orderedColumns ks ≡ true) (fits : 3 * length ss ≤ rows) (room : groups ≤ rows) (O : Only ks rows w u) where
+  stays : (k r : ℕ) → outside orderedColumns k ≡ false → r < rows → cell rows k r u ≡ cell rows k r w
+  stays k r e h = cell-kept ks rows w u O k r (apart orderedColumns ks c k e) h
+
+  begin-stays : (q : ℕ) → beginAt rows groups count u q ≡ beginAt rows groups count w q
+  begin-stays q = step (ltb q groups) refl
+    where
+      step : (b : Bool) → ltb q groups ≡ b → cond b (cell rows beginColumn q u) count ≡ cond b (cell rows beginColumn q w) count
+      step true h = stays beginColumn q refl (omega (arith, ltb-true q groups h))
+      step false h = refl
+
+  pub in-order-kept : InOrder rows ss groups count w → InOrder rows ss groups count u
+  in-order-kept I q h =
+      let n = length-listOf (3 * length ss) (λ k. k) in
+      (λ z. slice (begin-stays q z) (begin-stays (q + 1) z) (O .others orderColumn (apart orderedColumns ks c orderColumn refl) z))
+      ∙ (I q h
+      ∙ keep-same (λ r. eqb (cell rows groupColumn r w) (q + 1)) (λ r. eqb (cell rows groupColumn r u) (q + 1))
+      (index-every (λ r. eqb (cell rows groupColumn r w) (q + 1) ≡ eqb (cell rows groupColumn r u) (q + 1)) (listOf (3 * length ss) (λ k. k)) 0
+      (λ k l.
+      let b : k < 3 * length ss = omega arith in
+      ap (λ x. eqb x (q + 1)) (sym (stays groupColumn (getD (listOf (3 * length ss) (λ k. k)) k 0) refl (omega (arith, getD-listOf (3 * length ss) (λ k. k) 0 k b)))))))

@@ -23,9 +23,11 @@ use Rattle.definition.specs.Frames.{numbered}
 use Rattle.laws.proofs.Sharp.{sharp-ends, accepted-real, mesh-sharp as every-sharp}
 use Rattle.laws.proofs.World.{welded-sym}
 use Rattle.laws.proofs.Weld.{welded-refl, welded-as}
+use Rattle.view.specs.Frame.{outside, Only}
 use Rattle.view.specs.Rows.{row, spotAt, spotRow}
 use Rattle.view.specs.Weld.{First, Vertices, Welds, Sharp}
 use Rattle.view.proofs.Lists.{bool-iff, first-at, every-index}
+use Rattle.view.proofs.Frame.{cell-kept}
 use Rattle.view.proofs.Rows.{row-lt, spot-is, spots-length, spots-at}
 
 -- there is one first number that passes
@@ -113,3 +115,8 @@ pub mesh-sharp : (ps ns ts : List Float) (sizes : List ℕ) (d : Triangle) → (
 mesh-sharp ps ns ts sizes d held none-bad = record {
   apart = λ t i h. sharp-ends _ (every-index (every-sharp (meshFrom ps ns ts 0 sizes) (accepted-real ps ns ts held 0 sizes none-bad)) t d h) i;
 }
+
+-- the column of vertices stands where another is stored in
+pub vertices-kept : (ks : List ℕ) (rows : ℕ) (l : List Triangle) (d : Triangle) (w u : List ℕ) → outside ks vertexColumn ≡ true → 3 * length l ≤ rows → Only ks rows w u → Vertices rows l d w → Vertices rows l d u
+vertices-kept ks rows l d w u c f O F t i h =
+    subst (First (λ k. welded (cornerOf (spotAt l d t i)) (cornerOf (spotRow l d k)))) (sym (cell-kept ks rows w u O vertexColumn (row t i) c (omega (arith, row-lt t (length l) i h)))) (F t i h)

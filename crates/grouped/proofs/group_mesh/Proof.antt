@@ -39,7 +39,7 @@ returns c =
     let s = l .before .before .before .before .before .before .before in
     let a = s .args in
     let R = left-room _ _ _ _ _ _ _ _ _ (l .link-mesh .ensures) in
-    joined (now (a .sizes)) (now (a .positions)) (now (a .normals)) (now (a .texture)) (l .link-mesh .result .sound) (l .link-mesh .result .all) (g .build-4-rule-groups .result .groups) (g .build-4-rule-groups .result .members) (now (a .work)) _ _ _ (l .link-mesh .ensures) (g .build-4-rule-groups .ensures .0) (o .order-members .ensures .0) (g .build-4-rule-groups .ensures .1 .1) (o .order-members .ensures .1) (omega (arith, g .build-4-rule-groups .ensures .1 .0 .0, R .0))
+    joined (now (a .sizes)) (now (a .positions)) (now (a .normals)) (now (a .texture)) (l .link-mesh .result .sound) (l .link-mesh .result .all) (g .build-4-rule-groups .result .groups) (g .build-4-rule-groups .result .members) (now (a .work)) _ _ _ (l .link-mesh .ensures) (g .build-4-rule-groups .ensures .0) (o .order-members .ensures .0) (g .build-4-rule-groups .ensures .1 .1) (o .order-members .ensures .1) (omega (arith, g .build-4-rule-groups .ensures .1 .0 .0, R .0)) (g .build-4-rule-groups .ensures .1 .0 .1)
 
 pub group-mesh-spec : {M : Type 1} → statement M
 group-mesh-spec =

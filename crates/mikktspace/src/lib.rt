@@ -1,0 +1,93 @@
+// The public call: the desk, then steps 1 to 9.
+// Carried over from mikktspace.rs (generate_tangent_space) of the Rust crate bevy_mikktspace and ALTERED: written anew in Rattle, over lists that are lent. See NOTICE.
+ghost use mathlib.Core.Path.{_≡_};
+ghost use mathlib.Core.Option.{none};
+ghost use Prim.Native.Nat.{_*_, _≤_};
+ghost use lib.ListN.{length};
+ghost use Rattle.definition.specs.Desk.{verdict};
+ghost use Rattle.definition.specs.Outcome.{accepted};
+ghost use Rattle.mikktspace.specs.Contract as spec;
+
+// What the call says: the number of a refusal and its place, or 0 and 0; and how many slots were written.
+#[repr(C)]
+pub struct Outcome {
+    pub number: u32,
+    pub place: u32,
+    pub slots: u32,
+}
+
+// An outcome of this number, place and count of slots.
+fn said(number: u32, place: u32, slots: u32) -> Outcome
+    ensures { λ r. ⌜ r ≡ record { number = number; place = place; slots = slots } ⌝ }
+{
+    Outcome {
+        number,
+        place,
+        slots,
+    }
+}
+
+// Steps 1 to 9 for a mesh that the desk accepts; the result is how many slots there are.
+fn make_frames(
+    sizes: &[u8],
+    positions: &[f32],
+    normals: &[f32],
+    tex_coords: &[f32],
+    threshold: f32,
+    answer: &mut [u32],
+    work: &mut [u32],
+) -> u32
+    requires { ⌜ verdict (now sizes) (now positions) (now normals) (now «tex_coords») threshold (length (now answer)) (length (now work)) ≡ none ⌝ }
+    ensures { λ s. ⌜ spec.left (record { number = 0; place = 0; slots = s }) (now (answer .exit)) (now (work .exit)) ≡ accepted (now (sizes .entry)) (now (positions .entry)) (now (normals .entry)) (now («tex_coords» .entry)) threshold (now (answer .entry)) (now (work .entry)) ⌝ }
+{
+    let slots = mesh::slots_before(sizes, 4096);
+    let rows = 6 * sizes.len();
+    table::clear_first(answer, 10 * slots);
+    let counts = grouped::group_mesh(sizes, positions, normals, tex_coords, work);
+    contributions::contribute_all(work, rows, counts.sound, positions, normals);
+    let met = groups::Counts {
+        groups: counts.groups,
+        members: counts.members,
+    };
+    spaces::generate_tangent_spaces(work, rows, threshold, answer, met);
+    copies::copy_frames(work, rows, counts.sound, counts.all, positions, answer);
+    table::clear_first(work, 128 * sizes.len());
+    slots as u32
+}
+
+// Tangent frames of a mesh: faces of these sizes, their corners' positions, normals and texture coordinates, at a threshold for the cosine of an angle. Ten words for each slot are written to the answer list; the work list is lent, and 128 words a face of it are cleared.
+// A refusal (a number from 1 to 6) alters neither list.
+pub fn generate_tangent_space(
+    sizes: &[u8],
+    positions: &[f32],
+    normals: &[f32],
+    tex_coords: &[f32],
+    threshold: f32,
+    answer: &mut [u32],
+    work: &mut [u32],
+) -> Outcome
+    ensures { λ r. ⌜ spec.Contract (now (sizes .entry)) (now (positions .entry)) (now (normals .entry)) (now («tex_coords» .entry)) threshold (now (answer .entry)) (now (work .entry)) r (now (answer .exit)) (now (work .exit)) ⌝ }
+{
+    let v = desk::judge(
+        sizes,
+        positions,
+        normals,
+        tex_coords,
+        threshold,
+        answer.len(),
+        work.len(),
+    );
+    if v.number != 0 {
+        return said(v.number, v.place, 0);
+    }
+    let slots = make_frames(
+        sizes,
+        positions,
+        normals,
+        tex_coords,
+        threshold,
+        answer,
+        work,
+    );
+    said(0, 0, slots)
+}
