@@ -9,20 +9,12 @@ pub extern "C" fn dokphalun_frames(
     sizes: &[u8],
     positions: &[f32],
     normals: &[f32],
-    tex_coords: &[f32],
+    texture: &[f32],
     threshold: f32,
     answer: &mut [u32],
     work: &mut [u32],
 ) -> Outcome
-    ensures { λ r. ⌜ Contract (now (sizes .entry)) (now (positions .entry)) (now (normals .entry)) (now («tex_coords» .entry)) threshold (now (answer .entry)) (now (work .entry)) r (now (answer .exit)) (now (work .exit)) ⌝ }
+    ensures { λ r. ⌜ Contract (now (sizes .entry)) (now (positions .entry)) (now (normals .entry)) (now (texture .entry)) threshold (now (answer .entry)) (now (work .entry)) r (now (answer .exit)) (now (work .exit)) ⌝ }
 {
-    mikktspace::generate_tangent_space(
-        sizes,
-        positions,
-        normals,
-        tex_coords,
-        threshold,
-        answer,
-        work,
-    )
+    mikktspace::generate_tangent_space(sizes, positions, normals, texture, threshold, answer, work)
 }

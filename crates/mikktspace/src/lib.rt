@@ -33,9 +33,9 @@ fn make_frames(
     positions: &[f32],
     normals: &[f32],
     tex_coords: &[f32],
-    threshold: f32,
-    answer: &mut [u32],
     work: &mut [u32],
+    answer: &mut [u32],
+    threshold: f32,
 ) -> u32
     requires { ⌜ verdict (now sizes) (now positions) (now normals) (now «tex_coords») threshold (length (now answer)) (length (now work)) ≡ none ⌝ }
     ensures { λ s. ⌜ spec.left (record { number = 0; place = 0; slots = s }) (now (answer .exit)) (now (work .exit)) ≡ accepted (now (sizes .entry)) (now (positions .entry)) (now (normals .entry)) (now («tex_coords» .entry)) threshold (now (answer .entry)) (now (work .entry)) ⌝ }
@@ -85,9 +85,9 @@ pub fn generate_tangent_space(
         positions,
         normals,
         tex_coords,
-        threshold,
-        answer,
         work,
+        answer,
+        threshold,
     );
     said(0, 0, slots)
 }

@@ -2,14 +2,14 @@
 use Prim.Native.Nat.{ℕ, _<_}
 use native.Mathlib.Nat.{zero-lt-suc}
 use native.Mathlib.Omega.{arith}
-use mathlib.Core.Path.{_≡_, refl, sym, _∙_, ap}
+use mathlib.Core.Path.{_≡_, refl, ap}
 use mathlib.Core.Bool.{Bool, true, false, cond, _||_, true≢false}
 use mathlib.Core.List.{List, [], _∷_}
 use mathlib.Core.Option.{Option, none, some}
 use lib.ListN.{length}
 use Rattle.definition.specs.Lists.{first, has}
 use Rattle.definition.specs.Desk.{Row, table, verdict}
-use Rattle.definition.specs.Outcome.{Result, accepted, answered, outcome}
+use Rattle.definition.specs.Outcome.{accepted, answered, outcome}
 use Rattle.laws.proofs.Part.{Each, each-none, each-some, Every, every-nil, every-cons}
 use Rattle.laws.proofs.Closed.{Found, first-found}
 use Rattle.promises.specs.Calls.{Call, leaves, Accepted}

@@ -1,29 +1,43 @@
--- Demand 1 holds of the definition. Assumes nothing.
-use Prim.Native.Nat.{ℕ, _+_, _*_, _≤_, _<_}
-use native.Mathlib.Nat.{zero-lt-suc, le-trans}
+-- Demand 1 holds of whatever the definition allows. Assumes nothing.
+use Prim.Native.Nat.{ℕ, zero, suc, _+_, _*_, _≤_, _<_}
+use native.Mathlib.Nat.{zero-lt-suc}
 use native.Mathlib.Omega.{arith}
 use mathlib.Core.Path.{_≡_, refl, sym, _∙_, ap, subst}
 use mathlib.Core.Bool.{Bool, false}
 use mathlib.Core.Logic.{_⊎_, inl, inr}
 use mathlib.Core.List.{List, [], _∷_, _++_}
 use mathlib.Core.Option.{Option, none, some}
-use lib.Dec.{ltb, lit≤}
-use lib.ListN.{length, take, drop, replicate, length-append, length-drop, length-replicate}
+use lib.Dec.{lit≤}
+use lib.ListN.{length, getD, take, drop, replicate, length-append, length-drop, length-replicate}
 use lib.Seq.{take-at, drop-at}
 use borrow.Author.Tests.{ltb-false}
-use Rattle.tangent.specs.Slot.{slotWords}
+use Rattle.tangent.specs.declared.Reading.{Reading}
+use Rattle.tangent.specs.declared.Reading.the-variants.{Absent}
+use Rattle.tangent.specs.Slot.{slotWords, words}
+use Rattle.tangent.proofs.Slots.{absent-alone}
 use Rattle.definition.specs.Limits.{workWords}
 use Rattle.definition.specs.Lists.{has}
 use Rattle.definition.specs.Handed.{meshFrom, slotCount}
-use Rattle.definition.specs.Frames.{frames}
+use Rattle.definition.specs.declared.Corner.{Corner}
+use Rattle.definition.specs.declared.Triangle.{Triangle}
+use Rattle.definition.specs.Triangles.{triangles}
+use Rattle.definition.specs.Step4Order.{sound}
+use Rattle.definition.specs.Step5Links.{links}
+use Rattle.definition.specs.Step6Groups.{marks}
+use Rattle.definition.specs.Step7Sums.{Brought, broughtAll}
+use Rattle.definition.specs.Step9Copies.{faceReadings}
+use Rattle.definition.specs.Frames.{numbered, framesFrom, framesOf, frames}
 use Rattle.definition.specs.Desk.{Row, table, verdict}
 use Rattle.definition.specs.Outcome.{Result, answerWords, accepted, answered, outcome}
 use Rattle.laws.proofs.Part.{Each, each-none, each-some, Every, every-nil, every-cons}
 use Rattle.laws.proofs.Closed.{Found, first-found}
 use Rattle.laws.proofs.Laws.{or-left, or-right}
 use Rattle.laws.proofs.Bridge.{answer-length}
-use Rattle.promises.specs.Calls.{Call, leaves, Accepted}
-use Rattle.promises.specs.Demand1.{Refused, Taken, Promised}
+use Rattle.view.specs.Answer.{slotNumber, HasSlot, Shows, finalAt}
+use Rattle.view.proofs.Answer.{slot-words, frames-shown}
+use Rattle.copies.proofs.Places.{length-mesh}
+use Rattle.promises.specs.Calls.{Call, meshOf, leaves, readingAt, Accepted}
+use Rattle.promises.specs.Demand1.{Refused, SlotTells, Taken, Promised}
 use Rattle.promises.specs.Impostors.{rowsOf}
 use Rattle.promises.proofs.Acceptance.{verdictOf, accepted-only}
 
@@ -43,7 +57,7 @@ unfolding leaves outcome
 leaves-is x o e = ap (by x) e
 
 -- ---- a refusal
-refused : (x : Call) (r : Row) → verdictOf x ≡ some r → (0 < r .number) × (r .number ≤ 6) → Refused x
+refused : (x : Call) (r : Row) → verdictOf x ≡ some r → (0 < r .number) × (r .number ≤ 6) → Refused x (leaves x)
 unfolding answered
 refused x r e h =
     let is = leaves-is x (some r) e in
@@ -77,7 +91,42 @@ front n new old e h =
     let b = length-drop n old in
     (drop-at new (drop n old) n e, take-at new (drop n old) n e, omega arith)
 
-taken : (x : Call) → verdictOf x ≡ none → Accepted x → Taken x
+-- ---- slots
+
+-- the frames of face f, among those of all faces from number n on
+frames-at : (bs : List Brought) (ss : List Triangle) (n k : ℕ) (m : List (List Corner)) (f : ℕ) → k ≡ n + f → f < length m → getD (framesFrom (numbered n m) ss bs) f [] ≡ faceReadings bs ss (record { number = k; corners = getD m f [] })
+unfolding framesFrom numbered
+frames-at bs ss n k [] f e h = absurd (omega arith)
+frames-at bs ss n k (c ∷ m) zero e h = let q : n ≡ k = omega arith in ap (λ (j : ℕ). faceReadings bs ss (record { number = j; corners = c })) q
+frames-at bs ss n k (c ∷ m) (suc f) e h = frames-at bs ss (suc n) k m f (omega arith) (omega arith)
+
+module _ (x : Call) where
+  abbrev sizes : List ℕ
+  sizes = x .mesh .sizes
+
+  abbrev mesh : List (List Corner)
+  mesh = meshFrom (x .mesh .places) (x .mesh .normals) (x .mesh .texture) 0 sizes
+
+  abbrev ss : List Triangle
+  ss = sound (triangles (numbered 0 mesh))
+
+  abbrev bs : List Brought
+  bs = broughtAll (x .threshold) ss (marks ss (links ss))
+
+  reading-is : (f i : ℕ) → HasSlot sizes f i → finalAt bs ss mesh f i ≡ readingAt x f i
+  unfolding finalAt readingAt meshOf frames framesOf
+  reading-is f i h =
+      let q : f ≡ 0 + f = omega arith in
+      ap (λ (l : List Reading). getD l i Absent) (sym (frames-at bs ss 0 f mesh f q (subst (λ (n : ℕ). f < n) (sym (length-mesh (x .mesh .places) (x .mesh .normals) (x .mesh .texture) 0 sizes)) (h .face))))
+
+  slot-tells : (f i : ℕ) → HasSlot sizes f i → (a : List ℕ) → a ≡ answerWords (frames (x .threshold) mesh) ++ drop (slotWords * slotCount sizes) (x .answer) → SlotTells (take slotWords (drop (slotWords * slotNumber sizes f i) a)) (readingAt x f i)
+  unfolding frames framesOf words
+  slot-tells f i h a e =
+      let S : Shows sizes (finalAt bs ss mesh) (x .answer) a = e ∙ sym (frames-shown (x .mesh .places) (x .mesh .normals) (x .mesh .texture) ss bs sizes (x .answer) _ refl) in
+      let w = slot-words sizes (x .answer) (finalAt bs ss mesh) a f i h S ∙ ap words (reading-is f i h) in
+      record { words-are = w; absent-is = λ q. w ∙ ap words q; absent-alone = λ q. absent-alone (readingAt x f i) (sym w ∙ q) }
+
+taken : (x : Call) → verdictOf x ≡ none → Accepted x → Taken x (leaves x)
 unfolding answered accepted
 taken x e ok =
     let is = leaves-is x none e in
@@ -91,6 +140,7 @@ taken x e ok =
       number-0 = ap (λ (y : Result). y .number) is;
       place-0 = ap (λ (y : Result). y .place) is;
       slots-S = ap (λ (y : Result). y .slots) is;
+      slot = λ f i h. slot-tells x f i h (leaves x .answer) (ap (λ (y : Result). y .answer) is);
       answer-past = ap (λ (y : Result). drop n (y .answer)) is ∙ a .0;
       answer-length = ap (λ (y : Result). length (y .answer)) is ∙ a .2;
       work-zero = ap (λ (y : Result). take k (y .work)) is ∙ w .1;
@@ -103,10 +153,14 @@ unfolding Accepted answered accepted
 accepted-none x e = ap (λ (y : Result). y .number) (leaves-is x none e)
 
 -- ---- the promise
-pub demand1 : Promised
-unfolding Promised verdict rowsOf
-demand1 x = go (verdictOf x) refl (first-found (λ r. r .applies) (between x))
+by-verdict : (x : Call) → Refused x (leaves x) ⊎ Taken x (leaves x)
+unfolding verdict rowsOf
+by-verdict x = go (verdictOf x) refl (first-found (λ r. r .applies) (between x))
   where
-    go : (o : Option Row) → verdictOf x ≡ o → Each (Found (λ r. r .applies) (λ r. (0 < r .number) × (r .number ≤ 6))) o → Refused x ⊎ Taken x
+    go : (o : Option Row) → verdictOf x ≡ o → Each (Found (λ r. r .applies) (λ r. (0 < r .number) × (r .number ≤ 6))) o → Refused x (leaves x) ⊎ Taken x (leaves x)
     go none e each-none = inr (taken x e (accepted-none x e))
     go (some r) e (each-some h) = inl (refused x r e (h .known))
+
+pub demand1 : Promised
+unfolding Promised
+demand1 x z e = subst (λ y. Refused x y ⊎ Taken x y) (sym e) (by-verdict x)

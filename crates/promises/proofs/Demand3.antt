@@ -1,31 +1,29 @@
 -- Demand 3 holds. Assumes nothing.
-use Prim.Native.Nat.{ℕ, zero, suc, _+_, _*_, _≤_, _<_}
+use Prim.Native.Nat.{ℕ, zero, suc, _+_, _*_, _<_}
 use native.Mathlib.Nat.{le-of-suc-le-suc, not-suc-le-zero, zero-lt-suc}
 use native.Mathlib.Omega.{arith}
 use mathlib.Core.Path.{_≡_, refl, sym, _∙_, ap, subst}
-use mathlib.Core.Bool.{Bool, true, false, cond}
+use mathlib.Core.Bool.{Bool, false}
 use mathlib.Core.List.{List, [], _∷_, _++_, append-assoc, map, flatMap}
-use mathlib.Core.Option.{Option, none, some}
+use mathlib.Core.Option.{Option}
 use lib.ListN.{length, take, drop, getD}
 use lib.Seq.{take-at, drop-append-add}
 use lib.Ieee.{Float}
 use Rattle.tangent.specs.declared.Reading.{Reading}
 use Rattle.tangent.specs.Slot as slot
 use Rattle.tangent.specs.Slot.{slotWords}
-use Rattle.definition.specs.declared.Corner.{Corner}
 use Rattle.definition.specs.declared.Triangle.{Triangle}
-use Rattle.definition.specs.Handed.{cornersFrom, meshFrom, used, slotsOf, slotCount}
+use Rattle.definition.specs.Handed.{meshFrom, slotsOf, slotCount}
 use Rattle.definition.specs.Step7Sums.{Brought}
-use Rattle.definition.specs.Step9Copies.{faceReadings}
 use Rattle.definition.specs.Frames.{numbered, framesFrom, framesOf, frames}
 use Rattle.definition.specs.Desk.{Row}
 use Rattle.definition.specs.Outcome.{Result, answerWords, accepted, answered, outcome}
 use Rattle.definition.specs.Shuffle.{Shuffle, done, left, right, shares}
 use Rattle.laws.proofs.Bridge.{face-length}
 use Rattle.laws.proofs.Shuffled.{shuffled}
-use Rattle.promises.specs.Calls.{Handed, Call, meshOf, leaves, Accepted, slotsBefore, faceAnswer}
+use Rattle.promises.specs.Calls.{Call, meshOf, leaves, Answers, Accepted, slotsBefore, faceAnswer}
 use Rattle.promises.proofs.Acceptance.{no-row}
-use Rattle.promises.specs.Demand3.{leftAt, rightAt, Demand3, Promised}
+use Rattle.promises.specs.Demand3.{leftAt, rightAt, Promised}
 
 -- ---- a list of words, face by face
 unfoldable join : List (List ℕ) → List ℕ
@@ -78,10 +76,10 @@ answer-is x e =
     ∙ ap (λ (l : List ℕ). l ++ drop (slotWords * slotCount (x .mesh .sizes)) (x .answer)) (joined (frames (x .threshold) (meshOf (x .mesh))))
 
 -- what is answered for a face is what the definition has for it
-face-is : (x : Call) → Accepted x → (n : ℕ) → n < length (x .mesh .sizes) → faceAnswer x n ≡ getD (faceWords x) n []
-unfolding faceAnswer
-face-is x e n h =
-    ap (λ (l : List ℕ). take (slotWords * slotsOf (getD (x .mesh .sizes) n 0)) (drop (slotWords * slotsBefore (x .mesh .sizes) n) l)) (answer-is x e)
+face-is : (x : Call) (z : Result) → Answers x z → z .number ≡ 0 → (n : ℕ) → n < length (x .mesh .sizes) → faceAnswer (x .mesh .sizes) (z .answer) n ≡ getD (faceWords x) n []
+unfolding faceAnswer Accepted
+face-is x z q e n h =
+    ap (λ (l : List ℕ). take (slotWords * slotsOf (getD (x .mesh .sizes) n 0)) (drop (slotWords * slotsBefore (x .mesh .sizes) n) l)) (ap (λ (y : Result). y .answer) q ∙ answer-is x (sym (ap (λ (y : Result). y .number) q) ∙ e))
     ∙ part (faces-of x) (drop (slotWords * slotCount (x .mesh .sizes)) (x .answer)) n h
 
 faces-length : {ks : List ℕ} {ws : List (List ℕ)} → Faces ks ws → length ws ≡ length ks
@@ -119,7 +117,7 @@ words-shuffled {p} a b m s e ha hb =
 
 pub demand3 : Promised
 unfolding Promised
-demand3 p a b m s e ha hb ea eb em =
+demand3 p a b m ra rb rm qa qb qm s e ha hb ea eb em =
     let w = words-shuffled a b m s e ha hb in
     let la = faces-length (faces-of a) in
     let lb = faces-length (faces-of b) in
@@ -127,8 +125,8 @@ demand3 p a b m s e ha hb ea eb em =
     record {
       first = λ n h.
           let i = left-is [] w n (omega arith) in
-          face-is m em (leftAt p n) (omega (arith, i .1)) ∙ i .0 ∙ sym (face-is a ea n h);
+          face-is m rm qm em (leftAt p n) (omega (arith, i .1)) ∙ i .0 ∙ sym (face-is a ra qa ea n h);
       second = λ n h.
           let i = right-is [] w n (omega arith) in
-          face-is m em (rightAt p n) (omega (arith, i .1)) ∙ i .0 ∙ sym (face-is b eb n h);
+          face-is m rm qm em (rightAt p n) (omega (arith, i .1)) ∙ i .0 ∙ sym (face-is b rb qb eb n h);
     }

@@ -1,7 +1,6 @@
 -- The definition is none of the impostors. Assumes nothing.
-use Prim.Native.Nat.{ℕ}
 use native.Mathlib.Omega.{arith}
-use mathlib.Core.Path.{_≡_}
+use mathlib.Core.Path.{_≡_, refl}
 use mathlib.Core.List.{[], _∷_, _++_}
 use mathlib.Core.Logic.{_⊎_, inl, inr}
 use lib.ListN.{take}
@@ -39,9 +38,9 @@ mirrored = samples.mirror
 
 slots-S : (x : Call) → Accepted x → leaves x .slots ≡ slotCount (x .mesh .sizes)
 unfolding Accepted Demand1.Promised
-slots-S x e = go (demand1 x)
+slots-S x e = go (demand1 x (leaves x) refl)
   where
-    go : Refused x ⊎ Taken x → leaves x .slots ≡ slotCount (x .mesh .sizes)
+    go : Refused x (leaves x) ⊎ Taken x (leaves x) → leaves x .slots ≡ slotCount (x .mesh .sizes)
     go (inl r) = let h = r .low in absurd (omega arith)
     go (inr t) = t .slots-S
 

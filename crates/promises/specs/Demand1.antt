@@ -1,35 +1,45 @@
--- Demand 1 (README): 'Any lists whatever may be handed in. Each call ends, with frames or with one of the numbered refusals. A refusal alters no buffer.' Definitions only.
+-- Demand 1 (README): 'Any lists whatever may be handed in. Each call ends, with frames or with one of the numbered refusals. A refusal alters no buffer. Absent is told apart from every number.' Definitions only.
 -- (That a call ends is part of what every contract says; here is what it leaves behind.)
 use Prim.Native.Nat.{ℕ, _*_, _≤_, _<_}
 use mathlib.Core.Path.{_≡_}
 use mathlib.Core.Logic.{_⊎_}
-use mathlib.Core.List.{List, _++_}
+use mathlib.Core.List.{List}
 use lib.ListN.{length, take, drop, replicate}
-use Rattle.tangent.specs.Slot.{slotWords}
+use Rattle.tangent.specs.declared.Reading.{Reading}
+use Rattle.tangent.specs.declared.Reading.the-variants.{Absent}
+use Rattle.tangent.specs.Slot.{slotWords, words}
 use Rattle.definition.specs.Limits.{workWords}
 use Rattle.definition.specs.Handed.{slotCount}
 use Rattle.definition.specs.Outcome.{Result}
-use Rattle.promises.specs.Calls.{Call, leaves}
+use Rattle.view.specs.Answer.{slotNumber, HasSlot}
+use Rattle.promises.specs.Calls.{Call, Answers, readingAt}
 
 -- the call is refused with one of the numbers 1 to 6, no slot is counted, and both lists are as they were
-pub record Refused (x : Call) : Type 0 where
-  pub low : 0 < leaves x .number
-  pub high : leaves x .number ≤ 6
-  pub no-slots : leaves x .slots ≡ 0
-  pub same-answer : leaves x .answer ≡ x .answer
-  pub same-work : leaves x .work ≡ x .work
+pub record Refused (x : Call) (z : Result) : Type 0 where
+  pub low : 0 < z .number
+  pub high : z .number ≤ 6
+  pub no-slots : z .slots ≡ 0
+  pub same-answer : z .answer ≡ x .answer
+  pub same-work : z .work ≡ x .work
 
--- the call is accepted: 0, 0 and S; past 10S words the answer list is as it was; the first 128F words of the work list are zero, and past them it is as it was; neither list changes its length
-pub record Taken (x : Call) : Type 0 where
-  pub number-0 : leaves x .number ≡ 0
-  pub place-0 : leaves x .place ≡ 0
-  pub slots-S : leaves x .slots ≡ slotCount (x .mesh .sizes)
-  pub answer-past : drop (slotWords * slotCount (x .mesh .sizes)) (leaves x .answer) ≡ drop (slotWords * slotCount (x .mesh .sizes)) (x .answer)
-  pub answer-length : length (leaves x .answer) ≡ length (x .answer)
-  pub work-zero : take (workWords * length (x .mesh .sizes)) (leaves x .work) ≡ replicate (workWords * length (x .mesh .sizes)) 0
-  pub work-past : drop (workWords * length (x .mesh .sizes)) (leaves x .work) ≡ drop (workWords * length (x .mesh .sizes)) (x .work)
-  pub work-length : length (leaves x .work) ≡ length (x .work)
+-- ten words are those of a reading, and ten zeros only where it is absent: no number, of whatever bits, reads like an absent one
+pub record SlotTells (ws : List ℕ) (r : Reading) : Type 0 where
+  pub words-are : ws ≡ words r
+  pub absent-is : r ≡ Absent → ws ≡ replicate slotWords 0
+  pub absent-alone : ws ≡ replicate slotWords 0 → r ≡ Absent
+
+-- the call is accepted: 0, 0 and S; each slot tells the definition's reading; past 10S words the answer list is as it was; the first 128F words of the work list are zero, and past them it is as it was; neither list changes its length
+pub record Taken (x : Call) (z : Result) : Type 0 where
+  pub number-0 : z .number ≡ 0
+  pub place-0 : z .place ≡ 0
+  pub slots-S : z .slots ≡ slotCount (x .mesh .sizes)
+  pub slot : (f i : ℕ) → HasSlot (x .mesh .sizes) f i → SlotTells (take slotWords (drop (slotWords * slotNumber (x .mesh .sizes) f i) (z .answer))) (readingAt x f i)
+  pub answer-past : drop (slotWords * slotCount (x .mesh .sizes)) (z .answer) ≡ drop (slotWords * slotCount (x .mesh .sizes)) (x .answer)
+  pub answer-length : length (z .answer) ≡ length (x .answer)
+  pub work-zero : take (workWords * length (x .mesh .sizes)) (z .work) ≡ replicate (workWords * length (x .mesh .sizes)) 0
+  pub work-past : drop (workWords * length (x .mesh .sizes)) (z .work) ≡ drop (workWords * length (x .mesh .sizes)) (x .work)
+  pub work-length : length (z .work) ≡ length (x .work)
 
 -- the promise: of every call whatever
 unfoldable pub Promised : Type 0
-Promised = (x : Call) → Refused x ⊎ Taken x
+Promised = (x : Call) (z : Result) → Answers x z → Refused x z ⊎ Taken x z

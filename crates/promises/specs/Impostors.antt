@@ -1,7 +1,6 @@
 -- 'These impostors have to be shut out': of the definition it is shown that it is none of them. Definitions only.
-use Prim.Native.Nat.{ℕ}
 use mathlib.Core.Path.{_≡_}
-use mathlib.Core.Bool.{Bool, false}
+use mathlib.Core.Bool.{false}
 use mathlib.Core.List.{List, [], _∷_, _++_}
 use lib.ListN.{length, take}
 use Rattle.definition.specs.Lists.{has}
