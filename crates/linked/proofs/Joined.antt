@@ -1,34 +1,30 @@
 -- What the steps leave one after the other. Assumes nothing.
 use Prim.Native.Nat.{ℕ, _+_, _*_, _≤_, _<_}
 use native.Mathlib.Omega.{arith}
-use mathlib.Core.Path.{_≡_, refl, sym, _∙_, ap, subst}
-use mathlib.Core.Bool.{Bool}
-use mathlib.Core.List.{List, [], _∷_, _++_}
+use mathlib.Core.Path.{_≡_, refl, sym, ap}
+use mathlib.Core.List.{List, _++_}
 use mathlib.Core.Option.{none}
 use lib.Dec.{T}
 use lib.ListN.{length, getD, length-append}
 use lib.Ieee.{Float, nan, binary32, fits}
 use Rattle.table.specs.Table.{cell}
-use Rattle.table.specs.Columns.{columns, rowsOf, vertexColumn, linkColumn}
+use Rattle.table.specs.Columns.{rowsOf, linkColumn}
 use Rattle.definition.specs.declared.Triangle.{Triangle}
-use Rattle.definition.specs.Mesh.{Third, cornerOf}
 use Rattle.definition.specs.Handed.{meshFrom}
 use Rattle.definition.specs.Desk.{badCorner}
 use Rattle.definition.specs.Triangles.{triangles}
-use Rattle.definition.specs.Step4Order.{isSound, sound, broken, welded}
+use Rattle.definition.specs.Step4Order.{isSound, sound, broken}
 use Rattle.definition.specs.Step5Links.{links}
 use Rattle.definition.specs.Frames.{numbered}
 use Rattle.laws.proofs.Mutual.{Names}
 use Rattle.laws.proofs.Numbers.{names-keep, triangles-names}
 use Rattle.view.specs.Frame.{Only}
-use Rattle.view.specs.Rows.{row, spotAt, spotRow}
 use Rattle.view.specs.Records.{Held, recordColumns}
-use Rattle.view.specs.Weld.{First, Vertices, Welds, Sharp}
+use Rattle.view.specs.Weld.{Vertices, Welds, Sharp}
 use Rattle.view.specs.Links.{Linked, Five}
-use Rattle.view.proofs.Frame.{only-trans, only-more, cell-kept}
-use Rattle.view.proofs.Rows.{row-lt}
+use Rattle.view.proofs.Frame.{only-trans, only-more}
 use Rattle.view.proofs.Records.{held-kept}
-use Rattle.view.proofs.Weld.{welds, sound-welds, mesh-sharp}
+use Rattle.view.proofs.Weld.{welds, sound-welds, mesh-sharp, vertices-kept}
 use Rattle.listing.specs.Listing.{Listed}
 use Rattle.weld.specs.Welding.{weldColumns, Welded}
 use Rattle.neighbors.specs.Sides.{stepColumns}
@@ -37,11 +33,6 @@ use Rattle.linked.specs.Links.{linkedColumns, Left}
 -- there is room for the sound triangles' sides
 pub sound-room : (sizes : List ℕ) (ps ns ts : List Float) (xs : List Triangle) (n m : ℕ) (w u : List ℕ) → Listed sizes ps ns ts xs n m w u → 3 * n ≤ rowsOf (length sizes)
 sound-room sizes ps ns ts xs n m w u L = omega (arith, L .sound-count, L .fits, length-append (sound xs) (broken xs))
-
--- stores in other columns leave the vertices
-vertices-kept : (rows : ℕ) (ys : List Triangle) (d : Triangle) (w u : List ℕ) → 3 * length ys ≤ rows → Only stepColumns rows w u → Vertices rows ys d w → Vertices rows ys d u
-vertices-kept rows ys d w u fits O W t i h =
-    subst (First (λ k. welded (cornerOf (spotAt ys d t i)) (cornerOf (spotRow ys d k)))) (sym (cell-kept stepColumns rows w u O vertexColumn (row t i) refl (omega (arith, row-lt t (length ys) i h)))) (W t i h)
 
 module _ (sizes : List ℕ) (ps ns ts : List Float) (n m : ℕ) (w u v z : List ℕ) where
   abbrev xs : List Triangle
@@ -66,7 +57,7 @@ module _ (sizes : List ℕ) (ps ns ts : List Float) (n m : ℕ) (w u v z : List 
         let sharp = mesh-sharp ps ns ts sizes d held e in
         record {
           held = held-kept rows sizes ps ns ts (sound xs ++ broken xs) d v (held-kept rows sizes ps ns ts (sound xs ++ broken xs) d u (L .held d) (L .fits) weldColumns v refl (W .only)) (L .fits) stepColumns z refl only;
-          vertices = vertices-kept rows (sound xs ++ broken xs) d v z (L .fits) only (vertices d);
+          vertices = vertices-kept stepColumns rows (sound xs ++ broken xs) d v z refl (L .fits) only (vertices d);
           names = own-names;
           sharp = sharp;
           linked = link-is (sound xs) d (sym (L .sound-count)) own-names sharp (sound-welds rows (sound xs) (broken xs) d v (welds rows (sound xs ++ broken xs) d v (vertices d)));
