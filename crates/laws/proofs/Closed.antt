@@ -82,6 +82,12 @@ module _ (P : Spot → Type 0) where
 pub record Whole (ss : List Triangle) (t : Triangle) : Type 0 where
   pub at : (i : Third) → List·Memᴰ (record { tri = t; at = i }) (spots ss)
 
+-- what holds of every triangle holds of the triangle of every corner
+pub spots-every : {P : Triangle → Type 0} {ts : List Triangle} → Every P ts → Every (λ s. P (s .tri)) (spots ts)
+unfolding spots
+spots-every every-nil = every-nil
+spots-every (every-cons h r) = every-cons h (every-cons h (every-cons h (spots-every r)))
+
 module _ (ss : List Triangle) where
   pub spots-whole : (ts : List Triangle) → ((s : Spot) → List·Memᴰ s (spots ts) → List·Memᴰ s (spots ss)) → Every (λ s. Whole ss (s .tri)) (spots ts)
   unfolding spots

@@ -99,7 +99,7 @@ grows-refl ms = record { added = []; is = sym (append-nil ms); stay = λ s e. e 
 pub grows-trans : {ls ms ns : List Mark} → Grows ls ms → Grows ms ns → Grows ls ns
 grows-trans {ls} a b = record { added = a .added ++ b .added; is = b .is ∙ (ap (λ l. l ++ b .added) (a .is) ∙ append-assoc ls (a .added) (b .added)); stay = λ s e. b .stay s (a .stay s e) }
 
-grows-snoc : (ms : List Mark) (m : Mark) → Grows ms (ms ++ (m ∷ []))
+pub grows-snoc : (ms : List Mark) (m : Mark) → Grows ms (ms ++ (m ∷ []))
 unfolding grouped
 grows-snoc ms m = record { added = m ∷ []; is = refl; stay = λ s e. has-append (λ k. sameSpot (k .spot) s) ms (m ∷ []) e }
 
@@ -158,7 +158,7 @@ module _ (ss : List Triangle) (ls : List Link) (g : Spot) (w : Bool) (near : (s 
       go true false c f e = refl
       go true true c f e = sym (ap not (f refl)) ∙ e
 
-  left-less : {ms ns : List Mark} → Grows ms ns → left′ ns ≤ left′ ms
+  pub left-less : {ms ns : List Mark} → Grows ms ns → left′ ns ≤ left′ ms
   unfolding left′
   left-less {ms} {ns} r = keep-le (open′ ms) (open′ ns) (open-less r) (spots ss)
 
@@ -170,13 +170,13 @@ module _ (ss : List Triangle) (ls : List Link) (g : Spot) (w : Bool) (near : (s 
   grouped-marked ms s = has-last (λ k. sameSpot (k .spot) s) ms (record { spot = s; start = g; orientation = w }) (spot-refl s)
 
   -- a corner that is marked is one less
-  left-drop : (ms : List Mark) (s : Spot) → Near ss (cornerOf g) s → grouped ms s ≡ false → left′ (marked ms s) < left′ ms
+  pub left-drop : (ms : List Mark) (s : Spot) → Near ss (cornerOf g) s → grouped ms s ≡ false → left′ (marked ms s) < left′ ms
   unfolding left′ open′
   left-drop ms s h e =
       keep-lt (open′ ms) (open′ (marked ms s)) (open-less (grows-snoc ms _)) s
       (rw (h .joined, grouped-marked ms s)) (rw (h .joined, e)) (h .inside)
 
-  stops-grouped : (ms : List Mark) (s : Spot) → stops ms w s ≡ false → grouped ms s ≡ false
+  pub stops-grouped : (ms : List Mark) (s : Spot) → stops ms w s ≡ false → grouped ms s ≡ false
   unfolding stops
   stops-grouped ms s e = or-false (grouped ms s) _ e
 

@@ -73,6 +73,10 @@ module _ (ss : List Triangle) where
       (λ g e ms s p b h. every-append h (every-cons (p .joined) every-nil))
       every-nil
 
+  -- every mark stands on a corner of the triangles
+  pub marks-inside : Every (λ m. List·Memᴰ (m .spot) (spots ss)) (marks ss (links ss))
+  marks-inside = marks-inv ss (Every (λ m. List·Memᴰ (m .spot) (spots ss))) (λ g e ms s p b h. every-append h (every-cons (p .inside) every-nil)) every-nil
+
   -- one orientation per group: that of the triangle at which it started, which isn't `group_with_any`
   pub one-way : Every (λ m. (m .orientation ≡ m .start .tri .orientation) × (m .start .tri .any ≡ false)) (marks ss (links ss))
   one-way =

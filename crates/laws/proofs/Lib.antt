@@ -21,3 +21,6 @@ pub mod Twice
 pub mod Targets
 pub mod Sharp
 pub mod Held
+pub mod Leftover
+pub mod Reached
+pub mod OneGroup

@@ -161,8 +161,13 @@ module _ (all : List Spot) (names : Apart all) where
           let g = i e in
           rw (unlike ls (l .near) t s (k .from) ht n g (sameSpot (l .near) t) refl, unlike ls (l .far) t s (k .to) ht f g (sameSpot (l .far) t) refl) g
 
+-- the links of the triangles are between their sides, run opposite ways
+pub links-in : (ss : List Triangle) → Every (Sound (λ x. List·Memᴰ x (spots ss))) (links ss)
+unfolding links
+links-in ss = all-sound (λ x. List·Memᴰ x (spots ss)) (every-mem _ (spots ss) (λ x m. m)) [] every-nil
+
 -- E11: every link is mutual
 pub mutual′ : (ss : List Triangle) → Names ss → (s t : Spot) → List·Memᴰ s (spots ss) → beyond (links ss) s ≡ some t → beyond (links ss) t ≡ some s
 unfolding links
 mutual′ ss n s t h e =
-    mutual-in (spots ss) (spots-apart n) (all-tidy (spots-apart n) [] tidy-nil) (all-sound (λ x. List·Memᴰ x (spots ss)) (every-mem _ (spots ss) (λ x m. m)) [] every-nil) s t h e
+    mutual-in (spots ss) (spots-apart n) (all-tidy (spots-apart n) [] tidy-nil) (links-in ss) s t h e

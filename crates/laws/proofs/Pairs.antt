@@ -44,7 +44,7 @@ past [] i e = omega arith
 past (y ∷ l) zero e = absurd (nil≢cons (sym e))
 past (y ∷ l) (suc i) e = let h = past l i e in omega arith
 
-index-lt : {X : Type 0} (l : List X) (i : ℕ) (x : X) → getElem? l i ≡ some x → i < length l
+pub index-lt : {X : Type 0} (l : List X) (i : ℕ) (x : X) → getElem? l i ≡ some x → i < length l
 index-lt [] i x e = absurd (Option·none-ne-some x e)
 index-lt (y ∷ l) zero x e = omega arith
 index-lt (y ∷ l) (suc i) x e = let h = index-lt l i x e in omega arith
@@ -298,7 +298,7 @@ module _ (s : Spot) (ends : welded (cornerOf s) (endOf s) ≡ false) where
   unfolding alike opposite
   alike-opposite x t e = rw (welded-as (cornerOf s) (cornerOf x) (endOf t) (and-left _ _ e), welded-as (endOf s) (endOf x) (cornerOf t) (and-right (welded (cornerOf s) (cornerOf x)) _ e))
 
-  opposite-alike : (x t : Spot) → opposite s x ≡ true → opposite x t ≡ alike s t
+  pub opposite-alike : (x t : Spot) → opposite s x ≡ true → opposite x t ≡ alike s t
   unfolding alike opposite
   opposite-alike x t e = rw (welded-as (cornerOf s) (endOf x) (cornerOf t) (and-left _ _ e), welded-as (endOf s) (cornerOf x) (endOf t) (and-right (welded (cornerOf s) (endOf x)) _ e)) (and-comm (welded (cornerOf x) (endOf t)) (welded (endOf x) (cornerOf t)))
 

@@ -22,10 +22,10 @@ use Rattle.definition.specs.Frames.{numbered}
 use Rattle.laws.proofs.Part.{Every, every-nil, every-cons, every-append, every-map, every-keep, keep-map}
 use Rattle.laws.proofs.Closed.{and-left, and-right, Whole}
 use Rattle.laws.proofs.Mutual.{Names, spots-apart, apart-inj, every-at}
-use Rattle.laws.proofs.Laws.{Once, once-nil, once-cons, at-most-one, marks-inv, beq-refl}
+use Rattle.laws.proofs.Laws.{Once, once-nil, once-cons, at-most-one, marks-inside, beq-refl}
 use Rattle.laws.proofs.Numbers.{names-keep, triangles-names}
 use Rattle.laws.proofs.Enough.{third-refl}
-use Rattle.laws.proofs.Closed.{spots-whole}
+use Rattle.laws.proofs.Closed.{spots-every, spots-whole}
 
 -- ---- a triangle's three corners are three of its face
 pub record Plain (t : Triangle) : Type 0 where
@@ -100,11 +100,6 @@ once-keep p (once-cons {m} {ms} h r) = go (p m) (every-keep p h) (once-keep p r)
     go true g s = once-cons g s
     go false g s = s
 
-spots-plain : {ts : List Triangle} → Every Plain ts → Every (λ x. Plain (x .tri)) (spots ts)
-unfolding spots
-spots-plain every-nil = every-nil
-spots-plain (every-cons p r) = every-cons p (every-cons p (every-cons p (spots-plain r)))
-
 -- ---- two corners of one slot are corners of the first and the second triangle of a face
 module _ (ss : List Triangle) (names : Names ss) (plain : Every Plain ss) (f i : ℕ) where
   -- a mark on a corner of the triangles, in slot i of face f
@@ -125,7 +120,7 @@ module _ (ss : List Triangle) (names : Names ss) (plain : Every Plain ss) (f i :
       (rw (e, third-refl one)))
 
   plain-at : (s : Spot) → List·Memᴰ s (spots ss) → Plain (s .tri)
-  plain-at s h = every-at (spots-plain plain) h
+  plain-at s h = every-at (spots-every plain) h
 
   -- so of two marks that are both of the first triangle, or both of the second, each is the other
   clash : (m k : Mark) → InSlot m → InSlot k → m .spot .tri .second ≡ k .spot .tri .second → sameSpot (m .spot) (k .spot) ≡ true
@@ -159,9 +154,6 @@ module _ (ss : List Triangle) (names : Names ss) (plain : Every Plain ss) (f i :
   at-most-two (once-cons {m = x} (every-cons xy (every-cons xz h)) (once-cons {m = y} (every-cons yz k) (once-cons {m = z} l r))) (every-cons a (every-cons b (every-cons c q))) =
       absurd (no-three (x .spot .tri .second) (y .spot .tri .second) (z .spot .tri .second) (apart x y a b xy) (apart x z a c xz) (apart y z b c yz))
 
-  marks-inside : Every (λ m. List·Memᴰ (m .spot) (spots ss)) (marks ss (links ss))
-  marks-inside = marks-inv ss (Every (λ m. List·Memᴰ (m .spot) (spots ss))) (λ g e ms s p b h. every-append h (every-cons (p .inside) every-nil)) every-nil
-
   -- whether a mark is in the slot
   in-slot : Mark → Bool
   in-slot m = eqb (m .spot .tri .face) f && eqb (slotOf (m .spot)) i
@@ -176,7 +168,7 @@ module _ (ss : List Triangle) (names : Names ss) (plain : Every Plain ss) (f i :
         of-face = eqb-true (m .spot .tri .face) f (and-left (eqb (m .spot .tri .face) f) (eqb (slotOf (m .spot)) i) (h .1));
         of-slot = eqb-true (slotOf (m .spot)) i (and-right (eqb (m .spot .tri .face) f) (eqb (slotOf (m .spot)) i) (h .1));
       })
-      (every-both (every-keep in-slot marks-inside) (every-kept in-slot (marks ss (links ss)))))
+      (every-both (every-keep in-slot (marks-inside ss)) (every-kept in-slot (marks ss (links ss)))))
 
   brought-twice : (h : Float) → length (keep (λ b. eqb (b .face) f && eqb (b .slot) i) (broughtAll h ss (marks ss (links ss)))) ≤ 2
   unfolding broughtAll bring in-slot

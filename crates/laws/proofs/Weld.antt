@@ -67,7 +67,7 @@ every-any (x ∷ l) = every-cons tt (every-any l)
 each-inv : {X : Type 0} {P : X → Type 0} {x : X} → Each P (some x) → P x
 each-inv (each-some h) = h
 
-found-at : {X : Type 0} (P : X → Type 0) (x : X) {o : Option X} → Each P o → o ≡ some x → P x
+pub found-at : {X : Type 0} (P : X → Type 0) (x : X) {o : Option X} → Each P o → o ≡ some x → P x
 found-at P x h e = each-inv (subst (λ o. Each P o) e h)
 
 -- corners that are welded to one corner are welded
