@@ -1,4 +1,4 @@
-// Runs document 01's samples 6 to 9, and compares the root and the angle of each number that standard input names. Prints how much it compared and how much differed.
+// Runs document 01's samples 1 to 3 and 10 to 12 through the public call, and 6 to 9, and compares the root and the angle of each number that standard input names. Prints how much it compared and how much differed.
 // A line of standard input is 27 bytes: a number, its root and its angle, each as the eight digits of its word, with a blank or a line end behind.
 ghost use Prim.Native.Nat.{_+_, _<_, _≤_};
 ghost use lib.ListN.{length};
@@ -152,6 +152,130 @@ fn sample_9() -> Tally {
         .with(angle::raised_whole(bits::number(0x80000000)), 1073741824)
 }
 
+// Words that are each expected to be one of ten, in turn.
+fn words(so_far: Tally, got: &[u32], expected: &[u32; 10]) -> Tally {
+    let mut t = so_far;
+    for i in 0..got.len() {
+        t = t.with(got[i], expected[i % 10]);
+    }
+    t
+}
+
+// The outcome of a call.
+fn outcome(r: mikktspace::Outcome, number: u32, place: u32, slots: u32) -> Tally {
+    Tally::NONE
+        .with(r.number, number)
+        .with(r.place, place)
+        .with(r.slots, slots)
+}
+
+// Sample 1 with some texture: the outcome, the whole answer, and that the work list is cleared.
+fn triangle(texture: &[f32; 6], slot: &[u32; 10]) -> Tally {
+    let sizes: [u8; 1] = [3];
+    let positions: [f32; 9] = [0.0, 0.0, 0.0, 1.0, 0.0, 0.0, 0.0, 1.0, 0.0];
+    let normals: [f32; 9] = [0.0, 0.0, 1.0, 0.0, 0.0, 1.0, 0.0, 0.0, 1.0];
+    let mut answer: [u32; 30] = [7; 30];
+    let mut work: [u32; 128] = [7; 128];
+    let r = mikktspace::generate_tangent_space(
+        &sizes,
+        &positions,
+        &normals,
+        texture,
+        -1.0,
+        &mut answer,
+        &mut work,
+    );
+    let cleared: [u32; 10] = [0; 10];
+    words(words(outcome(r, 0, 0, 3), &answer, slot), &work, &cleared)
+}
+
+fn sample_1() -> Tally {
+    let texture: [f32; 6] = [0.0, 0.0, 1.0, 0.0, 0.0, 1.0];
+    let slot: [u32; 10] = [
+        1,
+        0x3f800000,
+        0,
+        0,
+        0,
+        0x3f800000,
+        0,
+        0x3f800000,
+        0x3f800000,
+        1,
+    ];
+    triangle(&texture, &slot)
+}
+
+fn sample_2() -> Tally {
+    let texture: [f32; 6] = [0.0, 0.0, -1.0, 0.0, 0.0, 1.0];
+    let slot: [u32; 10] = [
+        1,
+        0xbf800000,
+        0,
+        0,
+        0,
+        0x3f800000,
+        0,
+        0x3f800000,
+        0x3f800000,
+        0,
+    ];
+    triangle(&texture, &slot)
+}
+
+fn sample_3() -> Tally {
+    let texture: [f32; 6] = [0.0; 6];
+    let slot: [u32; 10] = [0; 10];
+    triangle(&texture, &slot)
+}
+
+// A call with these sizes and numbers, and no word lent.
+fn asked(sizes: &[u8], three: &[f32], two: &[f32]) -> mikktspace::Outcome {
+    let mut answer: [u32; 0] = [];
+    let mut work: [u32; 0] = [];
+    mikktspace::generate_tangent_space(sizes, three, three, two, 0.0, &mut answer, &mut work)
+}
+
+// 4,097 faces are refused with 1; 4,096 aren't, but with 6, since no work list is lent.
+fn sample_10() -> Tally {
+    let sizes: [u8; 4097] = [0; 4097];
+    let r = asked(&sizes, &[], &[]);
+    let s = asked(&sizes[..4096], &[], &[]);
+    outcome(r, 1, 0, 0).with(s.number, 6)
+}
+
+// Faces of 5, 2 and 0 corners take no slot.
+fn sample_11() -> Tally {
+    let sizes: [u8; 3] = [5, 2, 0];
+    let three: [f32; 21] = [0.0; 21];
+    let two: [f32; 14] = [0.0; 14];
+    let mut answer: [u32; 0] = [];
+    let mut work: [u32; 384] = [7; 384];
+    let r = mikktspace::generate_tangent_space(
+        &sizes,
+        &three,
+        &three,
+        &two,
+        0.0,
+        &mut answer,
+        &mut work,
+    );
+    let cleared: [u32; 10] = [0; 10];
+    words(outcome(r, 0, 0, 0), &work, &cleared)
+}
+
+// A NaN in a face of 5 is passed over (the work list that is not lent is refused, with 6); in a face of 3 it is refused with 4.
+fn sample_12() -> Tally {
+    let nan = bits::number(0x7fc00000);
+    let five: [f32; 15] = [nan; 15];
+    let three: [f32; 9] = [nan; 9];
+    let ten: [f32; 10] = [0.0; 10];
+    let six: [f32; 6] = [0.0; 6];
+    let r = asked(&[5], &five, &ten);
+    let s = asked(&[3], &three, &six);
+    outcome(r, 6, 0, 0).with(s.number, 4)
+}
+
 fn print(name: &[u8], t: Tally) {
     io::write_all(1, name);
     io::print_decimal(1, t.compared);
@@ -169,10 +293,16 @@ fn print_lines(text: &[u8]) {
 }
 
 fn main() {
+    print(b"sample 1: ", sample_1());
+    print(b"sample 2: ", sample_2());
+    print(b"sample 3: ", sample_3());
     print(b"sample 6: ", sample_6());
     print(b"sample 7: ", sample_7());
     print(b"sample 8: ", sample_8());
     print(b"sample 9: ", sample_9());
+    print(b"sample 10: ", sample_10());
+    print(b"sample 11: ", sample_11());
+    print(b"sample 12: ", sample_12());
     let mut buf = io::large_buffer();
     let n = io::read_full(0, &mut buf);
     print_lines(&buf[..n]);
