@@ -1,0 +1,103 @@
+//! The kinds of cases.
+mod big;
+mod faces;
+mod limits;
+mod magnitudes;
+mod numbers;
+mod one;
+mod refused;
+mod sheets;
+mod shuffle;
+mod small;
+mod zeros;
+
+use crate::mesh::Case;
+use crate::random::Random;
+
+/// A kind of cases.
+pub struct Kind {
+    pub name: &'static str,
+    /// How many cases there are, where they can be counted off.
+    pub all: Option<u64>,
+    /// How many are compared unless another count is asked for, and in the gate.
+    pub usual: u64,
+    pub gate: u64,
+    /// Makes the case of a number.
+    make: fn(&mut Random, u64) -> Case,
+}
+
+impl Kind {
+    /// Case number `i` of `count`; cases that can be counted off are taken evenly from all of them.
+    pub fn case(&self, seed: u64, i: u64, count: u64) -> Case {
+        let number = match self.all {
+            Some(all) => (u128::from(i) * u128::from(all) / u128::from(count)) as u64,
+            None => i,
+        };
+        (self.make)(&mut Random::of(seed, self.name, number), number)
+    }
+
+    /// How many cases there are for a count that was asked for.
+    pub fn bounded(&self, count: u64) -> u64 {
+        self.all.map_or(count, |all| all.min(count))
+    }
+}
+
+/// Every kind.
+pub const KINDS: [Kind; 8] = [
+    Kind {
+        name: "one",
+        all: Some(one::ALL),
+        usual: one::ALL,
+        gate: 200_000,
+        make: one::make,
+    },
+    Kind {
+        name: "mesh",
+        all: None,
+        usual: 200_000,
+        gate: 20_000,
+        make: small::make,
+    },
+    Kind {
+        name: "zeros",
+        all: None,
+        usual: 100_000,
+        gate: 20_000,
+        make: zeros::make,
+    },
+    Kind {
+        name: "magnitudes",
+        all: None,
+        usual: 100_000,
+        gate: 20_000,
+        make: magnitudes::make,
+    },
+    Kind {
+        name: "refused",
+        all: None,
+        usual: 100_000,
+        gate: 4_000,
+        make: refused::make,
+    },
+    Kind {
+        name: "limits",
+        all: Some(limits::ALL),
+        usual: limits::ALL,
+        gate: 2_000,
+        make: limits::make,
+    },
+    Kind {
+        name: "big",
+        all: None,
+        usual: 200,
+        gate: 40,
+        make: big::make,
+    },
+    Kind {
+        name: "shuffle",
+        all: None,
+        usual: 50_000,
+        gate: 10_000,
+        make: shuffle::make,
+    },
+];

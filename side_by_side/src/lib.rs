@@ -1,0 +1,20 @@
+//! The proved frames beside those of the Rust crate, word for word, and their times.
+
+// build.rs leaves it where it is found by name
+extern crate bevy_mikktspace;
+
+pub mod compare;
+pub mod kinds;
+pub mod mesh;
+pub mod ops;
+pub mod ours;
+pub mod random;
+pub mod runner;
+pub mod shapes;
+pub mod shrink;
+pub mod spoil;
+pub mod svg;
+pub mod tally;
+pub mod text;
+pub mod theirs;
+pub mod timing;

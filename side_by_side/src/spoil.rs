@@ -1,0 +1,100 @@
+//! Wrong words on purpose: each alters one word of what ours leaves, to show that the comparison notices it.
+use crate::mesh::Mesh;
+use crate::ours::Left;
+
+/// Which word is altered.
+#[derive(Clone, Copy, Debug, PartialEq)]
+pub enum Spoil {
+    /// The orientation of the last slot that is present and mirrored.
+    Orientation,
+    /// The lowest bit of the last mag_t that is not 1.
+    Magnitude,
+    /// Word 0 of the first absent slot: zeros that call themselves present.
+    Absent,
+    /// The first answer word past 10S.
+    PastAnswer,
+    /// The last of the first 128F work words.
+    Work,
+    /// The first work word past 128F.
+    PastWork,
+    /// The number of refusal 5.
+    Number,
+    /// The place of refusal 4.
+    Place,
+    /// The count of slots of an accepted mesh.
+    Slots,
+    /// The last answer word after a refusal.
+    RefusedAnswer,
+    /// The first work word after a refusal.
+    RefusedWork,
+    /// The last word of a shuffle's last present slot, only where faces are compared with the same faces alone.
+    Shuffled,
+}
+
+/// All of them, by the names that the options have.
+pub const SPOILS: [(&str, Spoil); 12] = [
+    ("orientation", Spoil::Orientation),
+    ("magnitude", Spoil::Magnitude),
+    ("absent", Spoil::Absent),
+    ("past-answer", Spoil::PastAnswer),
+    ("work", Spoil::Work),
+    ("past-work", Spoil::PastWork),
+    ("number", Spoil::Number),
+    ("place", Spoil::Place),
+    ("slots", Spoil::Slots),
+    ("refused-answer", Spoil::RefusedAnswer),
+    ("refused-work", Spoil::RefusedWork),
+    ("shuffled", Spoil::Shuffled),
+];
+
+impl Spoil {
+    /// Alters the word in what a call left, where there is such a word.
+    pub fn call(self, mesh: &Mesh, left: &mut Left) {
+        let accepted = left.outcome.number == 0;
+        let answer = if accepted { mesh.needed_answer() } else { 0 };
+        let work = if accepted { mesh.needed_work() } else { 0 };
+        match self {
+            Spoil::Orientation => flip(last(&mut left.answer[..answer], 9, |slot| slot[9] == 0)),
+            Spoil::Magnitude => flip(last(&mut left.answer[..answer], 8, |slot| {
+                slot[8] != 0x3F80_0000
+            })),
+            Spoil::Absent => flip(
+                left.answer[..answer]
+                    .chunks_mut(10)
+                    .find(|slot| slot[0] == 0)
+                    .map(|slot| &mut slot[0]),
+            ),
+            Spoil::PastAnswer if accepted => flip(left.answer.get_mut(answer)),
+            Spoil::Work => flip(left.work[..work].last_mut()),
+            Spoil::PastWork if accepted => flip(left.work.get_mut(work)),
+            Spoil::Number if left.outcome.number == 5 => left.outcome.number = 6,
+            Spoil::Place if left.outcome.number == 4 => left.outcome.place += 1,
+            Spoil::Slots if accepted => left.outcome.slots += 1,
+            Spoil::RefusedAnswer if !accepted => flip(left.answer.last_mut()),
+            Spoil::RefusedWork if !accepted => flip(left.work.first_mut()),
+            _ => {}
+        }
+    }
+
+    /// Alters the word in a shuffle's answers.
+    pub fn shuffle(self, answer: &mut [u32]) {
+        if self == Spoil::Shuffled {
+            flip(last(answer, 9, |_| true));
+        }
+    }
+}
+
+/// Word `word` of the last present slot that is as asked.
+fn last(answer: &mut [u32], word: usize, asked: fn(&[u32]) -> bool) -> Option<&mut u32> {
+    answer
+        .chunks_mut(10)
+        .rfind(|slot| slot[0] == 1 && asked(slot))
+        .map(|slot| &mut slot[word])
+}
+
+/// Turns the lowest bit of a word, if there is one.
+fn flip(word: Option<&mut u32>) {
+    if let Some(word) = word {
+        *word ^= 1;
+    }
+}

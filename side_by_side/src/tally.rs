@@ -1,0 +1,98 @@
+//! What a run over many cases saw.
+use crate::compare::Seen;
+use crate::mesh::Case;
+use std::fmt::{Display, Formatter, Result};
+
+/// Counts over cases.
+#[derive(Default)]
+pub struct Tally {
+    pub compared: u64,
+    pub differed: u64,
+    /// Accepted, and refused with 1 to 6.
+    numbers: [u64; 7],
+    faces: u64,
+    shuffles: u64,
+    slots: u64,
+    absent: u64,
+    mirrored: u64,
+    not_a_number: u64,
+    infinite: u64,
+}
+
+impl Tally {
+    /// Counts one case more.
+    pub fn count(&mut self, case: &Case, seen: &Seen) {
+        self.compared += 1;
+        self.differed += u64::from(seen.difference.is_some());
+        self.numbers[seen.number as usize] += 1;
+        self.faces += case.mesh.sizes.len() as u64;
+        self.shuffles += u64::from(seen.shuffled);
+        seen.frames
+            .chunks(10)
+            .for_each(|slot| self.count_slot(slot));
+    }
+
+    /// Counts the ten words of a slot.
+    fn count_slot(&mut self, slot: &[u32]) {
+        let numbers = || slot[1..9].iter().map(|&word| f32::from_bits(word));
+        self.slots += 1;
+        self.absent += u64::from(slot[0] == 0);
+        self.mirrored += u64::from(slot[0] == 1 && slot[9] == 0);
+        self.not_a_number += u64::from(numbers().any(f32::is_nan));
+        self.infinite += u64::from(numbers().any(f32::is_infinite));
+    }
+
+    /// Adds the counts of another run.
+    pub fn add(&mut self, other: &Tally) {
+        let pairs = [
+            (&mut self.compared, other.compared),
+            (&mut self.differed, other.differed),
+            (&mut self.faces, other.faces),
+            (&mut self.shuffles, other.shuffles),
+            (&mut self.slots, other.slots),
+            (&mut self.absent, other.absent),
+            (&mut self.mirrored, other.mirrored),
+            (&mut self.not_a_number, other.not_a_number),
+            (&mut self.infinite, other.infinite),
+        ];
+        pairs.into_iter().for_each(|(sum, more)| *sum += more);
+        self.numbers
+            .iter_mut()
+            .zip(other.numbers)
+            .for_each(|(sum, more)| *sum += more);
+    }
+}
+
+impl Display for Tally {
+    /// One line.
+    fn fmt(&self, line: &mut Formatter) -> Result {
+        let [accepted, refused @ ..] = self.numbers;
+        write!(
+            line,
+            "{} compared, {} differed; ",
+            self.compared, self.differed
+        )?;
+        write!(
+            line,
+            "{accepted} accepted, refused with 1 to 6: {refused:?}; "
+        )?;
+        write!(
+            line,
+            "{} faces, {} slots: {} absent, {} mirrored, ",
+            self.faces, self.slots, self.absent, self.mirrored
+        )?;
+        write!(
+            line,
+            "{} with a NaN, {} with an infinity",
+            self.not_a_number, self.infinite
+        )?;
+        if self.shuffles > 0 {
+            write!(
+                line,
+                "; {} shuffles, each also face by face as alone",
+                self.shuffles
+            )?;
+        }
+        Ok(())
+    }
+}

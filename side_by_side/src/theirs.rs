@@ -1,0 +1,161 @@
+//! What a call has to leave: the refusals of document 01's table, and the frames of the Rust crate.
+use crate::mesh::{Mesh, framed};
+use crate::ours::{Left, Outcome, fresh_answer, fresh_work};
+use bevy_mikktspace::{Geometry, Ops, TangentSpace, generate_tangents_with_threshold};
+use std::panic::{AssertUnwindSafe, catch_unwind};
+
+/// A mesh as the crate asks for it, and the list that takes its frames.
+pub struct Asked<'a> {
+    mesh: &'a Mesh,
+    /// Where each face's corners and slots start.
+    starts: Vec<(usize, usize)>,
+    answer: &'a mut [u32],
+}
+
+impl<'a> Asked<'a> {
+    pub fn new(mesh: &'a Mesh, answer: &'a mut [u32]) -> Asked<'a> {
+        let (mut corners, mut slots) = (0, 0);
+        let mut start = |&size: &u8| {
+            let start = (corners, slots);
+            corners += usize::from(size);
+            slots += if framed(size) { usize::from(size) } else { 0 };
+            start
+        };
+        let starts = mesh.sizes.iter().map(&mut start).collect();
+        Asked {
+            mesh,
+            starts,
+            answer,
+        }
+    }
+
+    /// Has the crate write every slot, with the root and the angle of `O`.
+    pub fn fill<O: Ops>(&mut self) {
+        let threshold = f32::from_bits(self.mesh.threshold);
+        let Ok(()) = generate_tangents_with_threshold::<_, O>(self, threshold) else {
+            unreachable!("the crate's error type has no value");
+        };
+    }
+
+    /// Three numbers of a list of them, for a corner of a face.
+    fn three(&self, list: &[u32], face: usize, corner: usize) -> [f32; 3] {
+        let at = 3 * (self.starts[face].0 + corner);
+        [list[at], list[at + 1], list[at + 2]].map(f32::from_bits)
+    }
+}
+
+impl<O: Ops> Geometry<O> for Asked<'_> {
+    fn num_faces(&self) -> usize {
+        self.mesh.sizes.len()
+    }
+
+    fn num_vertices_of_face(&self, face: usize) -> usize {
+        usize::from(self.mesh.sizes[face])
+    }
+
+    fn position(&self, face: usize, corner: usize) -> [f32; 3] {
+        self.three(&self.mesh.positions, face, corner)
+    }
+
+    fn normal(&self, face: usize, corner: usize) -> [f32; 3] {
+        self.three(&self.mesh.normals, face, corner)
+    }
+
+    fn tex_coord(&self, face: usize, corner: usize) -> [f32; 2] {
+        let at = 2 * (self.starts[face].0 + corner);
+        [self.mesh.texture[at], self.mesh.texture[at + 1]].map(f32::from_bits)
+    }
+
+    fn set_tangent(&mut self, frame: Option<TangentSpace>, face: usize, corner: usize) {
+        let at = 10 * (self.starts[face].1 + corner);
+        self.answer[at..at + 10].copy_from_slice(&frame.map_or([0; 10], |frame| words(&frame)));
+    }
+}
+
+/// The bits of a number, and any NaN as 7FC00000.
+fn word(x: f32) -> u32 {
+    if x.is_nan() { 0x7FC0_0000 } else { x.to_bits() }
+}
+
+/// The ten words of a slot that is present.
+fn words(frame: &TangentSpace) -> [u32; 10] {
+    let [x, y, z] = frame.tangent().map(word);
+    let [bx, by, bz] = frame.bi_tangent().map(word);
+    let magnitudes = [frame.tangent_magnitude(), frame.bi_tangent_magnitude()].map(word);
+    let way = u32::from(frame.is_orientation_preserving());
+    [1, x, y, z, bx, by, bz, magnitudes[0], magnitudes[1], way]
+}
+
+/// True for the bits of a NaN or an infinity.
+pub fn unfit(bits: u32) -> bool {
+    bits & 0x7F80_0000 == 0x7F80_0000
+}
+
+/// The lowest corner of a face of 3 or 4 that holds a NaN or an infinity, for lists of the right lengths.
+fn unfit_corner(mesh: &Mesh) -> Option<usize> {
+    let mut first = 0;
+    for &size in &mesh.sizes {
+        let corners = first..first + usize::from(size);
+        first = corners.end;
+        let mut corners =
+            corners.filter(|&i| framed(size) && mesh.corner(i).into_iter().any(unfit));
+        if let Some(corner) = corners.next() {
+            return Some(corner);
+        }
+    }
+    None
+}
+
+/// The number and place of document 01's table, if a mesh is refused.
+pub fn refusal(mesh: &Mesh) -> Option<(u32, u32)> {
+    let corners = mesh.corners();
+    let lengths = [mesh.positions.len(), mesh.normals.len(), mesh.texture.len()];
+    if mesh.sizes.len() > 4096 {
+        return Some((1, 0));
+    }
+    if lengths != [3 * corners, 3 * corners, 2 * corners] {
+        return Some((2, 0));
+    }
+    if unfit(mesh.threshold) {
+        return Some((3, 0));
+    }
+    if let Some(corner) = unfit_corner(mesh) {
+        return Some((4, corner as u32));
+    }
+    if mesh.answer < mesh.needed_answer() {
+        return Some((5, 0));
+    }
+    if mesh.work < mesh.needed_work() {
+        return Some((6, 0));
+    }
+    None
+}
+
+/// What the call has to leave of fresh lists; an error says that the crate panicked.
+pub fn left<O: Ops>(mesh: &Mesh) -> Result<Left, String> {
+    let (mut answer, mut work) = (fresh_answer(mesh.answer), fresh_work(mesh.work));
+    if let Some((number, place)) = refusal(mesh) {
+        return Ok(Left {
+            outcome: Outcome {
+                number,
+                place,
+                slots: 0,
+            },
+            answer,
+            work,
+        });
+    }
+    let mut asked = Asked::new(mesh, &mut answer);
+    catch_unwind(AssertUnwindSafe(|| asked.fill::<O>())).map_err(|_| "the crate panicked")?;
+    work[..mesh.needed_work()].fill(0);
+    let outcome = Outcome {
+        number: 0,
+        place: 0,
+        slots: mesh.slots() as u32,
+    };
+    Ok(Left {
+        outcome,
+        answer,
+        work,
+    })
+}
