@@ -150,13 +150,13 @@ fn compare_lists(
 
 // Fills the two lists, makes the call and compares.
 fn ask(
+    answer: &mut [u32],
+    work: &mut [u32],
     text: &[u8],
     head: usize,
     next: usize,
     sizes: &[u8],
     numbers: &[f32],
-    answer: &mut [u32],
-    work: &mut [u32],
 ) -> Compared {
     fill(answer, 0xA5A50000);
     fill(work, 0x5A5A0000);
@@ -179,7 +179,7 @@ fn lend(
     let w = length_at(text, head, WORK, work.len());
     let lent_answer = &mut answer[..a];
     let lent_work = &mut work[..w];
-    ask(text, head, next, sizes, numbers, lent_answer, lent_work)
+    ask(lent_answer, lent_work, text, head, next, sizes, numbers)
 }
 
 // How many numbers a mesh has.

@@ -12,14 +12,15 @@ pub struct Word {
 fn digit(b: u8) -> u32
     ensures { λ r. ⌜ r ≤ 16 ⌝ }
 {
-    if b >= b'0' {
-        if b <= b'9' {
-            return (b - b'0') as u32;
-        }
-    }
     if b >= b'A' {
         if b <= b'F' {
             return (b - b'A') as u32 + 10;
+        }
+        return 16;
+    }
+    if b >= b'0' {
+        if b <= b'9' {
+            return (b - b'0') as u32;
         }
     }
     16

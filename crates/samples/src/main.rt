@@ -1,4 +1,4 @@
-// Runs document 01's samples 1 to 3 and 10 to 12 through the public call, and 6 to 9, and compares the root and the angle of each number that standard input names. Prints how much it compared and how much differed.
+// Runs document 01's samples 1 to 5 and 10 to 12 through the public call, and 6 to 9, and compares the root and the angle of each number that standard input names. Prints how much it compared and how much differed.
 // A line of standard input is 27 bytes: a number, its root and its angle, each as the eight digits of its word, with a blank or a line end behind.
 ghost use Prim.Native.Nat.{_+_, _<_, _≤_};
 ghost use lib.ListN.{length};
@@ -229,6 +229,165 @@ fn sample_3() -> Tally {
     triangle(&texture, &slot)
 }
 
+// Words of slots that all have one frame, but for one that is absent.
+fn all_but(so_far: Tally, got: &[u32], frame: &[u32; 10], absent: usize) -> Tally {
+    let mut t = so_far;
+    for i in 0..got.len() {
+        let expected = if i / 10 == absent { 0 } else { frame[i % 10] };
+        t = t.with(got[i], expected);
+    }
+    t
+}
+
+// A mesh all of whose frames are sample 1's: the outcome and the whole answer, with one slot absent.
+fn all_alike(
+    sizes: &[u8; 2],
+    positions: &[f32],
+    normals: &[f32],
+    texture: &[f32],
+    answer: &mut [u32],
+    absent: usize,
+) -> Tally {
+    let frame: [u32; 10] = [
+        1,
+        0x3f800000,
+        0,
+        0,
+        0,
+        0x3f800000,
+        0,
+        0x3f800000,
+        0x3f800000,
+        1,
+    ];
+    let mut work: [u32; 256] = [7; 256];
+    let r = mikktspace::generate_tangent_space(
+        sizes,
+        positions,
+        normals,
+        texture,
+        -1.0,
+        answer,
+        &mut work,
+    );
+    all_but(Tally::NONE.with(r.number, 0), answer, &frame, absent)
+}
+
+// Behind sample 1's triangle one with the corners (0,0,0) and (-0,0,0): it is degenerate, and all of it copies but the second corner, which is welded to none.
+fn sample_4() -> Tally {
+    let positions: [f32; 18] = [
+        0.0,
+        0.0,
+        0.0,
+        1.0,
+        0.0,
+        0.0,
+        0.0,
+        1.0,
+        0.0,
+        0.0,
+        0.0,
+        0.0,
+        -0.0,
+        0.0,
+        0.0,
+        0.0,
+        1.0,
+        0.0,
+    ];
+    let normals: [f32; 18] = [
+        0.0,
+        0.0,
+        1.0,
+        0.0,
+        0.0,
+        1.0,
+        0.0,
+        0.0,
+        1.0,
+        0.0,
+        0.0,
+        1.0,
+        0.0,
+        0.0,
+        1.0,
+        0.0,
+        0.0,
+        1.0,
+    ];
+    let texture: [f32; 12] = [0.0, 0.0, 1.0, 0.0, 0.0, 1.0, 0.0, 0.0, 0.0, 0.0, 0.0, 1.0];
+    let mut answer: [u32; 60] = [7; 60];
+    all_alike(&[3, 3], &positions, &normals, &texture, &mut answer, 4)
+}
+
+// A unit square, and before it a triangle on its corners 0 and 2 that is `group_with_any`: cut 02 has a side there, so that two corners of the triangle get a frame. The third is absent.
+fn sample_5() -> Tally {
+    let positions: [f32; 21] = [
+        0.0,
+        0.0,
+        0.0,
+        1.0,
+        1.0,
+        0.0,
+        0.5,
+        0.5,
+        1.0,
+        0.0,
+        0.0,
+        0.0,
+        1.0,
+        0.0,
+        0.0,
+        1.0,
+        1.0,
+        0.0,
+        0.0,
+        1.0,
+        0.0,
+    ];
+    let normals: [f32; 21] = [
+        0.0,
+        0.0,
+        1.0,
+        0.0,
+        0.0,
+        1.0,
+        0.0,
+        0.0,
+        1.0,
+        0.0,
+        0.0,
+        1.0,
+        0.0,
+        0.0,
+        1.0,
+        0.0,
+        0.0,
+        1.0,
+        0.0,
+        0.0,
+        1.0,
+    ];
+    let texture: [f32; 14] = [
+        0.0,
+        0.0,
+        1.0,
+        1.0,
+        0.5,
+        0.5,
+        0.0,
+        0.0,
+        1.0,
+        0.0,
+        1.0,
+        1.0,
+        0.0,
+        1.0,
+    ];
+    let mut answer: [u32; 70] = [7; 70];
+    all_alike(&[3, 4], &positions, &normals, &texture, &mut answer, 2)
+}
+
 // A call with these sizes and numbers, and no word lent.
 fn asked(sizes: &[u8], three: &[f32], two: &[f32]) -> mikktspace::Outcome {
     let mut answer: [u32; 0] = [];
@@ -296,6 +455,8 @@ fn main() {
     print(b"sample 1: ", sample_1());
     print(b"sample 2: ", sample_2());
     print(b"sample 3: ", sample_3());
+    print(b"sample 4: ", sample_4());
+    print(b"sample 5: ", sample_5());
     print(b"sample 6: ", sample_6());
     print(b"sample 7: ", sample_7());
     print(b"sample 8: ", sample_8());
