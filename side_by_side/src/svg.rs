@@ -59,7 +59,7 @@ pub fn picture(all: &[Measured]) -> String {
             writeln!(svg, "</g>").unwrap();
         }
     }
-    let (x, y) = (wide - GAP, high - 22.0);
+    let (x, y) = (wide - GAP, high - 10.0);
     writeln!(
         svg,
         r##"<text x="{x}" y="{y}" text-anchor="end">faces</text>"##

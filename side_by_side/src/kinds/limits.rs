@@ -89,17 +89,21 @@ fn foreseen(mesh: &Mesh, altered: bool) -> u32 {
         .map_or(0, |ground| ground.0)
 }
 
-/// A wavy sheet of so many faces, 64 a row; every fifth column is mirrored and every 37th face has no texture.
+/// A corner of a wavy sheet; every second five columns are mirrored.
+fn point(i: usize, j: usize) -> Corner {
+    let (x, y) = (i as f32, j as f32);
+    let position = [
+        x + 0.3 * (y * 0.7).sin(),
+        y + 0.2 * (x * 1.3).cos(),
+        (x * 0.5).sin() + (y * 0.25).cos(),
+    ];
+    let normal = [0.3 * (x * 0.5).sin(), 0.2 * (y * 0.9).cos(), 0.95];
+    let u = if i % 10 < 5 { x } else { -x };
+    corner(position, normal, [u + 0.25 * y, y - 0.125 * x])
+}
+
+/// A sheet of so many faces, 64 a row; every 37th face has no texture.
 fn sheet(count: usize, sizes: &[usize], threshold: f32) -> Mesh {
-    let point = |i: usize, j: usize| {
-        let (x, y) = (i as f32, j as f32);
-        let u = if i % 10 < 5 { x } else { -x };
-        corner(
-            [x, y, (x * 0.5).sin() + (y * 0.25).cos()],
-            [0.0, 0.0, 1.0],
-            [u, y],
-        )
-    };
     let face = |f: usize| -> Vec<Corner> {
         let (i, j) = (f % 64, f / 64);
         let mut quad = [
