@@ -25,6 +25,10 @@ build_or_leave() {
         echo "no crate here, neither in MIKKTSPACE_SRC (${MIKKTSPACE_SRC:-not set}) nor in ../shared/docs/src: $1"
         exit 0
     fi
+    if [ ! -f "$archive/libdokphalun.a" ] && [ -z "${DOKPHALUN_ARCHIVE:-}" ] && [ "$(uname -m)" = x86_64 ] && command -v rt >/dev/null; then
+        echo "no archive yet: rt staticlib dokphalun"
+        (cd "$root" && rt staticlib dokphalun >/dev/null 2>&1) || true
+    fi
     if [ ! -f "$archive/libdokphalun.a" ]; then
         echo "no archive: $archive/libdokphalun.a is not there; \`rt staticlib dokphalun\` makes it" >&2
         exit 1
