@@ -1,7 +1,7 @@
 //! Builds the Rust crate from where its source stands, unchanged, and links the proved archive.
 //!
-//! The crate: the folder of MIKKTSPACE_SRC, else ../shared/docs/src beside the repository; it holds src/lib.rs. It becomes
-//! an rlib among this package's own products, with both corrected features; nothing of its source is copied.
+//! The crate: the folder of MIKKTSPACE_SRC, else ../shared/docs/src beside the repository; it holds src/lib.rs. It
+//! becomes an rlib among this package's own products, with both corrected features; nothing of its source is copied.
 //! The archive: libdokphalun.a in the folder of DOKPHALUN_ARCHIVE, else where `rt staticlib dokphalun` leaves it.
 use std::env::var;
 use std::fs;

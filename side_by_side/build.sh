@@ -1,5 +1,5 @@
-# For `run` and `bench`: builds both programs into $root/target/side_by_side. It ends with 0, and says why, where there is
-# nothing to compare with.
+# For `run` and `bench`: builds both programs into $root/target/side_by_side. It ends with 0, and says why, where there
+# is nothing to compare with.
 root=$(cd "$(dirname "${BASH_SOURCE[0]}")/.." && pwd)
 
 # The folder of the crate's source: the one of MIKKTSPACE_SRC, else ../shared/docs/src; nothing where there is neither.
@@ -13,7 +13,7 @@ crate_folder() {
     done
 }
 
-# Builds, or ends: with 0 and the reason, then $1, where there is no cargo or no crate; with 1 where there is no archive.
+# Builds, or ends: with 0, the reason and $1 where there is no cargo or no crate; with 1 where there is no archive.
 build_or_leave() {
     local archive=${DOKPHALUN_ARCHIVE:-$root/target/staticlib} crate
     if ! command -v cargo >/dev/null; then

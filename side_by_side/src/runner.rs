@@ -84,7 +84,7 @@ fn work(plan: Plan, progress: &Progress, sender: Sender<Ran>) {
         if i >= plan.count {
             break;
         }
-        let case = plan.kind.case(plan.seed, i, plan.count);
+        let case = plan.kind.case(plan.seed, i);
         let seen = examine(&case, plan.spoil);
         ran.tally.count(&case, &seen);
         if seen.difference.is_some() {

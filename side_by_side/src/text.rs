@@ -1,8 +1,8 @@
 //! A case as text: written, and read back.
 //!
-//! Words are hexadecimal bits, counts and sizes are decimal, `3*0` stands for `0 0 0`, and `#` starts a remark. Each name
-//! is followed by its values: sizes, positions, normals, texture, threshold, answer and work (how many words are lent),
-//! and where there are any owners (a shuffle) and foreseen (number and place).
+//! Words are hexadecimal bits, counts and sizes are decimal, `3*0` stands for `0 0 0`, and `#` starts a remark. Each
+//! name is followed by its values: sizes, positions, normals, texture, threshold, answer and work (how many words are
+//! lent), and where there are any owners (a shuffle) and foreseen (number and place).
 use crate::mesh::Case;
 use std::fmt::Write;
 use std::str::FromStr;

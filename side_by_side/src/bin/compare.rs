@@ -138,7 +138,7 @@ fn compare_kind(plan: Plan, to: &str) -> bool {
         return true;
     };
     let file = format!("{to}/differs-{}-{}-{first}.txt", plan.kind.name, plan.seed);
-    let case = plan.kind.case(plan.seed, first, plan.count);
+    let case = plan.kind.case(plan.seed, first);
     let cut = with_stack(|| {
         shrink(&case, &|case| {
             examine(case, plan.spoil).difference.is_some()
@@ -209,7 +209,7 @@ fn caught(seed: u64, spoil: Spoil) -> bool {
     let differs = |case: &Case| examine(case, Some(spoil)).difference.is_some();
     let cases = ["mesh", "refused", "shuffle"]
         .map(|name| KINDS.iter().find(|kind| kind.name == name).expect("a kind"));
-    let cases = (0..500).flat_map(|i| cases.map(|kind| kind.case(seed, i, 500)));
+    let cases = (0..500).flat_map(|i| cases.map(|kind| kind.case(seed, i)));
     let mut cases = cases.filter(|case| faces(case) < 100);
     with_stack(move || {
         cases

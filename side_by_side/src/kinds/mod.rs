@@ -27,12 +27,13 @@ pub struct Kind {
 }
 
 impl Kind {
-    /// Case number `i` of `count`; cases that can be counted off are taken evenly from all of them.
-    pub fn case(&self, seed: u64, i: u64, count: u64) -> Case {
-        let number = match self.all {
-            Some(all) => (u128::from(i) * u128::from(all) / u128::from(count)) as u64,
-            None => i,
-        };
+    /// Case number `i`; cases that can be counted off are taken in an order that is spread over all of them.
+    pub fn case(&self, seed: u64, i: u64) -> Case {
+        // a prime that divides no count of cases
+        const STRIDE: u128 = 2_654_435_761;
+        let number = self
+            .all
+            .map_or(i, |all| (u128::from(i) * STRIDE % u128::from(all)) as u64);
         (self.make)(&mut Random::of(seed, self.name, number), number)
     }
 

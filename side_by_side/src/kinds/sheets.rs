@@ -156,7 +156,7 @@ pub fn shrink_zero(r: &mut Random, bits: &mut u32) {
     }
 }
 
-/// A quad whose last corner has its texture in line with the first and the third, so that a triangle has no texture area.
+/// A quad whose last corner has its texture in line with the first and the third: one triangle has no texture area.
 fn lame(mut q: Face) -> Face {
     q[3][6] = beyond(q[0][6], q[2][6]);
     q[3][7] = beyond(q[0][7], q[2][7]);

@@ -64,8 +64,8 @@ fn sheet(r: &mut Random) -> Vec<Face> {
     grid.faces(r)
 }
 
-/// A closed flat fan with its places as texture, so that its frames are equal but for signs of zeros; some triangles have
-/// their corners in one line.
+/// A closed flat fan with its places as texture, so that its frames are equal but for signs of zeros; some triangles
+/// have their corners in one line.
 fn rosette(r: &mut Random) -> Vec<Face> {
     let normal = r.pick(&[[0.0; 3], [0.0, 0.0, 1.0]]);
     let point = |r: &mut Random, [x, y]: [f32; 2]| {
