@@ -14,8 +14,7 @@ use Rattle.definition.specs.declared.Triangle.{Triangle}
 use Rattle.definition.specs.Lists.{keep, first}
 use Rattle.definition.specs.Mesh.{Spot, cornerOf}
 use Rattle.definition.specs.Step4Order.{isSound, sound, broken, spots, welded}
-use Rattle.laws.proofs.Part.{Every, every-nil, every-cons}
-use Rattle.laws.proofs.Twice.{every-kept}
+use Rattle.laws.proofs.Part.{Every, every-nil, every-cons, keep-passes}
 use Rattle.view.specs.Rows.{third, spotRow}
 use Rattle.view.specs.Weld.{First}
 use Rattle.view.proofs.Lists.{first-at, first-not, every-index}
@@ -52,7 +51,7 @@ module _ (ts : List Triangle) (d : Triangle) where
   -- those below the number of sound ones are sound
   pub sound-below : (t : ℕ) → t < length (sound ts) → getD all t d .degenerate ≡ false
   unfolding sound isSound
-  sound-below t h = ap (λ (x : Triangle). x .degenerate) (List·getD-append (sound ts) (broken ts) d t h) ∙ not-true _ (every-index (every-kept isSound ts) t d h)
+  sound-below t h = ap (λ (x : Triangle). x .degenerate) (List·getD-append (sound ts) (broken ts) d t h) ∙ not-true _ (every-index (keep-passes isSound ts) t d h)
 
   -- and the others are degenerate
   pub broken-above : (t : ℕ) → length (sound ts) ≤ t → t < length all → getD all t d .degenerate ≡ true
@@ -61,7 +60,7 @@ module _ (ts : List Triangle) (d : Triangle) where
       let n = t - length (sound ts) in
       let e : t ≡ length (sound ts) + n = omega (arith, h) in
       ap (λ (k : ℕ). getD all k d .degenerate) e ∙ ap (λ (x : Triangle). x .degenerate) (getD-append-add (sound ts) (broken ts) n d)
-      ∙ every-index (every-kept (λ x. x .degenerate) ts) n d (omega (arith, h, l, length-append (sound ts) (broken ts)))
+      ∙ every-index (keep-passes (λ x. x .degenerate) ts) n d (omega (arith, h, l, length-append (sound ts) (broken ts)))
 
   -- so the number of a triangle tells
   pub sound-is : (t : ℕ) → t < length all → getD all t d .degenerate ≡ false → t < length (sound ts)

@@ -15,10 +15,9 @@ use Rattle.definition.specs.Triangles.{nook, usable, pieces, triangles}
 use Rattle.definition.specs.Frames.{numbered}
 use Rattle.definition.specs.Step7Sums.{Brought}
 use Rattle.definition.specs.Step9Copies.{finalOf, nooks, faceReadings}
-use Rattle.laws.proofs.Part.{Every, every-nil, every-cons, every-map, every-append}
+use Rattle.laws.proofs.Part.{Every, every-nil, every-cons, every-map, every-append, every-pair}
 use Rattle.laws.proofs.Bridge.{face-slots}
 use Rattle.laws.proofs.Numbers.{pieces-face}
-use Rattle.laws.proofs.Twice.{every-both}
 use Rattle.view.specs.Answer.{HasSlot, finalAt}
 use Rattle.copies.proofs.Faces.{Ends, ends, Own, own, Misses, misses}
 
@@ -127,7 +126,7 @@ module _ (bs : List Brought) (ss : List Triangle) (m : List (List Corner)) where
   face-placed f =
       let cs = getD m f [] in
       every-map (λ x h. subst (λ (g : ℕ). Piece bs ss g (getD m g []) x) (sym (h .0 .0 .0 .name)) (record { ends = h .0 .0 .1; own = h .0 .1; misses = h .1 }))
-      (every-both (every-both (every-both (pieces-face f cs) (ends bs ss f cs)) (own bs ss f cs)) (misses f cs))
+      (every-pair (every-pair (every-pair (pieces-face f cs) (ends bs ss f cs)) (own bs ss f cs)) (misses f cs))
 
   -- so every triangle
   pub all-placed : Every Placed (triangles (numbered 0 m))

@@ -30,9 +30,8 @@ use Rattle.definition.specs.Step4Order.{isSound, sound, broken, spots}
 use Rattle.definition.specs.Step7Sums.{Brought}
 use Rattle.definition.specs.Step8Slots.{reading}
 use Rattle.definition.specs.Step9Copies.{copied, fromSound, finalOf}
-use Rattle.laws.proofs.Part.{Every, every-map, every-append, every-keep}
+use Rattle.laws.proofs.Part.{Every, every-map, every-append, every-keep, every-pair}
 use Rattle.laws.proofs.Numbers.{pieces-face}
-use Rattle.laws.proofs.Twice.{every-both}
 use Rattle.laws.proofs.Closed.{and-left, and-right}
 use Rattle.laws.proofs.Marked.{keepsAt}
 use Rattle.slots.specs.Slots.{copiedAt, clearedAt}
@@ -434,7 +433,7 @@ module _ (rows : ℕ) (ps : List Float) (w sizes : List ℕ) (ns ts : List Float
       of-face : (f : ℕ) → f < length mesh → Every (λ x. Settles (λ i. R f i ≡ Fin f i) (x .degenerate) (x .marked) x) (pieces f (getD mesh f []))
       of-face f h =
           every-map (λ x p. subst (λ (g : ℕ). Settles (λ i. R g i ≡ Fin g i) (x .degenerate) (x .marked) x) (p .0 .name) (p .1))
-          (every-both (pieces-face f (getD mesh f [])) (every-piece Done 0 mesh (every-again Done xs (every-front Done ss (broken xs) in-order) (every-back Done ss (broken xs) in-order)) f f (omega arith) h))
+          (every-pair (pieces-face f (getD mesh f [])) (every-piece Done 0 mesh (every-again Done xs (every-front Done ss (broken xs) in-order) (every-back Done ss (broken xs) in-order)) f f (omega arith) h))
 
       -- so of all slots of the face
       everywhere : (f i : ℕ) → HasSlot sizes f i → R f i ≡ Fin f i

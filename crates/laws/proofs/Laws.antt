@@ -1,26 +1,31 @@
 -- Request E11's laws of groups, of step 6's marks. Assumes nothing.
 use Prim.Native.Nat.{ℕ, zero, suc, _<_}
 use native.Mathlib.Omega.{arith}
-use mathlib.Core.Path.{_≡_, refl, sym, _∙_, ap, subst}
-use mathlib.Core.Bool.{Bool, true, false, cond, not, _&&_, _||_, Bool·beq, true≢false, false≢true}
+use mathlib.Core.Path.{_≡_, refl, sym, _∙_, subst}
+use mathlib.Core.Bool.{Bool, true, false, cond, not, _||_, Bool·beq, true≢false, false≢true}
 use mathlib.Core.List.{List, [], _∷_, _++_, List·Memᴰ, List·Memᴰ·head, List·Memᴰ·tail}
 use mathlib.Core.Option.{Option, none, some}
 use borrow.Author.Tests.{eq-eqb}
 use Rattle.definition.specs.declared.Corner.{Corner}
+use Rattle.definition.specs.Triangles.{nook, make}
 use Rattle.definition.specs.declared.Triangle.{Triangle}
-use Rattle.definition.specs.Lists.{keep, first, has, run}
-use Rattle.definition.specs.Mesh.{Third, one, two, three, Spot, next, prior, cornerOf, sameTriangle, sameSpot}
+use Rattle.definition.specs.Lists.{first, has, run}
+use Rattle.definition.specs.Mesh.{Spot, prior, cornerOf, sameTriangle, sameSpot}
 use Rattle.definition.specs.Step4Order.{welded, spots}
 use Rattle.definition.specs.Step5Links.{Link, links}
 use Rattle.definition.specs.Step6Groups.{Mark, grouped, wayOf, touched, facing, stops, over, going, walk, fan, startAt, marks}
 use Rattle.laws.proofs.Part.{Each, each-none, each-some, Every, every-nil, every-cons, every-map, every-append}
-use Rattle.laws.proofs.Enough.{Near, Grows, grows-refl, grows-trans, grows-cond, grows-going, grouped-mark, keep-lt, walk-grows, spot-refl}
+use Rattle.laws.proofs.Enough.{Near, Grows, grows-refl, grows-trans, grows-cond, grows-going, grouped-mark, keep-lt, walk-grows}
 use Rattle.laws.proofs.Closed.{over-near}
 use Rattle.laws.proofs.Weld.{welded-refl}
 use Rattle.laws.proofs.Shuffled.{every-mem}
 
 abbrev pub mark : Spot → Spot → Mark
 mark g s = record { spot = s; start = g; orientation = g .tri .orientation }
+
+-- a triangle of one corner, where any triangle will do
+abbrev pub some-triangle : Corner → Triangle
+some-triangle c = make 0 false 3 (nook 0 c) (nook 1 c) (nook 2 c)
 
 -- ---- what holds of all marks, by what one mark more keeps
 

@@ -24,3 +24,4 @@ pub mod Held
 pub mod Leftover
 pub mod Reached
 pub mod OneGroup
+pub mod Verdict

@@ -1,18 +1,16 @@
 -- In a marked quad a kept corner of the sound triangle has the missing corner's position: step 9 always finds one (the crate unwraps there). Assumes nothing.
 use Prim.Native.Nat.{ℕ}
-use mathlib.Core.Path.{_≡_, refl, sym, _∙_, ap, subst}
-use mathlib.Core.Bool.{Bool, true, false, cond, not, _&&_, _||_, xor, true≢false, false≢true}
-use mathlib.Core.List.{List, [], _∷_}
-use mathlib.Core.Option.{Option, none, some}
+use mathlib.Core.Path.{_≡_, refl, sym, _∙_, subst}
+use mathlib.Core.Bool.{Bool, true, false, cond, not, _||_, xor, true≢false, false≢true}
+use mathlib.Core.List.{[], _∷_}
+use mathlib.Core.Option.{none, some, Option·none-ne-some}
 use lib.Dec.{eqb}
-use native.Mathlib.Omega.{arith}
 use Rattle.math.specs.Vector.{equals}
 use Rattle.math.proofs.Equal.{equals-sym}
 use Rattle.definition.specs.declared.Corner.{Corner}
-use Rattle.definition.specs.declared.Kept.{Kept}
 use Rattle.definition.specs.declared.Triangle.{Triangle}
 use Rattle.definition.specs.Lists.{first, has}
-use Rattle.definition.specs.Mesh.{Third, one, two, three, Spot, kept, cornerOf}
+use Rattle.definition.specs.Mesh.{kept, cornerOf}
 use Rattle.definition.specs.Step1Cut.{cut02}
 use Rattle.definition.specs.Step2Degenerate.{flat, exactlyOne}
 use Rattle.definition.specs.Triangles.{nook, make, settled, pair, quad}
@@ -81,10 +79,7 @@ module _ (f : ℕ) (c0 c1 c2 c3 : Corner) where
   pick : (d e : Bool) (x y t : Triangle) → (d ≡ false → Claim x) → (e ≡ false → Claim y) → cond (not d) (some x) (cond (not e) (some y) none) ≡ some t → Claim t
   pick false e x y t h k q = subst Claim (some-inj x t q) (h refl)
   pick true false x y t h k q = subst Claim (some-inj y t q) (k refl)
-  pick true true x y t h k q = absurd (no-such t q)
-    where
-      no-such : (t : Triangle) → none ≡ some t → ⊥
-      no-such t e = let z : _≡_ {A = ℕ} 0 1 = cc in omega arith
+  pick true true x y t h k q = absurd (Option·none-ne-some t q)
 
   other-one : (d e : Bool) → xor d e ≡ true → d ≡ false → e ≡ true
   unfolding xor

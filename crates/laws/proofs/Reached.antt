@@ -11,13 +11,12 @@ use Rattle.definition.specs.Mesh.{Spot, prior, cornerOf}
 use Rattle.definition.specs.Step4Order.{spots}
 use Rattle.definition.specs.Step5Links.{Link, links}
 use Rattle.definition.specs.Step6Groups.{Mark, grouped, facing, stops, over, going, walk, fan, startAt, marks}
-use Rattle.laws.proofs.Part.{Each, each-none, each-some, Every, every-nil, every-cons, every-map, every-append}
+use Rattle.laws.proofs.Part.{Each, each-none, each-some, Every, every-nil, every-cons, every-map, every-append, every-pair}
 use Rattle.laws.proofs.Enough.{Near, Grows, grows-refl, grows-trans, grows-snoc, grows-going, walk-grows, grouped-mark, left′, left-less, left-drop, stops-grouped, open-fan}
 use Rattle.laws.proofs.Closed.{over-near}
 use Rattle.laws.proofs.Weld.{welded-refl}
 use Rattle.laws.proofs.Shuffled.{every-mem}
 use Rattle.laws.proofs.Laws.{mark, or-left, or-right, beq-refl}
-use Rattle.laws.proofs.Twice.{every-both}
 
 -- ---- the walk and the groups as relations, with no count in them
 
@@ -282,5 +281,5 @@ made-joint ls (made-more {ns = ns} g r f e w) =
     let t = trip w in
     let old = made-shut ls r in
     t .all (λ m. Every (Joint ls m) ns)
-    (every-map (λ m h. t .all (Joint ls m) (h .1) (λ n u v a b. absurd (shut-fresh m n (h .0) u a))) (every-both old (made-joint ls r)))
+    (every-map (λ m h. t .all (Joint ls m) (h .1) (λ n u v a b. absurd (shut-fresh m n (h .0) u a))) (every-pair old (made-joint ls r)))
     (λ m u v. t .all (Joint ls m) (every-map (λ n h a b. absurd (shut-fresh n m h u b)) old) (λ n u′ v′ a b. u .of-group ∙ sym (u′ .of-group)))

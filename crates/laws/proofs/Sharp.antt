@@ -1,8 +1,8 @@
 -- A sound triangle of an accepted mesh has no two welded corners: its positions are numbers that compare equal to themselves. Assumes nothing.
 use Prim.Native.Nat.{ℕ, zero, suc, _+_, _*_}
 use mathlib.Core.Path.{_≡_, refl, sym, _∙_, ap}
-use mathlib.Core.Bool.{Bool, true, false, cond, not, _&&_, _||_, true≢false, false≢true}
-use mathlib.Core.List.{List, [], _∷_, _++_}
+use mathlib.Core.Bool.{Bool, true, false, cond, _&&_, _||_, true≢false, false≢true}
+use mathlib.Core.List.{List, [], _∷_}
 use mathlib.Core.Option.{Option, none, some}
 use lib.Dec.{T, eqb}
 use lib.ListN.{length, getD}
@@ -15,18 +15,18 @@ use Rattle.math.specs.Held.{HeldVec}
 use Rattle.math.specs.Vector.{equals}
 use Rattle.definition.specs.declared.Corner.{Corner}
 use Rattle.definition.specs.declared.Triangle.{Triangle}
-use Rattle.definition.specs.Lists.{keep, first}
-use Rattle.definition.specs.Mesh.{Third, one, two, three, Spot, after, kept, cornerOf}
+use Rattle.definition.specs.Lists.{first}
+use Rattle.definition.specs.Mesh.{Third, one, two, three, after, kept, cornerOf}
 use Rattle.definition.specs.Handed.{vectorAt, cornerAt, cornersFrom, meshFrom, used}
 use Rattle.definition.specs.Desk.{finiteVector, finiteCorner, badIn, orElse, badCorner}
 use Rattle.definition.specs.Step1Cut.{cut02}
 use Rattle.definition.specs.Step2Degenerate.{flat}
-use Rattle.definition.specs.Triangles.{make, settled, pair, nook, quad, usable, pieces, triangles}
+use Rattle.definition.specs.Triangles.{make, settled, pair, quad, usable, pieces, triangles}
 use Rattle.definition.specs.Step4Order.{isSound, sound, spots, sameBits, sameVector, welded}
 use Rattle.definition.specs.Step6Groups.{cornerIn}
 use Rattle.definition.specs.Frames.{numbered}
-use Rattle.laws.proofs.Part.{Every, every-nil, every-cons, every-append, every-cond, every-keep}
-use Rattle.laws.proofs.Pieces.{Of, pieces-of}
+use Rattle.laws.proofs.Part.{Every, every-nil, every-cons, every-append, every-cond, every-keep, every-both, keep-passes}
+use Rattle.laws.proofs.Pieces.{pieces-of}
 use Rattle.laws.proofs.World.{welded-sym}
 use Rattle.laws.proofs.Weld.{welded-refl}
 use Rattle.laws.proofs.Closed.{and-left, and-right}
@@ -138,23 +138,10 @@ pieces-say n (c0 ∷ c1 ∷ c2 ∷ []) = every-cons refl every-nil
 pieces-say n (c0 ∷ c1 ∷ c2 ∷ c3 ∷ []) = every-cond (cut02 c0 c1 c2 c3) (every-cons refl (every-cons refl every-nil)) (every-cons refl (every-cons refl every-nil))
 pieces-say n (c0 ∷ c1 ∷ c2 ∷ c3 ∷ c4 ∷ l) = every-nil
 
-every-both : {X : Type 0} {P Q R : X → Type 0} → ((x : X) → P x → Q x → R x) → {l : List X} → Every P l → Every Q l → Every R l
-every-both f every-nil every-nil = every-nil
-every-both f (every-cons {x} p r) (every-cons q s) = every-cons (f x p q) (every-both f r s)
-
 triangles-told : (n : ℕ) (m : List (List Corner)) → Every (λ cs. Every Real (usable cs)) m → Every Told (triangles (numbered n m))
 unfolding triangles numbered
 triangles-told n [] every-nil = every-nil
 triangles-told n (c ∷ m) (every-cons h r) = every-append (every-both (λ t p q. record { says = p; real = q .corners }) (pieces-say n c) (pieces-of n Real c h)) (triangles-told (suc n) m r)
-
-keep-passes : {X : Type 0} (p : X → Bool) (l : List X) → Every (λ x. p x ≡ true) (keep p l)
-unfolding keep
-keep-passes p [] = every-nil
-keep-passes {X} p (x ∷ l) = step (p x) refl (keep-passes p l)
-  where
-    step : (b : Bool) → p x ≡ b → Every (λ x. p x ≡ true) (keep p l) → Every (λ x. p x ≡ true) (cond b (x ∷ keep p l) (keep p l))
-    step true e r = every-cons e r
-    step false e r = r
 
 -- every sound triangle of a mesh whose used corners are real is sharp
 pub mesh-sharp : (m : List (List Corner)) → Every (λ cs. Every Real (usable cs)) m → Every Sharp (sound (triangles (numbered 0 m)))

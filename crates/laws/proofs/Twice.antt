@@ -1,9 +1,9 @@
 -- A slot is reached at most twice: a face has at most two triangles, and no corner is grouped twice. Assumes nothing.
-use Prim.Native.Nat.{ℕ, zero, suc, _≤_}
+use Prim.Native.Nat.{ℕ, _≤_}
 use native.Mathlib.Omega.{arith}
 use mathlib.Core.Path.{_≡_, refl, sym, _∙_, ap, subst}
 use mathlib.Core.Bool.{Bool, true, false, cond, _&&_, Bool·beq, true≢false}
-use mathlib.Core.List.{List, [], _∷_, _++_, map, List·Memᴰ}
+use mathlib.Core.List.{List, [], _∷_, List·Memᴰ}
 use lib.Dec.{eqb}
 use lib.ListN.{length, length-map}
 use borrow.Author.Tests.{eqb-true, eq-eqb}
@@ -17,9 +17,9 @@ use Rattle.definition.specs.Triangles.{make, settled, pair, nook, quad, pieces,
 use Rattle.definition.specs.Step4Order.{isSound, sound, spots}
 use Rattle.definition.specs.Step5Links.{links}
 use Rattle.definition.specs.Step6Groups.{Mark, marks}
-use Rattle.definition.specs.Step7Sums.{Brought, bring, broughtAll}
+use Rattle.definition.specs.Step7Sums.{bring, broughtAll}
 use Rattle.definition.specs.Frames.{numbered}
-use Rattle.laws.proofs.Part.{Every, every-nil, every-cons, every-append, every-map, every-keep, keep-map}
+use Rattle.laws.proofs.Part.{Every, every-nil, every-cons, every-append, every-map, every-keep, every-pair, keep-passes, keep-map}
 use Rattle.laws.proofs.Closed.{and-left, and-right, Whole}
 use Rattle.laws.proofs.Mutual.{Names, spots-apart, apart-inj, every-at}
 use Rattle.laws.proofs.Laws.{Once, once-nil, once-cons, at-most-one, marks-inside, beq-refl}
@@ -76,20 +76,6 @@ pub triangles-plain : (fs : List Face) → Every Plain (triangles fs)
 unfolding triangles
 triangles-plain [] = every-nil
 triangles-plain (f ∷ fs) = every-append (pieces-plain (f .number) (f .corners)) (triangles-plain fs)
-
--- ---- what a test keeps passes it
-pub every-kept : {X : Type 0} (p : X → Bool) (l : List X) → Every (λ x. p x ≡ true) (keep p l)
-unfolding keep
-every-kept p [] = every-nil
-every-kept p (x ∷ l) = go (p x) refl (every-kept p l)
-  where
-    go : (b : Bool) → p x ≡ b → Every (λ x. p x ≡ true) (keep p l) → Every (λ x. p x ≡ true) (cond b (x ∷ keep p l) (keep p l))
-    go true e r = every-cons e r
-    go false e r = r
-
-pub every-both : {X : Type 0} {P Q : X → Type 0} {l : List X} → Every P l → Every Q l → Every (λ x. P x × Q x) l
-every-both every-nil every-nil = every-nil
-every-both (every-cons p r) (every-cons q s) = every-cons (p, q) (every-both r s)
 
 once-keep : (p : Mark → Bool) {l : List Mark} → Once l → Once (keep p l)
 unfolding keep
@@ -168,7 +154,7 @@ module _ (ss : List Triangle) (names : Names ss) (plain : Every Plain ss) (f i :
         of-face = eqb-true (m .spot .tri .face) f (and-left (eqb (m .spot .tri .face) f) (eqb (slotOf (m .spot)) i) (h .1));
         of-slot = eqb-true (slotOf (m .spot)) i (and-right (eqb (m .spot .tri .face) f) (eqb (slotOf (m .spot)) i) (h .1));
       })
-      (every-both (every-keep in-slot (marks-inside ss)) (every-kept in-slot (marks ss (links ss)))))
+      (every-pair (every-keep in-slot (marks-inside ss)) (keep-passes in-slot (marks ss (links ss)))))
 
   brought-twice : (h : Float) → length (keep (λ b. eqb (b .face) f && eqb (b .slot) i) (broughtAll h ss (marks ss (links ss)))) ≤ 2
   unfolding broughtAll bring in-slot

@@ -2,7 +2,6 @@
 use Prim.Native.Nat.{ℕ, _+_, _*_, _≤_}
 use native.Mathlib.Omega.{arith}
 use mathlib.Core.Path.{_≡_, refl, sym, ap, _∙_, subst}
-use mathlib.Core.Bool.{false}
 use mathlib.Core.List.{List, [], _∷_, _++_}
 use mathlib.Core.Option.{none}
 use lib.Dec.{T}
@@ -17,7 +16,7 @@ use Rattle.definition.specs.Limits.{workWords}
 use Rattle.definition.specs.Handed.{cornerAt, meshFrom, slotCount}
 use Rattle.definition.specs.Desk.{badCorner}
 use Rattle.definition.specs.Mesh.{one}
-use Rattle.definition.specs.Triangles.{nook, make, triangles}
+use Rattle.definition.specs.Triangles.{triangles}
 use Rattle.definition.specs.Step4Order.{sound, broken}
 use Rattle.definition.specs.Step5Links.{links}
 use Rattle.definition.specs.Step6Groups.{Mark, marks}
@@ -25,7 +24,7 @@ use Rattle.definition.specs.Step7Sums.{Brought, broughtAll}
 use Rattle.definition.specs.Step8Slots.{reading}
 use Rattle.definition.specs.Frames.{numbered, framesOf, frames}
 use Rattle.definition.specs.Outcome.{answerWords}
-use Rattle.laws.proofs.Laws.{mark}
+use Rattle.laws.proofs.Laws.{mark, some-triangle}
 use Rattle.view.specs.Frame.{Only}
 use Rattle.view.specs.Rows.{spotAt}
 use Rattle.view.specs.Records.{Told, Tells}
@@ -63,7 +62,7 @@ module _ (sizes : List ℕ) (ps ns ts : List Float) (c : Counts) (w u v : List �
 
   -- any triangle and any mark, for numbers past the last
   d : Triangle
-  d = make 0 false 3 (nook 0 (cornerAt ps ns ts 0)) (nook 1 (cornerAt ps ns ts 0)) (nook 2 (cornerAt ps ns ts 0))
+  d = some-triangle (cornerAt ps ns ts 0)
 
   e : Mark
   e = mark (spotAt ss d 0 one) (spotAt ss d 0 one)

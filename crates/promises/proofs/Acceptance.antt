@@ -1,6 +1,5 @@
 -- A call is accepted exactly where no row of the table applies. Assumes nothing.
-use Prim.Native.Nat.{ℕ, _<_}
-use native.Mathlib.Nat.{zero-lt-suc}
+use Prim.Native.Nat.{ℕ, _≤_, _<_}
 use native.Mathlib.Omega.{arith}
 use mathlib.Core.Path.{_≡_, refl, ap}
 use mathlib.Core.Bool.{Bool, true, false, cond, _||_, true≢false}
@@ -8,29 +7,29 @@ use mathlib.Core.List.{List, [], _∷_}
 use mathlib.Core.Option.{Option, none, some}
 use lib.ListN.{length}
 use Rattle.definition.specs.Lists.{first, has}
-use Rattle.definition.specs.Desk.{Row, table, verdict}
+use Rattle.definition.specs.Desk.{Row, verdict}
 use Rattle.definition.specs.Outcome.{accepted, answered, outcome}
-use Rattle.laws.proofs.Part.{Each, each-none, each-some, Every, every-nil, every-cons}
-use Rattle.laws.proofs.Closed.{Found, first-found}
+use Rattle.laws.proofs.Part.{Each, each-none, each-some}
+use Rattle.laws.proofs.Closed.{Found}
+use Rattle.laws.proofs.Verdict.{verdict-numbered}
 use Rattle.promises.specs.Calls.{Call, leaves, Accepted}
 use Rattle.promises.specs.Impostors.{rowsOf}
-
--- every row of the table has a number above 0
-pub rows-numbered : (x : Call) → Every (λ r. 0 < r .number) (rowsOf x)
-unfolding table rowsOf
-rows-numbered x = every-cons (zero-lt-suc 0) (every-cons (zero-lt-suc 1) (every-cons (zero-lt-suc 2) (every-cons (zero-lt-suc 3) (every-cons (zero-lt-suc 4) (every-cons (zero-lt-suc 5) every-nil)))))
 
 abbrev pub verdictOf : Call → Option Row
 verdictOf x = verdict (x .mesh .sizes) (x .mesh .places) (x .mesh .normals) (x .mesh .texture) (x .threshold) (length (x .answer)) (length (x .work))
 
+-- the number of a refusal is one of 1 to 6
+pub numbered : (x : Call) → Each (Found (λ r. r .applies) (λ r. (0 < r .number) × (r .number ≤ 6))) (verdictOf x)
+numbered x = verdict-numbered (x .mesh .sizes) (x .mesh .places) (x .mesh .normals) (x .mesh .texture) (x .threshold) (length (x .answer)) (length (x .work))
+
 -- so a number of 0 is no refusal
 pub no-row : (x : Call) → Accepted x → verdictOf x ≡ none
-unfolding Accepted leaves outcome verdict answered rowsOf
-no-row x e = go (verdictOf x) (first-found (λ r. r .applies) (rows-numbered x)) e
+unfolding Accepted leaves outcome answered
+no-row x e = go (verdictOf x) (numbered x) e
   where
-    go : (o : Option Row) → Each (Found (λ r. r .applies) (λ r. 0 < r .number)) o → answered o (accepted (x .mesh .sizes) (x .mesh .places) (x .mesh .normals) (x .mesh .texture) (x .threshold) (x .answer) (x .work)) (x .answer) (x .work) .number ≡ 0 → o ≡ none
+    go : (o : Option Row) → Each (Found (λ r. r .applies) (λ r. (0 < r .number) × (r .number ≤ 6))) o → answered o (accepted (x .mesh .sizes) (x .mesh .places) (x .mesh .normals) (x .mesh .texture) (x .threshold) (x .answer) (x .work)) (x .answer) (x .work) .number ≡ 0 → o ≡ none
     go none each-none e = refl
-    go (some r) (each-some h) e = let g = h .known in absurd (omega arith)
+    go (some r) (each-some h) e = let g = h .known .0 in absurd (omega arith)
 
 -- ---- no row is found exactly where none applies
 none-found : {A : Type 0} (p : A → Bool) (l : List A) → has p l ≡ false → first p l ≡ none

@@ -1,22 +1,17 @@
 -- Demand 1 holds of whatever the definition allows. Assumes nothing.
 use Prim.Native.Nat.{ℕ, zero, suc, _+_, _*_, _≤_, _<_}
-use native.Mathlib.Nat.{zero-lt-suc}
 use native.Mathlib.Omega.{arith}
 use mathlib.Core.Path.{_≡_, refl, sym, _∙_, ap, subst}
-use mathlib.Core.Bool.{Bool, false}
 use mathlib.Core.Logic.{_⊎_, inl, inr}
 use mathlib.Core.List.{List, [], _∷_, _++_}
 use mathlib.Core.Option.{Option, none, some}
-use lib.Dec.{lit≤}
 use lib.ListN.{length, getD, take, drop, replicate, length-append, length-drop, length-replicate}
 use lib.Seq.{take-at, drop-at}
-use borrow.Author.Tests.{ltb-false}
 use Rattle.tangent.specs.declared.Reading.{Reading}
 use Rattle.tangent.specs.declared.Reading.the-variants.{Absent}
 use Rattle.tangent.specs.Slot.{slotWords, words}
 use Rattle.tangent.proofs.Slots.{absent-alone}
 use Rattle.definition.specs.Limits.{workWords}
-use Rattle.definition.specs.Lists.{has}
 use Rattle.definition.specs.Handed.{meshFrom, slotCount}
 use Rattle.definition.specs.declared.Corner.{Corner}
 use Rattle.definition.specs.declared.Triangle.{Triangle}
@@ -27,26 +22,18 @@ use Rattle.definition.specs.Step6Groups.{marks}
 use Rattle.definition.specs.Step7Sums.{Brought, broughtAll}
 use Rattle.definition.specs.Step9Copies.{faceReadings}
 use Rattle.definition.specs.Frames.{numbered, framesFrom, framesOf, frames}
-use Rattle.definition.specs.Desk.{Row, table, verdict}
+use Rattle.definition.specs.Desk.{Row}
 use Rattle.definition.specs.Outcome.{Result, answerWords, accepted, answered, outcome}
-use Rattle.laws.proofs.Part.{Each, each-none, each-some, Every, every-nil, every-cons}
-use Rattle.laws.proofs.Closed.{Found, first-found}
-use Rattle.laws.proofs.Laws.{or-left, or-right}
+use Rattle.laws.proofs.Part.{Each, each-none, each-some}
+use Rattle.laws.proofs.Closed.{Found}
+use Rattle.laws.proofs.Verdict.{fine}
 use Rattle.laws.proofs.Bridge.{answer-length}
 use Rattle.view.specs.Answer.{slotNumber, HasSlot, Shows, finalAt}
 use Rattle.view.proofs.Answer.{slot-words, frames-shown}
 use Rattle.copies.proofs.Places.{length-mesh}
-use Rattle.promises.specs.Calls.{Call, meshOf, leaves, readingAt, Accepted}
+use Rattle.promises.specs.Calls.{Call, meshOf, leaves, readingAt}
 use Rattle.promises.specs.Demand1.{Refused, SlotTells, Taken, Promised}
-use Rattle.promises.specs.Impostors.{rowsOf}
-use Rattle.promises.proofs.Acceptance.{verdictOf, accepted-only}
-
--- the numbers of the table are 1 to 6
-between : (x : Call) → Every (λ r. (0 < r .number) × (r .number ≤ 6)) (rowsOf x)
-unfolding table rowsOf
-between x =
-    every-cons (zero-lt-suc 0, lit≤ tt) (every-cons (zero-lt-suc 1, lit≤ tt) (every-cons (zero-lt-suc 2, lit≤ tt)
-    (every-cons (zero-lt-suc 3, lit≤ tt) (every-cons (zero-lt-suc 4, lit≤ tt) (every-cons (zero-lt-suc 5, lit≤ tt) every-nil)))))
+use Rattle.promises.proofs.Acceptance.{verdictOf, numbered as numbers-of}
 
 -- what a call leaves behind, by the verdict
 abbrev by : Call → Option Row → Result
@@ -69,20 +56,7 @@ refused x r e h =
       same-work = ap (λ (y : Result). y .work) is;
     }
 
--- ---- acceptance: the lent lists are long enough, since rows 5 and 6 do not apply
-every-none : {X : Type 0} (p : X → Bool) (l : List X) → has p l ≡ false → Every (λ x. p x ≡ false) l
-unfolding has
-every-none p [] e = every-nil
-every-none p (x ∷ l) e = every-cons (or-left (p x) (has p l) e) (every-none p l (or-right (p x) (has p l) e))
-
-last-two : {X : Type 0} {P : X → Type 0} {a b c d e f : X} → Every P (a ∷ b ∷ c ∷ d ∷ e ∷ f ∷ []) → P e × P f
-last-two (every-cons a (every-cons b (every-cons c (every-cons d (every-cons e (every-cons f every-nil)))))) = (e, f)
-
-long-enough : (x : Call) → Accepted x → (slotWords * slotCount (x .mesh .sizes) ≤ length (x .answer)) × (workWords * length (x .mesh .sizes) ≤ length (x .work))
-unfolding rowsOf table
-long-enough x e =
-    let k = last-two (every-none (λ r. r .applies) (rowsOf x) (accepted-only x e)) in
-    (ltb-false (length (x .answer)) (slotWords * slotCount (x .mesh .sizes)) (k .0), ltb-false (length (x .work)) (workWords * length (x .mesh .sizes)) (k .1))
+-- ---- acceptance
 
 -- a list whose first n words were written
 front : (n : ℕ) (new old : List ℕ) → length new ≡ n → n ≤ length old → (drop n (new ++ drop n old) ≡ drop n old) × (take n (new ++ drop n old) ≡ new) × (length (new ++ drop n old) ≡ length old)
@@ -126,16 +100,16 @@ module _ (x : Call) where
       let w = slot-words sizes (x .answer) (finalAt bs ss mesh) a f i h S ∙ ap words (reading-is f i h) in
       record { words-are = w; absent-is = λ q. w ∙ ap words q; absent-alone = λ q. absent-alone (readingAt x f i) (sym w ∙ q) }
 
-taken : (x : Call) → verdictOf x ≡ none → Accepted x → Taken x (leaves x)
+taken : (x : Call) → verdictOf x ≡ none → Taken x (leaves x)
 unfolding answered accepted
-taken x e ok =
+taken x e =
     let is = leaves-is x none e in
-    let long = long-enough x ok in
+    let long = fine (x .mesh .sizes) (x .mesh .places) (x .mesh .normals) (x .mesh .texture) (x .threshold) (length (x .answer)) (length (x .work)) e in
     let sizes = x .mesh .sizes in
     let n = slotWords * slotCount sizes in
     let k = workWords * length sizes in
-    let a = front n (answerWords (frames (x .threshold) (meshFrom (x .mesh .places) (x .mesh .normals) (x .mesh .texture) 0 sizes))) (x .answer) (answer-length (x .mesh .places) (x .mesh .normals) (x .mesh .texture) (x .threshold) sizes) (long .0) in
-    let w = front k (replicate k 0) (x .work) (length-replicate k 0) (long .1) in
+    let a = front n (answerWords (frames (x .threshold) (meshFrom (x .mesh .places) (x .mesh .normals) (x .mesh .texture) 0 sizes))) (x .answer) (answer-length (x .mesh .places) (x .mesh .normals) (x .mesh .texture) (x .threshold) sizes) (long .answer-fits) in
+    let w = front k (replicate k 0) (x .work) (length-replicate k 0) (long .work-fits) in
     record {
       number-0 = ap (λ (y : Result). y .number) is;
       place-0 = ap (λ (y : Result). y .place) is;
@@ -148,17 +122,12 @@ taken x e ok =
       work-length = ap (λ (y : Result). length (y .work)) is ∙ w .2;
     }
 
-accepted-none : (x : Call) → verdictOf x ≡ none → Accepted x
-unfolding Accepted answered accepted
-accepted-none x e = ap (λ (y : Result). y .number) (leaves-is x none e)
-
 -- ---- the promise
 by-verdict : (x : Call) → Refused x (leaves x) ⊎ Taken x (leaves x)
-unfolding verdict rowsOf
-by-verdict x = go (verdictOf x) refl (first-found (λ r. r .applies) (between x))
+by-verdict x = go (verdictOf x) refl (numbers-of x)
   where
     go : (o : Option Row) → verdictOf x ≡ o → Each (Found (λ r. r .applies) (λ r. (0 < r .number) × (r .number ≤ 6))) o → Refused x (leaves x) ⊎ Taken x (leaves x)
-    go none e each-none = inr (taken x e (accepted-none x e))
+    go none e each-none = inr (taken x e)
     go (some r) e (each-some h) = inl (refused x r e (h .known))
 
 pub demand1 : Promised

@@ -2,10 +2,9 @@
 use Prim.Native.Nat.{ℕ, zero, suc, _*_, _+_, _-_, _/_, _≤_, _<_}
 use native.Mathlib.Omega.{arith}
 use mathlib.Core.Path.{_≡_, refl, sym, ap, _∙_, subst}
-use mathlib.Core.Bool.{Bool, true, false, not, _&&_, true≢false}
+use mathlib.Core.Bool.{true, false, not, _&&_, true≢false}
 use mathlib.Core.List.{List, [], _++_, _∷_, List·Memᴰ, List·Memᴰ·head, List·Memᴰ·tail}
 use mathlib.Core.Option.{Option, none, some, Option·some-injective, Option·none-ne-some}
-use lib.Dec.{eqb}
 use lib.ListN.{length, getD, take, drop, length-append, List·getD-append}
 use lib.Ieee.{Float}
 use lib.Seq.{split-at}
@@ -16,14 +15,14 @@ use Rattle.table.specs.Columns.{rowsOf, orientationColumn, anyColumn, vertexCol
 use Rattle.definition.specs.declared.Corner.{Corner}
 use Rattle.definition.specs.declared.Triangle.{Triangle}
 use Rattle.definition.specs.Handed.{cornerAt, meshFrom}
-use Rattle.definition.specs.Triangles.{nook, make, triangles}
+use Rattle.definition.specs.Triangles.{triangles}
 use Rattle.definition.specs.Frames.{numbered}
 use Rattle.definition.specs.Mesh.{Third, one, two, three, kept, Spot, after, before, next, prior, cornerOf, sameSpot, sameTriangle}
 use Rattle.definition.specs.Step4Order.{sound, broken, spots, welded}
 use Rattle.definition.specs.Step5Links.{endOf, opposite, links, beyond}
 use Rattle.definition.specs.Step6Groups.{Mark, marks, cornerIn, overTo, over}
 use Rattle.laws.proofs.Laws as laws
-use Rattle.laws.proofs.Laws.{mark, tri-refl}
+use Rattle.laws.proofs.Laws.{mark, some-triangle, tri-refl}
 use Rattle.laws.proofs.Reached.{facing-own}
 use Rattle.laws.proofs.Part.{Every, every-nil, every-cons}
 use Rattle.laws.proofs.Sharp as one-triangle
@@ -36,6 +35,7 @@ use Rattle.view.specs.Rows.{row, spotAt}
 use Rattle.view.specs.Weld.{Welds, Sharp}
 use Rattle.view.specs.Links.{LinkWord, nowhere, towards, Linked}
 use Rattle.view.specs.Groups.{numberOf, Grouping}
+use Rattle.view.proofs.Records.{flag-same}
 use Rattle.view.proofs.Frame.{cell-kept}
 use Rattle.view.proofs.Weld.{welds, sound-welds, vertices-kept}
 use Rattle.view.proofs.Lists.{every-index, index-every}
@@ -43,7 +43,6 @@ use Rattle.view.proofs.Rows.{row-inj, at-inj, row-lt, row-div, spot-row, spot-i
 use Rattle.grouped.specs.declared.Counts.{Counts}
 use Rattle.grouped.specs.Grouped.{groupedColumns, Six}
 use Rattle.members.proofs.Ordering.{member-of}
-use Rattle.subgroups.proofs.Laws.{flag-one}
 use Rattle.promises.specs.OwnLinks as own
 use Rattle.promises.specs.OwnLinks.{OfLinks, OfGroups, Joined, after as over-after, before as over-before}
 use Rattle.promises.proofs.OwnLinks.{of-links, of-groups}
@@ -111,9 +110,6 @@ getD-mem : {X : Type 0} (l : List X) (d : X) (i : ℕ) → i < length l → List
 getD-mem [] d i h = absurd (omega arith)
 getD-mem (x ∷ l) d zero h = List·Memᴰ·head refl
 getD-mem (x ∷ l) d (suc i) h = List·Memᴰ·tail (getD-mem l d i (omega arith))
-
-flag-same : (a b : Bool) → flag a ≡ flag b → a ≡ b
-flag-same a b e = sym (flag-one a) ∙ (ap (λ x. eqb x 1) e ∙ flag-one b)
 
 module _ (rows : ℕ) (ss : List Triangle) (d : Triangle) (groups : ℕ) (w : List ℕ) (N : Names ss) (S : Sharp ss d) (W : Welds rows ss d w) (K : Linked rows ss d (links ss) w) (L : OfLinks ss) (H : OfGroups ss)
     (G : Grouping rows ss d (marks ss (links ss)) groups w) (any : (t : ℕ) → t < length ss → cell rows anyColumn t w ≡ flag (getD ss t d .any)) where
@@ -326,5 +322,5 @@ module _ (rows : ℕ) (sizes : List ℕ) (ps ns ts : List Float) (xs : List Tria
 pub own-columns : Promised
 unfolding Promised
 own-columns sizes ps ns ts c w u l good =
-    let d = make 0 false 3 (nook 0 (cornerAt ps ns ts 0)) (nook 1 (cornerAt ps ns ts 0)) (nook 2 (cornerAt ps ns ts 0)) in
+    let d = some-triangle (cornerAt ps ns ts 0) in
     both (rowsOf (length sizes)) sizes ps ns ts (triangles (numbered 0 (meshFrom ps ns ts 0 sizes))) d c u (l .stands good d) (l .fits) (l .sound-count)

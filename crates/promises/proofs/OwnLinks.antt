@@ -21,7 +21,7 @@ use Rattle.laws.proofs.Laws as laws
 use Rattle.laws.proofs.Leftover as left
 use Rattle.laws.proofs.Reached as reach
 use Rattle.laws.proofs.OneGroup as group
-use Rattle.mikktspace.proofs.Verdicts.{fine}
+use Rattle.laws.proofs.Verdict.{fine}
 use Rattle.promises.specs.Calls.{meshOf}
 use Rattle.promises.specs.OwnLinks.{Of, OfLinks, Joined, MetFrom, OfGroups, soundOf, Promised, after, before, start, member}
 use Rattle.promises.proofs.Acceptance.{no-row}

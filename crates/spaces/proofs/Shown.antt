@@ -31,6 +31,7 @@ use Rattle.view.specs.Weld.{Sharp}
 use Rattle.view.specs.Groups.{Grouping, beginAt, InOrder}
 use Rattle.view.specs.Contributions.{Contributed}
 use Rattle.view.specs.Answer.{slotNumber, HasSlot, Shows, changed, Slotted}
+use Rattle.view.proofs.Records.{flag-one}
 use Rattle.view.proofs.Rows.{row-div}
 use Rattle.view.proofs.Answer.{slots-same}
 use Rattle.slots.specs.Slots.{reachedAt}
@@ -38,7 +39,6 @@ use Rattle.slots.proofs.Laws.{reach-shows}
 use Rattle.members.specs.Members.{beginOf}
 use Rattle.members.proofs.Triangles.{keep-snoc}
 use Rattle.members.proofs.Begins.{plain, grow, below, begin-first, begin-last, of-group}
-use Rattle.subgroups.proofs.Laws.{flag-one}
 use Rattle.spaces.specs.Spaces.{reachRow, reachGroup, reachAll}
 use Rattle.spaces.proofs.Sums.{run-snoc, value-is}
 

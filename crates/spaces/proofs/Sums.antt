@@ -28,7 +28,7 @@ use Rattle.definition.specs.Step4Order.{welded}
 use Rattle.definition.specs.Step5Links.{links}
 use Rattle.definition.specs.Step6Groups.{Mark, marks, members, cornerIn}
 use Rattle.definition.specs.Step7Sums.{projected, close, joins, subgroup, emptySum, weighed, addSpot, contribute, finish, evaluate}
-use Rattle.laws.proofs.Part.{Every, every-nil, every-cons, every-append}
+use Rattle.laws.proofs.Part.{Every, every-nil, every-cons, every-append, every-keep, every-pair, keep-passes}
 use Rattle.laws.proofs.Mutual.{Names}
 use Rattle.laws.proofs.Weld.{welded-as, welded-normal, first-same}
 use Rattle.laws.proofs.Sharp as one-triangle
@@ -38,11 +38,11 @@ use Rattle.view.specs.Records.{Tells}
 use Rattle.view.specs.Weld.{Sharp}
 use Rattle.view.specs.Groups.{numberOf, Member, Grouping, beginAt, InOrder}
 use Rattle.view.specs.Contributions.{Contributed}
+use Rattle.view.proofs.Records.{flag-one}
 use Rattle.view.proofs.Rows.{row-is, row-div, tri-lt}
 use Rattle.members.proofs.Stretches.{getD-slice}
 use Rattle.members.proofs.Triangles.{joined, in-definition}
 use Rattle.subgroups.specs.Subgroups.{peerAt, joinsBy, joinsAt, spaceAt, addRow, addJoined, valueOf}
-use Rattle.subgroups.proofs.Laws.{flag-one}
 
 -- ---- lists
 
@@ -77,16 +77,6 @@ keep-both p q (x ∷ l) = step (p x) (keep-both p q l)
     step : (b : Bool) → keep q (keep p l) ≡ keep (λ x. p x && q x) l → keep q (cond b (x ∷ keep p l) (keep p l)) ≡ cond (b && q x) (x ∷ keep (λ x. p x && q x) l) (keep (λ x. p x && q x) l)
     step true e = ap (λ k. cond (q x) (x ∷ k) k) e
     step false e = e
-
--- what is kept passes the test
-kept-pass : {A : Type 0} {P : A → Type 0} (p : A → Bool) {l : List A} → Every P l → Every (λ x. P x × (p x ≡ true)) (keep p l)
-unfolding keep
-kept-pass p every-nil = every-nil
-kept-pass {A} {P} p (every-cons {x} {l} h r) = step (p x) refl (kept-pass p r)
-  where
-    step : (b : Bool) → p x ≡ b → Every (λ y. P y × (p y ≡ true)) (keep p l) → Every (λ y. P y × (p y ≡ true)) (cond b (x ∷ keep p l) (keep p l))
-    step true e k = every-cons (h, e) k
-    step false e k = k
 
 pub all-below : (n m : ℕ) → m ≤ n → Every (λ k. k < n) (listOf m (λ k. k))
 unfolding listOf
@@ -209,7 +199,7 @@ module _ (rows : ℕ) (sizes : List ℕ) (ps ns ts : List Float) (ss : List Tria
       let L : List ℕ = slice from to (column rows orderColumn w) in
       let Q : ℕ → Bool = λ r. eqb (cell rows groupColumn r w) (q + 1) in
       let in-order : L ≡ keep Q (listOf (3 * length ss) (λ k. k)) = sym (λ z. slice (a z) (b z) (column rows orderColumn w)) ∙ I q few in
-      let all : Every Of L = subst (Every Of) (sym in-order) (kept-pass Q (all-below (3 * length ss) (3 * length ss) (omega arith))) in
+      let all : Every Of L = subst (Every Of) (sym in-order) (every-pair (every-keep Q (all-below (3 * length ss) (3 * length ss) (omega arith))) (keep-passes Q (listOf (3 * length ss) (λ k. k)))) in
       let them = sym (λ z. map (λ r. getD ss (r / 3) d) (slice (a z) (b z) (column rows orderColumn w))) ∙ in-definition rows ss d groups w N S G j e l q count n few I in
       ap finish
       (loop-run (to - from) (λ k. cell rows orderColumn (from + k) w) (λ y r. cond (joinsBy h (peerAt rows r₀ w) (peerAt rows r w)) (addRow rows w r y) y) emptySum

@@ -24,6 +24,7 @@ use Rattle.definition.specs.Step7Sums.{emptySum, finish}
 use Rattle.sums.specs.Sums.{weighedBy}
 use Rattle.view.specs.Frame.{Only}
 use Rattle.view.specs.Contributions.{sAt, tAt}
+use Rattle.view.proofs.Records.{flag-one}
 use Rattle.view.proofs.Frame.{only-run, cell-kept}
 use Rattle.subgroups.specs.declared.Peer.{Peer}
 use Rattle.subgroups.specs.Subgroups.{peerAt, joinsBy, joinsAt, markOf, Ranged, Marked, spaceAt, addRow, addMarked, evaluated, addJoined, valueOf}
@@ -77,11 +78,6 @@ module _ (h : Float) (m p : Peer) where
   pub join-far : m .any ≡ false → p .any ≡ false → eqb (m .face) (p .face) ≡ false → near-s ≡ false → false ≡ joinsBy h m p
   unfolding joinsBy
   join-far a b c d = sym (ap (λ x. x && near-t) d) ∙ last-two (m .any) (p .any) (eqb (m .face) (p .face)) near-s near-t a b c
-
-pub flag-one : (b : Bool) → eqb (flag b) 1 ≡ b
-unfolding flag
-flag-one true = refl
-flag-one false = refl
 
 -- ---- what the marks leave
 
@@ -215,11 +211,6 @@ value-marked rows h r from n w u room f R M =
   where
     marked-is : (h : Float) (m : Peer) (p : ℕ) → eqb (markOf rows h m p w) 1 ≡ joinsAt rows h m p w
     marked-is h m p = unfold markOf in flag-one (joinsAt rows h m p w)
-
--- of two tests in one
-pub both-true : (a b : Bool) → (a && b) ≡ true → (a ≡ true) × (b ≡ true)
-both-true true b e = (refl, e)
-both-true false b e = absurd (false≢true e)
 
 -- what stands when a member's subgroup is marked: m is the member as it was read
 pub space-marked : (rows : ℕ) (h : Float) (r from to : ℕ) (m : Peer) (w u : List ℕ) → columns * rows ≤ length w → from ≤ to → to ≤ rows → Ranged rows to w → m ≡ peerAt rows r w → Marked rows h m from (to - from) w u → (evaluated rows from (to - from) u ≡ valueOf rows h r from (to - from) w) × Only (joinedColumn ∷ []) rows w u

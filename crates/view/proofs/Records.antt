@@ -35,6 +35,14 @@ unfolding flag
 flag-zero true = refl
 flag-zero false = refl
 
+pub flag-one : (b : Bool) → eqb (flag b) 1 ≡ b
+unfolding flag
+flag-one true = refl
+flag-one false = refl
+
+pub flag-same : (a b : Bool) → flag a ≡ flag b → a ≡ b
+flag-same a b e = sym (flag-one a) ∙ (ap (λ (x : ℕ). eqb x 1) e ∙ flag-one b)
+
 -- numbers in the three words, by corner
 pub number-at : (rows k t base : ℕ) (w : List ℕ) (x : Triangle) → 3 * t + 3 ≤ rows → part rows k t w ≡ numbers base x → (i : Third) → cell rows k (row t i) w ≡ base + kept x i .which
 unfolding num kept

@@ -9,7 +9,8 @@ use Rattle.tangent.specs.Slot.{slotWords}
 use Rattle.definition.specs.Outcome.{accepted}
 use Rattle.table.specs.Columns.{columns, rowsOf}
 use Rattle.mikktspace.specs.Contract.{left}
-use Rattle.mikktspace.proofs.Verdicts.{Fine, fine, all-slots}
+use Rattle.laws.proofs.Verdict.{Fine, fine}
+use Rattle.mikktspace.proofs.Verdicts.{all-slots}
 use Rattle.mikktspace.proofs.Whole.{counts-fit, all-ranged, answered, cleared}
 use borrow.Author.Needs.{needs}
 use Rattle.mikktspace.proofs.make_frames.Statement.{statement}

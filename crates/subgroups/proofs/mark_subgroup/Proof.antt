@@ -9,7 +9,8 @@ use Rattle.table.specs.Columns.{joinedColumn}
 use Rattle.view.specs.Frame.{Only}
 use Rattle.view.proofs.Frame.{only-none}
 use Rattle.subgroups.specs.Subgroups.{Marked}
-use Rattle.subgroups.proofs.Laws.{marked-only, none-marked, marked-as, one-marked, both-true, order-kept}
+use Rattle.laws.proofs.Closed.{and-left, and-right}
+use Rattle.subgroups.proofs.Laws.{marked-only, none-marked, marked-as, one-marked, order-kept}
 use borrow.Author.Needs.{needs}
 use Rattle.subgroups.proofs.mark_subgroup.Statement.{statement}
 use Rattle.subgroups.proofs.mark_subgroup.Tie as tie
@@ -53,7 +54,7 @@ loop-again c =
     let e : (l .p - a .from) + 1 ≡ l .p + 1 - a .from = omega (arith, l .inv .2) in
     let M = one-marked (a .rows) (a .threshold) (a .m) (a .from) (a .work .now) (s .pre .2) (l .p - a .from) (l .p) _ at b (s .pre .3 .order (l .p) p) (l .inv .0) in
     let N = k .mark .ensures .0 ∙ M in
-    (marked-as (a .rows) (a .threshold) (a .m) (a .from) (a .work .now) (s .pre .2) _ _ _ e N, λ q. let t = both-true _ _ q in k .mark .ensures .1 (t .0) ∙ l .inv .1 (t .1), omega (arith, l .inv .2), omega (arith, p), marked-only (a .rows) (a .threshold) (a .m) (a .from) (a .work .now) (s .pre .2) (l .p - a .from + 1) _ (omega (arith, at, b)) N)
+    (marked-as (a .rows) (a .threshold) (a .m) (a .from) (a .work .now) (s .pre .2) _ _ _ e N, λ q. k .mark .ensures .1 (and-left _ _ q) ∙ l .inv .1 (and-right (k .mark .result) _ q), omega (arith, l .inv .2), omega (arith, p), marked-only (a .rows) (a .threshold) (a .m) (a .from) (a .work .now) (s .pre .2) (l .p - a .from + 1) _ (omega (arith, at, b)) N)
 
 same-length : tie.Need-same-length Inv-loop μ-loop
 same-length c = c .before .loop .inv .4 .size
