@@ -1,6 +1,6 @@
 -- What tests joined by `&&` and `||` leave, as equations of truth values. Assumes nothing.
 use mathlib.Core.Path.{_≡_, refl, sym, ap, _∙_, subst}
-use mathlib.Core.Bool.{Bool, true, false, true≢false, _&&_, _||_}
+use mathlib.Core.Bool.{Bool, true, false, true≢false, false≢true, _&&_, _||_}
 use lib.Dec.{T}
 
 pub T-is : {b : Bool} → b ≡ true → T b
@@ -50,3 +50,12 @@ second false b c d r = refl
 pub first : (a b c d : Bool) → a ≡ false → false ≡ (a && b && c && d)
 first false b c d r = refl
 first true b c d r = absurd (true≢false r)
+
+-- both parts of a test that holds
+pub and-left : (a b : Bool) → (a && b) ≡ true → a ≡ true
+and-left true b e = refl
+and-left false b e = e
+
+pub and-right : (a b : Bool) → (a && b) ≡ true → b ≡ true
+and-right true b e = e
+and-right false b e = absurd (false≢true e)

@@ -32,7 +32,7 @@ use Rattle.definition.specs.Step8Slots.{reading}
 use Rattle.definition.specs.Step9Copies.{copied, fromSound, finalOf}
 use Rattle.laws.proofs.Part.{Every, every-map, every-append, every-keep, every-pair}
 use Rattle.laws.proofs.Numbers.{pieces-face}
-use Rattle.laws.proofs.Closed.{and-left, and-right}
+use Rattle.bits.proofs.Bools.{and-left, and-right}
 use Rattle.laws.proofs.Marked.{keepsAt}
 use Rattle.slots.specs.Slots.{copiedAt, clearedAt}
 use Rattle.slots.proofs.Laws.{copy-shows, clear-shows}

@@ -1,6 +1,9 @@
-// The archive: the public call for programs in other languages. `rt staticlib dokphalun` writes libdokphalun.a.
+// The archive: the public calls for programs in other languages. `rt staticlib dokphalun` writes libdokphalun.a.
 // A list is handed over as a pointer to its first element and a number of elements.
 ghost use Rattle.mikktspace.specs.Contract.{Contract};
+ghost use Rattle.cards.specs.Contract.{Writes, Reads};
+use cards::Found;
+use cards::Written;
 use mikktspace::Outcome;
 
 // See mikktspace::generate_tangent_space.
@@ -17,4 +20,20 @@ pub extern "C" fn dokphalun_frames(
     ensures { λ r. ⌜ Contract (now (sizes .entry)) (now (positions .entry)) (now (normals .entry)) (now (texture .entry)) threshold (now (answer .entry)) (now (work .entry)) r (now (answer .exit)) (now (work .exit)) ⌝ }
 {
     mikktspace::generate_tangent_space(sizes, positions, normals, texture, threshold, answer, work)
+}
+
+// See cards::write.
+#[no_mangle]
+pub extern "C" fn dokphalun_card_write(answer: &[u32], card: &mut [u8]) -> Written
+    ensures { λ r. ⌜ Writes (now (answer .entry)) (now (card .entry)) r (now (card .exit)) ⌝ }
+{
+    cards::write(answer, card)
+}
+
+// See cards::read.
+#[no_mangle]
+pub extern "C" fn dokphalun_card_read(card: &[u8], total: u32, answer: &mut [u32]) -> Found
+    ensures { λ r. ⌜ Reads (now (card .entry)) total (now (answer .entry)) r (now (answer .exit)) ⌝ }
+{
+    cards::read(card, total, answer)
 }

@@ -22,7 +22,7 @@ use Rattle.definition.specs.Mesh.{Third, one, two, three, Spot, after, kept as 
 use Rattle.definition.specs.Step4Order.{welded}
 use Rattle.definition.specs.Step5Links.{links, beyond}
 use Rattle.definition.specs.Step6Groups.{Mark, grouped, wayOf, touched, facing, cornerIn, marks, members}
-use Rattle.laws.proofs.Closed.{and-left, and-right}
+use Rattle.bits.proofs.Bools.{and-left, and-right}
 use Rattle.laws.proofs.Mutual.{Names}
 use Rattle.laws.proofs.Weld.{welded-as}
 use Rattle.laws.proofs.Laws.{one-corner, final-way}

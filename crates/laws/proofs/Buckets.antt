@@ -11,7 +11,7 @@ use Rattle.definition.specs.Step4Order.{welded}
 use Rattle.definition.specs.Step5Links.{Link, endOf, opposite, linked, addLink, linkOne, linkAll, beyond}
 use Rattle.laws.proofs.Part.{Part, nothing, mine, other, Each, each-none, each-some, mapped, Every, every-nil, every-cons, part-first, first-ours, first-theirs, part-has, part-cond, part-cond-other}
 use Rattle.laws.proofs.World.{welded-sym}
-use Rattle.laws.proofs.Closed.{and-left, and-right}
+use Rattle.bits.proofs.Bools.{and-left, and-right}
 use Rattle.laws.proofs.Weld.{welded-refl, welded-as}
 use Rattle.laws.proofs.Mutual.{Apart, apart-inj}
 

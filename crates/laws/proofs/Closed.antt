@@ -1,9 +1,10 @@
 -- The links of a list of triangles stay among them; laws of links; a walk from a corner stays at its corner. Assumes nothing.
 use Prim.Native.Nat.{ℕ, zero, suc}
 use mathlib.Core.Path.{_≡_, refl, sym, _∙_, ap}
-use mathlib.Core.Bool.{Bool, true, false, cond, not, _&&_, _||_, true≢false, false≢true}
+use mathlib.Core.Bool.{Bool, true, false, cond, not, _&&_, _||_}
 use mathlib.Core.List.{List, [], _∷_, _++_, List·Memᴰ, List·Memᴰ·head, List·Memᴰ·tail}
 use mathlib.Core.Option.{Option, none, some}
+use Rattle.bits.proofs.Bools.{and-left}
 use Rattle.definition.specs.declared.Corner.{Corner}
 use Rattle.definition.specs.declared.Triangle.{Triangle}
 use Rattle.definition.specs.Lists.{keep, first, has}
@@ -32,14 +33,6 @@ first-found p {P} (every-cons {x} {l} o r) = go (p x) refl (first-found p r)
 pub each-map : {X : Type 0} {P Q : X → Type 0} → ((x : X) → P x → Q x) → {o : Option X} → Each P o → Each Q o
 each-map f each-none = each-none
 each-map f (each-some {x} h) = each-some (f x h)
-
-pub and-left : (a b : Bool) → (a && b) ≡ true → a ≡ true
-and-left true b e = refl
-and-left false b e = e
-
-pub and-right : (a b : Bool) → (a && b) ≡ true → b ≡ true
-and-right true b e = e
-and-right false b e = absurd (false≢true e)
 
 -- ---- links
 

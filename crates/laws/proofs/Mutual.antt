@@ -13,7 +13,8 @@ use Rattle.definition.specs.Step5Links.{Link, opposite, linked, addLink, linkOn
 use Rattle.laws.proofs.Part.{Each, each-none, each-some, Every, every-nil, every-cons}
 use Rattle.laws.proofs.World.{eqb-sym}
 use Rattle.laws.proofs.Enough.{spot-refl}
-use Rattle.laws.proofs.Closed.{Found, first-found, and-left, and-right, Sound, all-sound, beyond-known, each-map}
+use Rattle.bits.proofs.Bools.{and-left, and-right}
+use Rattle.laws.proofs.Closed.{Found, first-found, Sound, all-sound, beyond-known, each-map}
 use Rattle.laws.proofs.Shuffled.{every-mem}
 
 -- ---- names

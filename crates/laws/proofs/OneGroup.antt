@@ -12,7 +12,8 @@ use Rattle.definition.specs.Step5Links.{Link, endOf, opposite, links, beyond}
 use Rattle.definition.specs.Step6Groups.{Mark, grouped, facing, cornerIn, overTo, over, marks}
 use Rattle.laws.proofs.Part.{Every}
 use Rattle.laws.proofs.Enough.{spot-refl}
-use Rattle.laws.proofs.Closed.{and-left, spots-every}
+use Rattle.bits.proofs.Bools.{and-left}
+use Rattle.laws.proofs.Closed.{spots-every}
 use Rattle.laws.proofs.Weld.{welded-as, first-same}
 use Rattle.laws.proofs.Laws.{one-corner, marks-inside, Once, once-cons, at-most-one, at-least-one, final-way}
 use Rattle.laws.proofs.Mutual.{Names, spots-apart, apart-inj, spot-sym, every-at, mutual′}

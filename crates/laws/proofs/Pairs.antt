@@ -17,7 +17,7 @@ use Rattle.definition.specs.Step5Links.{Link, endOf, opposite, linked, addLink,
 use Rattle.definition.specs.Step5Sorted.{alike}
 use Rattle.laws.proofs.Part.{Every, every-nil, every-cons, every-map, every-keep}
 use Rattle.laws.proofs.World.{welded-sym}
-use Rattle.laws.proofs.Closed.{and-left, and-right}
+use Rattle.bits.proofs.Bools.{and-left, and-right}
 use Rattle.laws.proofs.Enough.{spot-refl}
 use Rattle.laws.proofs.Weld.{welded-refl, welded-as}
 use Rattle.laws.proofs.Mutual.{Names, Apart, apart-nil, apart-cons, spots-apart, spot-sym, apart-inj}

@@ -29,7 +29,7 @@ use Rattle.laws.proofs.Part.{Every, every-nil, every-cons, every-append
 use Rattle.laws.proofs.Pieces.{pieces-of}
 use Rattle.laws.proofs.World.{welded-sym}
 use Rattle.laws.proofs.Weld.{welded-refl}
-use Rattle.laws.proofs.Closed.{and-left, and-right}
+use Rattle.bits.proofs.Bools.{and-left, and-right}
 use Rattle.laws.proofs.Laws.{beq-refl, or-left, or-right}
 
 -- ---- positions

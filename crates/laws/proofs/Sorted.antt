@@ -15,7 +15,7 @@ use Rattle.definition.specs.Step4Order.{welded, sound, spots}
 use Rattle.definition.specs.Step5Links.{endOf, opposite, links, beyond}
 use Rattle.definition.specs.Step5Sorted.{numberOf, vertexOf, Side, sideOf, sidesFrom, sides, mayPrecede, setIn, sortedBy, sortedSides, sortedLinks, alike}
 use Rattle.laws.proofs.Part.{Every, every-nil, every-cons, every-map, every-cond, keep-map}
-use Rattle.laws.proofs.Closed.{and-left, and-right}
+use Rattle.bits.proofs.Bools.{and-left, and-right}
 use Rattle.laws.proofs.Weld.{weld-one}
 use Rattle.laws.proofs.Shuffled.{every-mem}
 use Rattle.laws.proofs.Mutual.{Names, spots-apart}

@@ -20,7 +20,8 @@ use Rattle.definition.specs.Step6Groups.{Mark, marks}
 use Rattle.definition.specs.Step7Sums.{bring, broughtAll}
 use Rattle.definition.specs.Frames.{numbered}
 use Rattle.laws.proofs.Part.{Every, every-nil, every-cons, every-append, every-map, every-keep, every-pair, keep-passes, keep-map}
-use Rattle.laws.proofs.Closed.{and-left, and-right, Whole}
+use Rattle.bits.proofs.Bools.{and-left, and-right}
+use Rattle.laws.proofs.Closed.{Whole}
 use Rattle.laws.proofs.Mutual.{Names, spots-apart, apart-inj, every-at}
 use Rattle.laws.proofs.Laws.{Once, once-nil, once-cons, at-most-one, marks-inside, beq-refl}
 use Rattle.laws.proofs.Numbers.{names-keep, triangles-names}

@@ -17,7 +17,8 @@ use Rattle.definition.specs.Mesh.{Spot, cornerOf}
 use Rattle.definition.specs.Step4Order.{sameBits, sameVector, welded, sound, broken, spots, weldedTo}
 use Rattle.laws.proofs.Part.{Each, each-none, each-some, Every, every-nil, every-cons}
 use Rattle.laws.proofs.World.{welded-sym}
-use Rattle.laws.proofs.Closed.{Found, first-found, and-left, and-right}
+use Rattle.bits.proofs.Bools.{and-left, and-right}
+use Rattle.laws.proofs.Closed.{Found, first-found}
 
 bits-refl : (x : Float) → sameBits x x ≡ true
 unfolding sameBits

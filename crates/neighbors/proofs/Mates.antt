@@ -19,7 +19,7 @@ use Rattle.definition.specs.Lists.{first}
 use Rattle.definition.specs.Mesh.{Third, Spot, after, next, cornerOf}
 use Rattle.definition.specs.Step4Order.{welded}
 use Rattle.definition.specs.Step5Links.{Link as Pair, endOf, opposite, linked, addLink, linkOne, linkAll, beyond}
-use Rattle.laws.proofs.Closed.{and-left, and-right}
+use Rattle.bits.proofs.Bools.{and-left, and-right}
 use Rattle.laws.proofs.Mutual.{Names}
 use Rattle.view.specs.Frame.{outside, Only}
 use Rattle.view.specs.Rows.{third, row, spotAt, spotRow}

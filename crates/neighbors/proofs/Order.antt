@@ -17,7 +17,7 @@ use Rattle.definition.specs.Mesh.{Third, Spot, after, next}
 use Rattle.definition.specs.Step4Order.{spots}
 use Rattle.definition.specs.Step5Links.{endOf, opposite, linkAll, links, beyond}
 use Rattle.laws.proofs.Part.{Every, every-nil, every-cons, every-map, keep-map, keep-same}
-use Rattle.laws.proofs.Closed.{and-left, and-right}
+use Rattle.bits.proofs.Bools.{and-left, and-right}
 use Rattle.laws.proofs.Mutual.{Names, spots-apart}
 use Rattle.laws.proofs.Shuffled.{every-mem}
 use Rattle.laws.proofs.Buckets.{sameEnds, any-order}

@@ -14,7 +14,7 @@ use Rattle.definition.specs.declared.Triangle.{Triangle}
 use Rattle.definition.specs.Lists.{keep}
 use Rattle.definition.specs.Mesh.{Third, after}
 use Rattle.definition.specs.Step5Links.{links}
-use Rattle.laws.proofs.Closed.{and-left, and-right}
+use Rattle.bits.proofs.Bools.{and-left, and-right}
 use Rattle.laws.proofs.Mutual.{Names}
 use Rattle.sort.specs.Sort.{ends, inOrder, SortedPart}
 use Rattle.sort.proofs.Keys.{ends-at}

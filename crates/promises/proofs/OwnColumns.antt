@@ -29,7 +29,8 @@ use Rattle.laws.proofs.Sharp as one-triangle
 use Rattle.laws.proofs.Bridge.{index-same}
 use Rattle.laws.proofs.Weld.{welded-refl, found-at}
 use Rattle.laws.proofs.Mutual.{Names}
-use Rattle.laws.proofs.Closed.{first-found, each-map, and-left, and-right}
+use Rattle.bits.proofs.Bools.{and-left, and-right}
+use Rattle.laws.proofs.Closed.{first-found, each-map}
 use Rattle.laws.proofs.Enough.{spot-refl}
 use Rattle.view.specs.Rows.{row, spotAt}
 use Rattle.view.specs.Weld.{Welds, Sharp}

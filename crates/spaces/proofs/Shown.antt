@@ -24,7 +24,7 @@ use Rattle.definition.specs.Step7Sums.{Brought, bring, broughtAll}
 use Rattle.definition.specs.Step8Slots.{put, reading}
 use Rattle.laws.proofs.Mutual.{Names}
 use Rattle.laws.proofs.World.{eqb-sym}
-use Rattle.laws.proofs.Closed.{and-left, and-right}
+use Rattle.bits.proofs.Bools.{and-left, and-right}
 use Rattle.laws.proofs.Held.{reading-held}
 use Rattle.view.specs.Records.{Tells}
 use Rattle.view.specs.Weld.{Sharp}

@@ -10,7 +10,7 @@ use Rattle.bits.specs.Word.{word}
 use Rattle.math.specs.declared.Vec3.{Vec3}
 use Rattle.definition.specs.declared.Corner.{Corner}
 use Rattle.definition.specs.Step4Order.{sameBits, sameVector, welded}
-use Rattle.laws.proofs.Closed.{and-left, and-right}
+use Rattle.bits.proofs.Bools.{and-left, and-right}
 use Rattle.view.specs.Records.{threeOf}
 use Rattle.weld.specs.Welding.{mixture, wordsOf, bucketOf}
 

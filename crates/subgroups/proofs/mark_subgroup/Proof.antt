@@ -9,7 +9,7 @@ use Rattle.table.specs.Columns.{joinedColumn}
 use Rattle.view.specs.Frame.{Only}
 use Rattle.view.proofs.Frame.{only-none}
 use Rattle.subgroups.specs.Subgroups.{Marked}
-use Rattle.laws.proofs.Closed.{and-left, and-right}
+use Rattle.bits.proofs.Bools.{and-left, and-right}
 use Rattle.subgroups.proofs.Laws.{marked-only, none-marked, marked-as, one-marked, order-kept}
 use borrow.Author.Needs.{needs}
 use Rattle.subgroups.proofs.mark_subgroup.Statement.{statement}

@@ -1,0 +1,37 @@
+-- `blocks::checked` meets its contract. Assumes nothing.
+use native.Mathlib.Omega.{arith}
+use mathlib.Core.Path.{_≡_, sym, _∙_, ap}
+use lib.Dec.{eqb}
+use Rattle.words.specs.Lists.{sumOf}
+use Rattle.blocks.specs.Format.{complement, checkWord}
+use Rattle.blocks.specs.Judged.{checked}
+use mathlib.Core.Path.{sym, _∙_, ap}
+use Rattle.words.proofs.Words.{word-of, words-take}
+use borrow.Author.Needs.{needs}
+use Rattle.blocks.proofs.checked.Statement.{statement}
+use Rattle.blocks.proofs.checked.Tie as tie
+
+add-word-at : tie.Need-add-word-at
+add-word-at c = search needs
+
+word-at-requires : tie.Need-word-at-requires
+word-at-requires c κs = search needs
+
+sum-at-requires : tie.Need-sum-at-requires
+sum-at-requires c κs = search needs
+
+complement-requires : tie.Need-complement-requires
+complement-requires c κs = search needs
+
+returns : tie.Need-returns
+unfolding checked checkWord
+returns c =
+    let a = c .before .before .before .before .args in
+    let word = c .before .before .word-at .ensures ∙ sym (word-of (a .card .now) (a .p) 128 127 (omega arith)) in
+    let sum = c .before .sum-at .ensures ∙ ap sumOf (sym (words-take (a .card .now) (a .p) 127 128 (omega arith))) in
+    λ z. eqb (word z) ((c .complement .ensures ∙ ap complement sum) z)
+
+pub checked-spec : {M : Type 1} → statement M
+checked-spec =
+    tie.close (tie.spec
+    add-word-at word-at-requires sum-at-requires complement-requires returns)

@@ -1,0 +1,124 @@
+-- `blocks::good` meets its contract. Assumes nothing.
+use native.Mathlib.Omega.{arith}
+use Prim.Native.Nat.{ℕ, _+_, _-_, _*_}
+use mathlib.Core.Path.{_≡_, sym, _∙_, ap}
+use mathlib.Core.List.{List}
+use lib.Dec.{eqb, leb}
+use lib.ListN.{getD}
+use borrow.Author.Tests.{not-true, not-false}
+use Rattle.words.specs.Lists.{everyBelow}
+use Rattle.words.specs.Words.{wordAt}
+use Rattle.blocks.specs.Judged.{headed, marked, emptied, checked, blockAt}
+use Rattle.blocks.proofs.Counts.{words-are}
+use Rattle.blocks.proofs.Judged.{headed-words, marked-words, emptied-words, good-none, bad-header, bad-mark, bad-rest, by-sum}
+use borrow.Author.Needs.{needs}
+use Rattle.blocks.proofs.good.Statement.{statement}
+use Rattle.blocks.proofs.good.Tie as tie
+
+-- what each of the first three tests says of the block
+headed-is : (c : tie.After-headed) → let a = c .before .before .before .before .before .args in c .headed .result ≡ headed (a .total) (a .b) (blockAt (a .b) (a .card .now))
+headed-is c =
+    let a = c .before .before .before .before .before .args in
+    c .headed .ensures
+    ∙ (ap (λ (h : List ℕ). everyBelow 7 (λ i. eqb (wordAt (a .card .now) (128 * a .b + i)) (getD h i 0))) (c .before .header .ensures) ∙ headed-words (a .total) (a .b) (a .card .now))
+
+marked-is : (c : tie.After-marked) → let a = c .before .before .before .before .before .before .before .args in c .marked .result ≡ marked (a .total) (a .b) (blockAt (a .b) (a .card .now))
+marked-is c =
+    let a = c .before .before .before .before .before .before .before .args in
+    c .marked .ensures
+    ∙ (ap (λ (u : ℕ). everyBelow u (λ r. leb (wordAt (a .card .now) (128 * a .b + 7 + 10 * r)) 1)) (c .before .before .before .before .used .ensures .0)
+    ∙ marked-words (a .total) (a .b) (a .card .now))
+
+emptied-is : (c : tie.After-emptied) → let a = c .before .before .before .before .before .before .before .before .before .args in c .emptied .result ≡ emptied (a .total) (a .b) (blockAt (a .b) (a .card .now))
+emptied-is c =
+    let u = c .before .before .before .before .before .before in
+    let a = u .before .before .before .args in
+    c .emptied .ensures
+    ∙ (ap (λ (k : ℕ). everyBelow (120 - k) (λ i. eqb (wordAt (a .card .now) (128 * a .b + 7 + k + i)) 0)) (ap (λ (k : ℕ). 10 * k) (u .used .ensures .0) ∙ sym (words-are (a .total) (a .b)))
+    ∙ emptied-words (a .total) (a .b) (a .card .now))
+
+returns : tie.Need-returns
+returns c =
+    let a = c .before .before .args in
+    good-none (a .total) (a .b) (a .card .now) (c .if1 .taken)
+
+mul-p : tie.Need-mul-p
+mul-p c = search needs
+
+used-requires : tie.Need-used-requires
+used-requires c κs = search needs
+
+header-requires : tie.Need-header-requires
+header-requires c κs = search needs
+
+headed-requires : tie.Need-headed-requires
+headed-requires c κs = search needs
+
+returns-2 : tie.Need-returns-2
+returns-2 c =
+    let i = c .before .before .before .before in
+    let a = i .before .before .args in
+    bad-header (a .total) (a .b) (a .card .now) (i .if1 .left) (sym (headed-is (c .before)) ∙ not-true _ (c .if2 .taken))
+
+add-marked : tie.Need-add-marked
+add-marked c = search needs
+
+marked-requires : tie.Need-marked-requires
+marked-requires c κs = search needs
+
+returns-3 : tie.Need-returns-3
+returns-3 c =
+    let e = c .before .before in
+    let i = e .before .before .before .before in
+    let a = i .before .before .args in
+    bad-mark (a .total) (a .b) (a .card .now) (i .if1 .left) (sym (headed-is (e .before)) ∙ not-false _ (e .if2 .left)) (sym (marked-is (c .before)) ∙ not-true _ (c .if3 .taken))
+
+add-emptied : tie.Need-add-emptied
+add-emptied c = search needs
+
+mul-emptied : tie.Need-mul-emptied
+mul-emptied c = search needs
+
+add-emptied-2 : tie.Need-add-emptied-2
+add-emptied-2 c = search needs
+
+mul-emptied-2 : tie.Need-mul-emptied-2
+mul-emptied-2 c = search needs
+
+sub-emptied : tie.Need-sub-emptied
+sub-emptied c = search needs
+
+emptied-requires : tie.Need-emptied-requires
+emptied-requires c κs = search needs
+
+returns-4 : tie.Need-returns-4
+returns-4 c =
+    let m = c .before .before in
+    let e = m .before .before in
+    let i = e .before .before .before .before in
+    let a = i .before .before .args in
+    bad-rest (a .total) (a .b) (a .card .now) (i .if1 .left) (sym (headed-is (e .before)) ∙ not-false _ (e .if2 .left)) (sym (marked-is (m .before)) ∙ not-false _ (m .if3 .left))
+    (sym (emptied-is (c .before)) ∙ not-true _ (c .if4 .taken))
+
+checked-requires : tie.Need-checked-requires
+checked-requires c κs = search needs
+
+returns-5 : tie.Need-returns-5
+unfolding blockAt
+returns-5 c =
+    let z = c .before in
+    let m = z .before .before in
+    let e = m .before .before in
+    let i = e .before .before .before .before in
+    let a = i .before .before .args in
+    c .checked .ensures
+    ∙ by-sum (a .total) (a .b) (a .card .now) (i .if1 .left) (sym (headed-is (e .before)) ∙ not-false _ (e .if2 .left)) (sym (marked-is (m .before)) ∙ not-false _ (m .if3 .left))
+    (sym (emptied-is (z .before)) ∙ not-false _ (z .if4 .left))
+
+pub good-spec : {M : Type 1} → statement M
+good-spec =
+    tie.close
+    (tie.spec
+    returns mul-p used-requires header-requires headed-requires returns-2 add-marked marked-requires returns-3
+    add-emptied mul-emptied add-emptied-2 mul-emptied-2 sub-emptied emptied-requires returns-4 checked-requires
+    returns-5)

@@ -1,0 +1,73 @@
+-- `blocks::headed` meets its contract. Assumes nothing.
+use native.Mathlib.Omega.{arith}
+use Prim.Native.Nat.{ℕ, _+_, _-_, _≤_}
+use native.Mathlib.Nat.{le-antisymm}
+use mathlib.Core.Path.{_≡_, refl, sym, _∙_, ap}
+use mathlib.Core.Bool.{Bool, true}
+use lib.Dec.{eqb}
+use lib.ListN.{getD}
+use Rattle.words.specs.Lists.{everyBelow}
+use Rattle.words.specs.Words.{wordAt}
+use Rattle.words.proofs.Lists.{every-more, every-fails}
+use Prim.Native.Nat.{ℕ, _+_, _*_, _-_, _≤_}
+use mathlib.Core.Path.{_≡_, sym, _∙_, ap}
+use lib.Dec.{eqb, leb}
+use borrow.Author.Tests.{eq-eqb, ne-eqb, le-leb, lt-leb}
+use Rattle.words.proofs.Lists.{every-none, every-more, every-fails}
+use Rattle.blocks.proofs.headed.Statement.{statement}
+use Rattle.blocks.proofs.headed.Tie as tie
+use borrow.Author.Needs.{needs}
+
+abbrev Inv-loop : tie.InvT-loop
+Inv-loop card p h i₀ i = (i ≤ 7) × (everyBelow i (λ k. eqb (wordAt card (p + k)) (getD h k 0)) ≡ true)
+
+abbrev μ-loop : tie.MeasureT-loop
+μ-loop card p h i₀ i = 7 - i
+
+loop-holds : tie.Need-loop-holds Inv-loop μ-loop
+loop-holds c =
+    let a = c .before .args in
+    (omega arith, every-none (λ k. eqb (wordAt (a .card .now) (a .p + k)) (getD (a .t3) k 0)))
+
+add-word-at : tie.Need-add-word-at Inv-loop μ-loop
+add-word-at c = search needs
+
+word-at-requires : tie.Need-word-at-requires Inv-loop μ-loop
+word-at-requires c κs = search needs
+
+mul-if1 : tie.Need-mul-if1 Inv-loop μ-loop
+mul-if1 c = search needs
+
+array-read-if1 : tie.Need-array-read-if1 Inv-loop μ-loop
+array-read-if1 c = search needs
+
+returns : tie.Need-returns Inv-loop μ-loop
+returns c =
+    let l = c .before .before .before .loop in
+    let a = c .before .before .before .before .before .args in
+    sym (every-fails 7 (l .i) (λ k. eqb (wordAt (a .card .now) (a .p + k)) (getD (a .t3) k 0)) (omega arith) (ap (λ w. eqb w (getD (a .t3) (l .i) 0)) (sym (c .before .word-at .ensures)) ∙ ne-eqb _ _ (c .if1 .taken)))
+
+add-i : tie.Need-add-i Inv-loop μ-loop
+add-i c = search needs
+
+loop-less : tie.Need-loop-less Inv-loop μ-loop
+loop-less c = search needs
+
+loop-again : tie.Need-loop-again Inv-loop μ-loop
+loop-again c =
+    let l = c .before .before .before .loop in
+    let a = c .before .before .before .before .before .args in
+    (omega arith, every-more (l .i) (λ k. eqb (wordAt (a .card .now) (a .p + k)) (getD (a .t3) k 0)) (l .inv .1) (ap (λ w. eqb w (getD (a .t3) (l .i) 0)) (sym (c .before .word-at .ensures)) ∙ eq-eqb _ _ (c .if1 .left)))
+
+returns-2 : tie.Need-returns-2 Inv-loop μ-loop
+returns-2 c =
+    let l = c .before .loop in
+    let a = c .before .before .before .args in
+    sym (ap (λ n. everyBelow n (λ k. eqb (wordAt (a .card .now) (a .p + k)) (getD (a .t3) k 0))) (sym (le-antisymm (l .inv .0) (c .loop-test .left))) ∙ l .inv .1)
+
+pub headed-spec : {M : Type 1} → statement M
+headed-spec =
+    tie.close
+    (tie.spec
+    Inv-loop μ-loop loop-holds add-word-at word-at-requires mul-if1 array-read-if1 returns add-i loop-less loop-again
+    returns-2)

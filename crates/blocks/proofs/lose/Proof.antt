@@ -1,0 +1,66 @@
+-- `blocks::lose` meets its contract. Assumes nothing.
+use native.Mathlib.Omega.{arith}
+use Prim.Native.Nat.{_+_, _*_, _-_, _≤_}
+use native.Mathlib.Nat.{le-antisymm}
+use mathlib.Core.Path.{_≡_, refl, sym, _∙_, ap}
+use lib.ListN.{length}
+use lib.Seq.{sets}
+use Rattle.words.specs.Lists.{joined}
+use Rattle.words.proofs.Lists.{length-joined, joined-more}
+use Rattle.words.proofs.Stores.{sets-join, joined-none, joined-stored}
+use Rattle.blocks.specs.Judged as spec
+use Rattle.blocks.proofs.lose.Statement.{statement}
+use Rattle.blocks.proofs.lose.Tie as tie
+use borrow.Author.Needs.{needs}
+
+abbrev Inv-loop : tie.InvT-loop
+Inv-loop answer₀ p count r₀ answer r = (r ≤ count) × (answer ≡ sets answer₀ p (joined r (λ _. spec.lost))) × (length answer ≡ length answer₀)
+
+abbrev μ-loop : tie.MeasureT-loop
+μ-loop answer₀ p count r₀ answer r = count - r
+
+loop-holds : tie.Need-loop-holds Inv-loop μ-loop
+loop-holds c =
+    let a = c .before .args in
+    (omega arith, joined-none (a .answer .now) (a .p) (λ _. spec.lost), refl)
+
+mul-lose-one : tie.Need-mul-lose-one Inv-loop μ-loop
+mul-lose-one c = search needs
+
+add-lose-one : tie.Need-add-lose-one Inv-loop μ-loop
+add-lose-one c = search needs
+
+lose-one-requires : tie.Need-lose-one-requires Inv-loop μ-loop
+lose-one-requires c κs = search needs
+
+add-r : tie.Need-add-r Inv-loop μ-loop
+add-r c = search needs
+
+loop-less : tie.Need-loop-less Inv-loop μ-loop
+loop-less c = search needs
+
+loop-again : tie.Need-loop-again Inv-loop μ-loop
+loop-again c =
+    let p = c .before .before in
+    let l = p .before .before .before .loop in
+    let a = p .before .before .before .before .before .args in (
+      omega arith,
+      p .lose-one .ensures ∙ joined-stored (a .answer .now) (l .answer) (a .p) (a .p + 10 * l .r) (λ _. spec.lost) (l .r) (ap (λ k. a .p + k) (sym (length-joined (l .r) 10 (λ _. spec.lost) (λ i h. refl)))) (l .inv .1),
+      p .lose-one .kept .0 ∙ l .inv .2,
+    )
+
+same-length : tie.Need-same-length Inv-loop μ-loop
+same-length c = search needs
+
+returns : tie.Need-returns Inv-loop μ-loop
+returns c =
+    let l = c .before .loop in
+    let a = c .before .before .before .args in
+    l .inv .1 ∙ ap (λ k. sets (a .answer .now) (a .p) (joined k (λ _. spec.lost))) (le-antisymm (l .inv .0) (c .loop-test .left))
+
+pub lose-spec : {M : Type 1} → statement M
+lose-spec =
+    tie.close
+    (tie.spec
+    Inv-loop μ-loop loop-holds mul-lose-one add-lose-one lose-one-requires add-r loop-less loop-again same-length
+    returns)

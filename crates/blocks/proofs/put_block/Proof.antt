@@ -1,0 +1,86 @@
+-- `blocks::put_block` meets its contract. Assumes nothing.
+use native.Mathlib.Omega.{arith}
+use Prim.Native.Nat.{ℕ, _*_}
+use mathlib.Core.Path.{sym, _∙_, ap}
+use Rattle.blocks.proofs.Counts.{words-are}
+use Rattle.blocks.proofs.Stored.{block-stored}
+use borrow.Author.Needs.{needs}
+use Rattle.blocks.proofs.put_block.Statement.{statement}
+use Rattle.blocks.proofs.put_block.Tie as tie
+
+mul-p : tie.Need-mul-p
+mul-p c = search needs
+
+used-requires : tie.Need-used-requires
+used-requires c κs = search needs
+
+mul-count : tie.Need-mul-count
+mul-count c = search needs
+
+header-requires : tie.Need-header-requires
+header-requires c κs = search needs
+
+slice-aggregate-put-words : tie.Need-slice-aggregate-put-words
+slice-aggregate-put-words c = search needs
+
+put-words-requires : tie.Need-put-words-requires
+put-words-requires c κs = search needs
+
+add-put-words : tie.Need-add-put-words
+add-put-words c = search needs
+
+put-words-requires-2 : tie.Need-put-words-requires-2
+put-words-requires-2 c κs =
+    let u = c .before .before .before .before .before .before .before in
+    let a = u .before .before .before .args in
+    (omega (arith, c .before .before .before .put-words .kept .0), omega (arith, words-are (a .total) (a .b), u .used .ensures .0), omega arith)
+
+add-put-zeros : tie.Need-add-put-zeros
+add-put-zeros c = search needs
+
+add-put-zeros-2 : tie.Need-add-put-zeros-2
+add-put-zeros-2 c = search needs
+
+sub-put-zeros : tie.Need-sub-put-zeros
+sub-put-zeros c = search needs
+
+put-zeros-requires : tie.Need-put-zeros-requires
+put-zeros-requires c κs = search needs
+
+add-put-word : tie.Need-add-put-word
+add-put-word c = search needs
+
+add-complement : tie.Need-add-complement
+add-complement c = omega (arith, c .before .before .before .before .before .before .before .put-words2 .ensures .2, c .before .before .before .before .before .before .before .before .before .before .before .put-words .ensures .2)
+
+complement-requires : tie.Need-complement-requires
+complement-requires c κs = search needs
+
+put-word-requires : tie.Need-put-word-requires
+put-word-requires c κs = search needs
+
+same-length : tie.Need-same-length
+same-length c = search needs
+
+returns : tie.Need-returns
+returns c =
+    let p = c .before .before in
+    let z = p .before .before .before .before .before in
+    let r = z .before .before .before .before in
+    let w = r .before .before .before .before in
+    let u = w .before .before .before .before in
+    let s = u .before .before .before in
+    let a = s .args in
+    let e = ap (λ (k : ℕ). 10 * k) (u .used .ensures .0) ∙ sym (words-are (a .total) (a .b)) in
+    block-stored (a .card .now) (w .before .before .before .header .result) (a .records .now) (a .at) (a .total) (a .b) (a .from) (10 * u .used .result) (w .before .before .before .header .ensures) e
+    (omega (arith, e, s .pre .2)) (w .put-words .last .0) (r .put-words2 .last .0) (z .put-zeros .last .0) (p .put-word .last .0) (w .put-words .result) (r .put-words2 .result)
+    (p .before .complement .result) (w .put-words .ensures .0) (r .put-words2 .ensures .0) (z .put-zeros .ensures) (p .put-word .ensures) (w .put-words .ensures .1) (r .put-words2 .ensures .1)
+    (p .before .complement .ensures)
+
+pub put-block-spec : {M : Type 1} → statement M
+put-block-spec =
+    tie.close
+    (tie.spec
+    mul-p used-requires mul-count header-requires slice-aggregate-put-words put-words-requires add-put-words
+    put-words-requires-2 add-put-zeros add-put-zeros-2 sub-put-zeros put-zeros-requires add-put-word add-complement
+    complement-requires put-word-requires same-length returns)

@@ -1,0 +1,74 @@
+-- `blocks::read_block` meets its contract. Assumes nothing.
+use native.Mathlib.Omega.{arith}
+use Prim.Native.Nat.{ℕ, _+_, _*_}
+use mathlib.Core.Path.{sym, _∙_, ap}
+use lib.Seq.{sets}
+use Rattle.words.specs.Lists.{joined}
+use Rattle.words.specs.Words.{wordsAt}
+use Rattle.blocks.specs.Judged.{lost}
+use Rattle.blocks.proofs.Counts.{words-are}
+use Rattle.blocks.proofs.Judged.{good-there, read-good, read-lost}
+use borrow.Author.Needs.{needs}
+use Rattle.blocks.proofs.read_block.Statement.{statement}
+use Rattle.blocks.proofs.read_block.Tie as tie
+
+used-requires : tie.Need-used-requires
+used-requires c κs = search needs
+
+good-requires : tie.Need-good-requires
+good-requires c κs = search needs
+
+mul-get-words : tie.Need-mul-get-words
+mul-get-words c = search needs
+
+add-get-words : tie.Need-add-get-words
+add-get-words c = search needs
+
+mul-get-words-2 : tie.Need-mul-get-words-2
+mul-get-words-2 c = search needs
+
+mul-get-words-3 : tie.Need-mul-get-words-3
+mul-get-words-3 c = search needs
+
+get-words-requires : tie.Need-get-words-requires
+get-words-requires c κs =
+    let g = c .before .before in
+    let a = g .before .before .before .before .args in
+    let there = good-there (a .total) (a .b) (a .card .now) (sym (g .good2 .ensures) ∙ c .before .if1 .taken) in
+    (omega (arith, there), omega arith)
+
+mul-lose : tie.Need-mul-lose
+mul-lose c = search needs
+
+lose-requires : tie.Need-lose-requires
+lose-requires c κs = search needs
+
+same-length : tie.Need-same-length
+same-length c = search needs
+
+returns : tie.Need-returns
+returns c =
+    let g = c .before .before .before .before .before in
+    let u = g .before in
+    let a = u .before .before .before .args in
+    let e = ap (λ (k : ℕ). 10 * k) (u .used .ensures .0) ∙ sym (words-are (a .total) (a .b)) in
+    c .before .before .get-words .ensures
+    ∙ ap (sets (a .answer .now) (120 * a .b)) (ap (wordsAt (a .card .now) (128 * a .b + 7)) e ∙ sym (read-good (a .total) (a .b) (a .card .now) (sym (g .good2 .ensures) ∙ c .before .before .before .before .if1 .taken)))
+
+same-length-2 : tie.Need-same-length-2
+same-length-2 c = search needs
+
+returns-2 : tie.Need-returns-2
+returns-2 c =
+    let g = c .before .before .before .before .before in
+    let u = g .before in
+    let a = u .before .before .before .args in
+    c .before .before .lose .ensures
+    ∙ ap (sets (a .answer .now) (120 * a .b)) (ap (λ (k : ℕ). joined k (λ _. lost)) (u .used .ensures .0) ∙ sym (read-lost (a .total) (a .b) (a .card .now) (sym (g .good2 .ensures) ∙ c .before .before .before .before .if1 .left)))
+
+pub read-block-spec : {M : Type 1} → statement M
+read-block-spec =
+    tie.close
+    (tie.spec
+    used-requires good-requires mul-get-words add-get-words mul-get-words-2 mul-get-words-3 get-words-requires
+    mul-lose lose-requires same-length returns same-length-2 returns-2)

@@ -1,0 +1,79 @@
+-- `cards::read_blocks` meets its contract. Assumes nothing.
+use native.Mathlib.Omega.{arith}
+use Prim.Native.Nat.{ℕ, _+_, _*_, _-_, _≤_}
+use native.Mathlib.Nat.{le-antisymm}
+use mathlib.Core.Path.{_≡_, refl, sym, _∙_, ap}
+use mathlib.Core.List.{List, _++_}
+use lib.ListN.{length, drop}
+use lib.Seq.{sets}
+use Rattle.words.specs.Lists.{joined}
+use Rattle.words.proofs.Stores.{joined-none, joined-stored, sets-front}
+use Rattle.blocks.specs.Format.{blocksFor}
+use Rattle.blocks.specs.Judged.{recordsRead}
+use Rattle.blocks.proofs.Counts.{called}
+use Rattle.cards.specs.Reader.{readings}
+use Rattle.cards.proofs.Lengths.{length-before, length-readings}
+use Rattle.cards.proofs.read_blocks.Statement.{statement}
+use Rattle.cards.proofs.read_blocks.Tie as tie
+use borrow.Author.Needs.{needs}
+
+abbrev Inv-loop : tie.InvT-loop
+Inv-loop card total answer₀ b₀ b-end answer b = (b ≤ b-end) × (answer ≡ sets answer₀ 0 (joined b (λ k. recordsRead total k card))) × (length answer ≡ length answer₀)
+
+abbrev μ-loop : tie.MeasureT-loop
+μ-loop card total answer₀ b₀ b-end answer b = b-end - b
+
+blocks-for-requires : tie.Need-blocks-for-requires Inv-loop μ-loop
+blocks-for-requires c κs = search needs
+
+loop-holds : tie.Need-loop-holds Inv-loop μ-loop
+loop-holds c =
+    let a = c .before .before .before .args in
+    (omega arith, joined-none (a .answer .now) 0 (λ k. recordsRead (a .total) k (a .card .now)), refl)
+
+read-block-requires : tie.Need-read-block-requires Inv-loop μ-loop
+read-block-requires c κs =
+    let l = c .before .before .loop in
+    let f = c .before .before .before in
+    let s = f .before .before .before in
+    (called (s .args .total) (l .b) (omega (arith, f .blocks-for .ensures .0, c .before .loop-test .taken)), omega (arith, s .pre, l .inv .2))
+
+add-b : tie.Need-add-b Inv-loop μ-loop
+add-b c = search needs
+
+loop-less : tie.Need-loop-less Inv-loop μ-loop
+loop-less c = search needs
+
+loop-again : tie.Need-loop-again Inv-loop μ-loop
+loop-again c =
+    let p = c .before .before in
+    let l = p .before .before .before .loop in
+    let f = p .before .before .before .before in
+    let a = f .before .before .before .args in (
+      omega arith,
+      p .read-block .ensures
+          ∙ joined-stored (a .answer .now) (l .answer) 0 (120 * l .b) (λ k. recordsRead (a .total) k (a .card .now)) (l .b)
+          (omega (arith, length-before (a .total) (l .b) (a .card .now) (omega (arith, f .blocks-for .ensures .0, p .before .before .loop-test .taken)))) (l .inv .1),
+      p .read-block .kept .1 .1 .1 .0 ∙ l .inv .2,
+    )
+
+same-length : tie.Need-same-length Inv-loop μ-loop
+same-length c = search needs
+
+returns : tie.Need-returns Inv-loop μ-loop
+unfolding readings
+returns c =
+    let l = c .before .loop in
+    let f = c .before .before in
+    let s = f .before .before .before in
+    let a = s .args in
+    let e = le-antisymm (l .inv .0) (c .loop-test .left) ∙ f .blocks-for .ensures .0 in
+    l .inv .1
+    ∙ (ap (λ k. sets (a .answer .now) 0 (joined k (λ b. recordsRead (a .total) b (a .card .now)))) e
+    ∙ sets-front (a .answer .now) (readings (a .total) (a .card .now)) (10 * a .total) (length-readings (a .total) (a .card .now)) (s .pre))
+
+pub read-blocks-spec : {M : Type 1} → statement M
+read-blocks-spec =
+    tie.close
+    (tie.spec
+    Inv-loop μ-loop blocks-for-requires loop-holds read-block-requires add-b loop-less loop-again same-length returns)

@@ -1,0 +1,87 @@
+-- `cards::write_blocks` meets its contract. Assumes nothing.
+use native.Mathlib.Omega.{arith}
+use Prim.Native.Nat.{ℕ, _+_, _*_, _-_, _≤_}
+use native.Mathlib.Nat.{le-antisymm}
+use mathlib.Core.Path.{_≡_, refl, sym, _∙_, ap}
+use mathlib.Core.List.{List, _++_}
+use lib.ListN.{length, drop}
+use lib.Seq.{sets}
+use Rattle.words.proofs.Stores.{joined-none, joined-stored, sets-front}
+use Rattle.blocks.specs.Format.{blocksFor, recordsIn, blockOf}
+use Rattle.blocks.proofs.Counts.{words-are, used-fits, called}
+use Rattle.cards.specs.Writer.{cardBytes, blocksOf}
+use Rattle.cards.proofs.Lengths.{length-blocks}
+use Rattle.cards.proofs.write_blocks.Statement.{statement}
+use Rattle.cards.proofs.write_blocks.Tie as tie
+use borrow.Author.Needs.{needs}
+
+abbrev Inv-loop : tie.InvT-loop
+Inv-loop answer total card₀ b₀ b-end card b = (b ≤ b-end) × (card ≡ sets card₀ 0 (blocksOf b total answer)) × (length card ≡ length card₀)
+
+abbrev μ-loop : tie.MeasureT-loop
+μ-loop answer total card₀ b₀ b-end card b = b-end - b
+
+blocks-for-requires : tie.Need-blocks-for-requires Inv-loop μ-loop
+blocks-for-requires c κs = search needs
+
+loop-holds : tie.Need-loop-holds Inv-loop μ-loop
+unfolding blocksOf
+loop-holds c =
+    let a = c .before .before .before .args in
+    (omega arith, joined-none (a .card .now) 0 (λ b. blockOf (a .total) b (recordsIn (a .total) b (a .answer .now))), refl)
+
+mul-put-block : tie.Need-mul-put-block Inv-loop μ-loop
+mul-put-block c = search needs
+
+put-block-requires : tie.Need-put-block-requires Inv-loop μ-loop
+unfolding cardBytes
+put-block-requires c κs =
+    let l = c .before .before .loop in
+    let f = c .before .before .before in
+    let a = f .before .before .before .args in
+    let k = called (a .total) (l .b) (omega (arith, f .blocks-for .ensures .0, c .before .loop-test .taken)) in
+    (omega (arith, f .blocks-for .ensures .0, f .before .before .before .pre .1, l .inv .2), k, omega (arith, words-are (a .total) (l .b), used-fits (a .total) (l .b) k))
+
+add-b : tie.Need-add-b Inv-loop μ-loop
+add-b c = search needs
+
+loop-less : tie.Need-loop-less Inv-loop μ-loop
+loop-less c = search needs
+
+loop-again : tie.Need-loop-again Inv-loop μ-loop
+unfolding blocksOf recordsIn
+loop-again c =
+    let p = c .before .before in
+    let l = p .before .before .before .loop in
+    let f = p .before .before .before .before in
+    let s = f .before .before .before in
+    let a = s .args in (
+      omega arith,
+      p .put-block .ensures
+          ∙ joined-stored (a .card .now) (l .card) 0 (512 * l .b) (λ b. blockOf (a .total) b (recordsIn (a .total) b (a .answer .now))) (l .b)
+          (omega (arith, length-blocks (l .b) (a .total) (a .answer .now) (s .pre .0) (omega (arith, f .blocks-for .ensures .0, l .inv .0)))) (l .inv .1),
+      p .put-block .kept .0 ∙ l .inv .2,
+    )
+
+same-length : tie.Need-same-length Inv-loop μ-loop
+same-length c = search needs
+
+returns : tie.Need-returns Inv-loop μ-loop
+unfolding cardBytes
+returns c =
+    let l = c .before .loop in
+    let f = c .before .before in
+    let s = f .before .before .before in
+    let a = s .args in
+    let e = le-antisymm (l .inv .0) (c .loop-test .left) ∙ f .blocks-for .ensures .0 in
+    l .inv .1
+    ∙ (ap (λ k. sets (a .card .now) 0 (blocksOf k (a .total) (a .answer .now))) e
+    ∙ sets-front (a .card .now) (blocksOf (blocksFor (a .total)) (a .total) (a .answer .now)) (512 * blocksFor (a .total)) (length-blocks (blocksFor (a .total)) (a .total) (a .answer .now) (s .pre .0) (omega arith))
+    (s .pre .1))
+
+pub write-blocks-spec : {M : Type 1} → statement M
+write-blocks-spec =
+    tie.close
+    (tie.spec
+    Inv-loop μ-loop blocks-for-requires loop-holds mul-put-block put-block-requires add-b loop-less loop-again
+    same-length returns)

@@ -1,0 +1,67 @@
+-- `words::get_words` meets its contract. Assumes nothing.
+use native.Mathlib.Omega.{arith}
+use Prim.Native.Nat.{_*_, _-_, _≤_}
+use native.Mathlib.Nat.{le-antisymm}
+use mathlib.Core.Path.{_≡_, refl, _∙_, ap}
+use lib.ListN.{length, set, length-set}
+use lib.Seq.{sets}
+use Rattle.words.specs.Words.{wordAt, wordsAt}
+use Rattle.words.proofs.Words.{get-none, get-more}
+use Prim.Native.Nat.{_+_, _*_, _-_, _≤_}
+use Rattle.words.proofs.get_words.Statement.{statement}
+use Rattle.words.proofs.get_words.Tie as tie
+use borrow.Author.Needs.{needs}
+
+abbrev Inv-loop : tie.InvT-loop
+Inv-loop bytes from words₀ to count i₀ words i = (i ≤ count) × (words ≡ sets words₀ to (wordsAt bytes from i)) × (length words ≡ length words₀)
+
+abbrev μ-loop : tie.MeasureT-loop
+μ-loop bytes from words₀ to count i₀ words i = count - i
+
+loop-holds : tie.Need-loop-holds Inv-loop μ-loop
+loop-holds c =
+    let a = c .before .before .args in
+    (omega arith, get-none (a .bytes .now) (a .from) (a .words .now) (a .to), refl)
+
+add-word-at : tie.Need-add-word-at Inv-loop μ-loop
+add-word-at c = search needs
+
+word-at-requires : tie.Need-word-at-requires Inv-loop μ-loop
+word-at-requires c κs = search needs
+
+add-words : tie.Need-add-words Inv-loop μ-loop
+add-words c = search needs
+
+mul-words : tie.Need-mul-words Inv-loop μ-loop
+mul-words c = search needs
+
+slice-write-words : tie.Need-slice-write-words Inv-loop μ-loop
+slice-write-words c = search needs
+
+add-i : tie.Need-add-i Inv-loop μ-loop
+add-i c = search needs
+
+loop-less : tie.Need-loop-less Inv-loop μ-loop
+loop-less c = search needs
+
+loop-again : tie.Need-loop-again Inv-loop μ-loop
+loop-again c =
+    let l = c .before .before .loop in
+    let a = c .before .before .before .before .before .args in
+    (omega arith, ap (set (l .words) (a .to + l .i)) (c .word-at .ensures) ∙ get-more (a .bytes .now) (a .from) (a .words .now) (l .words) (a .to) (l .i) (l .inv .1), simp length-set (l .inv .2))
+
+same-length : tie.Need-same-length Inv-loop μ-loop
+same-length c = search needs
+
+returns : tie.Need-returns Inv-loop μ-loop
+returns c =
+    let l = c .before .loop in
+    let a = c .before .before .before .before .args in
+    l .inv .1 ∙ ap (λ k. sets (a .words .now) (a .to) (wordsAt (a .bytes .now) (a .from) k)) (le-antisymm (l .inv .0) (c .loop-test .left))
+
+pub get-words-spec : {M : Type 1} → statement M
+get-words-spec =
+    tie.close
+    (tie.spec
+    Inv-loop μ-loop loop-holds add-word-at word-at-requires add-words mul-words slice-write-words add-i loop-less
+    loop-again same-length returns)

@@ -1,0 +1,63 @@
+//! What can happen to a card.
+use crate::plain::{BLOCK, check_word, put_words, words_of};
+use crate::random::Random;
+
+/// One misfortune of a card's bytes.
+pub fn damage(random: &mut Random, card: &mut Vec<u8>) {
+    let blocks = card.len() / BLOCK;
+    if blocks == 0 {
+        return tail(random, card);
+    }
+    let b = random.below(blocks);
+    match random.below(9) {
+        0 => flip_bit(random, card),
+        1 => one_word(random, block(card, b), false),
+        2 | 3 => one_word(random, block(card, b), true),
+        4 => swap(card, b, random.below(blocks)),
+        5 => double(card, b),
+        6 => drop(card.drain(b * BLOCK..(b + 1) * BLOCK)),
+        7 => card.truncate(random.below(card.len() + 1)),
+        _ => tail(random, card),
+    }
+}
+
+/// Block b of a card.
+fn block(card: &mut [u8], b: usize) -> &mut [u8] {
+    &mut card[b * BLOCK..(b + 1) * BLOCK]
+}
+
+/// One bit turned.
+fn flip_bit(random: &mut Random, card: &mut [u8]) {
+    let at = random.below(card.len());
+    card[at] ^= 1 << random.below(8);
+}
+
+/// One word changed, the early ones more often; with the sum set right again, so that the other rules are put to the test.
+fn one_word(random: &mut Random, block: &mut [u8], mend: bool) {
+    let mut words = words_of(block);
+    let at = random.pick(&[0, 1, 2, 3, 4, 5, 6, 7, random.below(128), 7 + 10 * random.below(12), 126]);
+    words[at] = random.pick(&[0, 1, 2, 3, 12, 13, words[at].wrapping_add(1), words[at].wrapping_sub(1), random.word()]);
+    if mend {
+        words[127] = check_word(&words);
+    }
+    put_words(block, &words);
+}
+
+/// Two blocks exchanged.
+pub fn swap(card: &mut [u8], a: usize, b: usize) {
+    for i in 0..BLOCK {
+        card.swap(a * BLOCK + i, b * BLOCK + i);
+    }
+}
+
+/// A block written twice, the later ones moved on.
+pub fn double(card: &mut Vec<u8>, b: usize) {
+    let twice = block(card, b).to_vec();
+    card.splice(b * BLOCK..b * BLOCK, twice);
+}
+
+/// Bytes past the end.
+fn tail(random: &mut Random, card: &mut Vec<u8>) {
+    let count = random.pick(&[1, 3, 511, 512, 513, 1024, random.below(1500)]);
+    card.extend((0..count).map(|_| random.word() as u8));
+}

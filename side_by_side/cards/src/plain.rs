@@ -1,0 +1,98 @@
+//! The card of request E1, written and read plainly, from the request's text alone.
+
+/// The bytes of a block.
+pub const BLOCK: usize = 512;
+/// The words of a block.
+const WORDS: usize = BLOCK / 4;
+/// The words of a record.
+pub const WIDTH: usize = 10;
+/// The records that a block holds.
+pub const HELD: usize = 12;
+/// The words before the records.
+const AHEAD: usize = 7;
+
+/// What a call returns: the number of a refusal and 0, or 0 and a number of bytes.
+pub type Said = (u32, usize);
+
+/// The complement of the sum of all words but the last.
+pub fn check_word(words: &[u32; WORDS]) -> u32 {
+    !words[..WORDS - 1]
+        .iter()
+        .fold(0u32, |sum, word| sum.wrapping_add(*word))
+}
+
+/// The words of a block of bytes.
+pub fn words_of(block: &[u8]) -> [u32; WORDS] {
+    let mut words = [0; WORDS];
+    for (word, bytes) in words.iter_mut().zip(block.chunks_exact(4)) {
+        *word = u32::from_le_bytes(bytes.try_into().unwrap());
+    }
+    words
+}
+
+/// Words into a block of bytes.
+pub fn put_words(block: &mut [u8], words: &[u32; WORDS]) {
+    for (bytes, word) in block.chunks_exact_mut(4).zip(words) {
+        bytes.copy_from_slice(&word.to_le_bytes());
+    }
+}
+
+/// Answer words to a card.
+pub fn write(answer: &[u32], card: &mut [u8]) -> Said {
+    let records = answer.chunks_exact(WIDTH);
+    if !records.remainder().is_empty() || records.len() > u32::MAX as usize {
+        return (1, 0);
+    }
+    let total = records.len() as u32;
+    if records.into_iter().any(|record| record[0] > 1) {
+        return (1, 0);
+    }
+    let parts = answer.chunks(HELD * WIDTH);
+    let bytes = parts.len() * BLOCK;
+    let Some(card) = card.get_mut(..bytes) else {
+        return (2, 0);
+    };
+    for (number, (part, block)) in parts.zip(card.chunks_exact_mut(BLOCK)).enumerate() {
+        let mut words = [0; WORDS];
+        words[0] = number as u32;
+        words[1] = (part.len() / WIDTH) as u32;
+        words[2] = total;
+        words[AHEAD..AHEAD + part.len()].copy_from_slice(part);
+        words[WORDS - 1] = check_word(&words);
+        put_words(block, &words);
+    }
+    (0, bytes)
+}
+
+/// Whether the words of a block are what its place calls for: so many records of the total.
+fn sound(words: &[u32; WORDS], number: usize, used: usize, total: u32) -> bool {
+    let (records, rest) = words[AHEAD..WORDS - 1].split_at(used * WIDTH);
+    words[0] as usize == number
+        && words[1] as usize == used
+        && words[2] == total
+        && words[3..AHEAD].iter().all(|word| *word == 0)
+        && records.chunks_exact(WIDTH).all(|record| record[0] <= 1)
+        && rest.iter().all(|word| *word == 0)
+        && words[WORDS - 1] == check_word(words)
+}
+
+/// The records of a card.
+pub fn read(card: &[u8], total: u32, answer: &mut [u32]) -> Said {
+    let Some(answer) = answer.get_mut(..total as usize * WIDTH) else {
+        return (2, 0);
+    };
+    let mut past = card.len();
+    let mut blocks = card.chunks_exact(BLOCK);
+    for (number, part) in answer.chunks_mut(HELD * WIDTH).enumerate() {
+        let words = blocks.next().map(words_of);
+        past -= if words.is_some() { BLOCK } else { 0 };
+        match words.filter(|words| sound(words, number, part.len() / WIDTH, total)) {
+            Some(words) => part.copy_from_slice(&words[AHEAD..AHEAD + part.len()]),
+            None => part
+                .iter_mut()
+                .enumerate()
+                .for_each(|(i, word)| *word = if i % WIDTH == 0 { 2 } else { 0 }),
+        }
+    }
+    (0, past)
+}

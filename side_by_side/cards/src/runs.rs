@@ -1,0 +1,144 @@
+//! What is run: random cards, and every misfortune of a card of three blocks.
+use crate::compare;
+use crate::damage::{damage, double, swap};
+use crate::plain::{BLOCK, HELD, WIDTH, put_words, words_of};
+use crate::random::Random;
+
+/// So many random records; the words 0 are 0 or 1.
+fn records(random: &mut Random, count: usize) -> Vec<u32> {
+    (0..count * WIDTH)
+        .map(|i| match i % WIDTH {
+            0 => random.below(2) as u32,
+            _ => random.word(),
+        })
+        .collect()
+}
+
+/// A list to write: whole records most of the time.
+fn answer(random: &mut Random) -> Vec<u32> {
+    let count = random.pick(&[0, 1, 11, 12, 13, 24, random.below(60), random.below(60), random.below(200)]);
+    let mut list = records(random, count);
+    if random.chance(1, 16) {
+        list.truncate(random.below(list.len() + 1));
+    }
+    if random.chance(1, 16) && !list.is_empty() {
+        let at = WIDTH * random.below(list.len().div_ceil(WIDTH));
+        list[at] = random.pick(&[2, 3, 256, 65_536, 1 << 24, 1 << 31, u32::MAX]);
+    }
+    list
+}
+
+/// A length near the one that is needed.
+fn room(random: &mut Random, need: usize) -> usize {
+    match random.below(8) {
+        0 => need.saturating_sub(1),
+        1 => random.below(need + 1),
+        2 => need + random.below(700),
+        _ => need,
+    }
+}
+
+/// One random card: written, damaged, read.
+pub fn random_card(random: &mut Random) -> Result<(), String> {
+    let list = answer(random);
+    let need = (list.len() / WIDTH).div_ceil(HELD) * BLOCK;
+    let lent = room(random, need);
+    let ((number, bytes), mut card) = compare::write(&list, lent)?;
+    if number == 0 {
+        card.truncate(bytes);
+    }
+    let total = (list.len() / WIDTH) as u32;
+    if number == 0 {
+        let (said, back) = compare::read(&card, total, list.len())?;
+        if said != (0, 0) || back != list {
+            return Err("what was written does not read back".into());
+        }
+    }
+    for _ in 0..random.below(4) {
+        damage(random, &mut card);
+    }
+    let total = random.pick(&[total, total, total, total + 1, total.saturating_sub(1), random.below(300) as u32]);
+    let lent = room(random, total as usize * WIDTH);
+    compare::read(&card, total, lent).map(|_| ())
+}
+
+/// A card and its records, of three blocks, the last one part full.
+struct Three {
+    list: Vec<u32>,
+    card: Vec<u8>,
+}
+
+impl Three {
+    fn new(random: &mut Random, count: usize) -> Result<Three, String> {
+        let list = records(random, count);
+        let (_, card) = compare::write(&list, 3 * BLOCK)?;
+        Ok(Three { list, card })
+    }
+
+    /// Reads a card and compares it with the records, of which some blocks are lost.
+    fn read(&self, card: &[u8], lost: impl Fn(usize) -> bool, past: usize) -> Result<(), String> {
+        let (said, back) = compare::read(card, (self.list.len() / WIDTH) as u32, self.list.len())?;
+        let meant: Vec<u32> = (0..self.list.len())
+            .map(|i| match (lost(i / WIDTH / HELD), i % WIDTH) {
+                (false, _) => self.list[i],
+                (true, 0) => 2,
+                (true, _) => 0,
+            })
+            .collect();
+        if said != (0, past) || back != meant {
+            return Err(format!("read {said:?}, meant {past} bytes past, or other records"));
+        }
+        Ok(())
+    }
+}
+
+/// Every change of one word of a card of three blocks: each bit turned, and some other words.
+pub fn single_words(random: &mut Random) -> Result<u64, String> {
+    let mut count = 0;
+    let three = Three::new(random, 29)?;
+    for at in 0..3 * BLOCK / 4 {
+        let (b, i) = (at * 4 / BLOCK, at % (BLOCK / 4));
+        let words = words_of(&three.card[b * BLOCK..(b + 1) * BLOCK]);
+        let bits = (0..32).map(|bit| words[i] ^ 1 << bit);
+        let more: Vec<u32> = (0..32).map(|_| random.word()).chain([0, 1, !words[i]]).collect();
+        for word in bits.chain(more).filter(|word| *word != words[i]) {
+            let mut card = three.card.clone();
+            let mut changed = words;
+            changed[i] = word;
+            put_words(&mut card[b * BLOCK..(b + 1) * BLOCK], &changed);
+            three.read(&card, |k| k == b, 0)?;
+            count += 1;
+        }
+    }
+    Ok(count)
+}
+
+/// Blocks exchanged, doubled, dropped; the card cut at every length, and every number of bytes up to a block past it.
+pub fn moved_blocks(random: &mut Random) -> Result<u64, String> {
+    let mut count = 0;
+    for records in [25, 29, 35, 36] {
+        let three = Three::new(random, records)?;
+        for a in 0..3 {
+            for b in 0..3 {
+                let mut card = three.card.clone();
+                swap(&mut card, a, b);
+                three.read(&card, |k| a != b && (k == a || k == b), 0)?;
+            }
+            let mut card = three.card.clone();
+            double(&mut card, a);
+            three.read(&card, |k| a < k, BLOCK)?;
+            let mut card = three.card.clone();
+            card.drain(a * BLOCK..(a + 1) * BLOCK);
+            three.read(&card, |k| a <= k, 0)?;
+            count += 5;
+        }
+        for length in 0..=4 * BLOCK {
+            let mut card = three.card.clone();
+            card.resize(length, 0);
+            let whole = (length / BLOCK).min(3);
+            three.read(&card, |k| whole <= k, length - whole * BLOCK)?;
+            count += 1;
+        }
+    }
+    Ok(count)
+}
