@@ -38,6 +38,9 @@ pub fn bench(random: &mut Random) {
     assert!(back == list);
     println!("{RECORDS} records, {bytes} bytes, best of {ROUNDS} rounds, MB a second:");
     for (what, [plain, ours]) in [("write", written), ("read", read)] {
-        println!("{what}: Rust {plain:.0}, ours {ours:.0}, ours to Rust {:.2}", ours / plain);
+        println!(
+            "{what}: Rust {plain:.0}, ours {ours:.0}, ours to Rust {:.2}",
+            ours / plain
+        );
     }
 }

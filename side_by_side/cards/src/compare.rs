@@ -1,6 +1,6 @@
 //! Both writers and both readers on the same lists, every byte and word of them, also outside what was lent.
-use crate::plain::{self, Said};
 use crate::ours;
+use crate::plain::{self, Said};
 use std::fmt::Debug;
 
 /// How many elements stand on each side of a lent list.
@@ -28,7 +28,10 @@ fn lent<T>(fill: fn(usize) -> T, count: usize, call: impl Fn(&mut [T]) -> Said) 
 /// What both leave, if it is the same; else what differs.
 fn same<T: PartialEq + Debug>(who: &str, plain: Left<T>, ours: Left<T>) -> Result<Left<T>, String> {
     if plain.0 != ours.0 {
-        return Err(format!("{who}: plain says {:?}, ours {:?}", plain.0, ours.0));
+        return Err(format!(
+            "{who}: plain says {:?}, ours {:?}",
+            plain.0, ours.0
+        ));
     }
     match (0..plain.1.len()).find(|&i| plain.1[i] != ours.1[i]) {
         Some(i) => Err(format!(

@@ -35,8 +35,11 @@ fn flip_bit(random: &mut Random, card: &mut [u8]) {
 /// One word changed, the early ones more often; with the sum set right again, so that the other rules are put to the test.
 fn one_word(random: &mut Random, block: &mut [u8], mend: bool) {
     let mut words = words_of(block);
-    let at = random.pick(&[0, 1, 2, 3, 4, 5, 6, 7, random.below(128), 7 + 10 * random.below(12), 126]);
-    words[at] = random.pick(&[0, 1, 2, 3, 12, 13, words[at].wrapping_add(1), words[at].wrapping_sub(1), random.word()]);
+    let (any, record) = (random.below(128), 7 + 10 * random.below(12));
+    let at = random.pick(&[0, 1, 2, 3, 4, 5, 6, 7, any, record, 126]);
+    let (old, other) = (words[at], random.word());
+    let near = [old.wrapping_add(1), old.wrapping_sub(1)];
+    words[at] = random.pick(&[0, 1, 2, 3, 12, 13, near[0], near[1], other]);
     if mend {
         words[127] = check_word(&words);
     }
@@ -58,6 +61,7 @@ pub fn double(card: &mut Vec<u8>, b: usize) {
 
 /// Bytes past the end.
 fn tail(random: &mut Random, card: &mut Vec<u8>) {
-    let count = random.pick(&[1, 3, 511, 512, 513, 1024, random.below(1500)]);
+    let any = random.below(1500);
+    let count = random.pick(&[1, 3, 511, 512, 513, 1024, any]);
     card.extend((0..count).map(|_| random.word() as u8));
 }

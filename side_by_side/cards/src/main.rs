@@ -22,10 +22,19 @@ struct Asked {
 
 /// The words of the command line.
 fn asked() -> Result<Asked, String> {
-    let mut asked = Asked { seed: 1, count: 100_000, bench: false };
+    let mut asked = Asked {
+        seed: 1,
+        count: 100_000,
+        bench: false,
+    };
     let mut words = args().skip(1);
     while let Some(word) = words.next() {
-        let mut number = || words.next().and_then(|w| w.parse().ok()).ok_or(format!("{word} wants a number"));
+        let mut number = || {
+            words
+                .next()
+                .and_then(|w| w.parse().ok())
+                .ok_or(format!("{word} wants a number"))
+        };
         match word.as_str() {
             "--seed" => asked.seed = number()?,
             "--count" => asked.count = number()?,
@@ -44,7 +53,8 @@ fn run(asked: &Asked) -> Result<(), String> {
     let moved = runs::moved_blocks(&mut Random::of(seed, "moved", 0))?;
     println!("blocks exchanged, doubled, dropped, cards cut at every length: {moved} cards");
     for case in 0..asked.count {
-        runs::random_card(&mut Random::of(seed, "cards", case)).map_err(|what| format!("seed {seed}, card {case}: {what}"))?;
+        runs::random_card(&mut Random::of(seed, "cards", case))
+            .map_err(|what| format!("seed {seed}, card {case}: {what}"))?;
     }
     println!("random cards, written, damaged and read: {}", asked.count);
     Ok(())

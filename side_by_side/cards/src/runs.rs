@@ -16,7 +16,8 @@ fn records(random: &mut Random, count: usize) -> Vec<u32> {
 
 /// A list to write: whole records most of the time.
 fn answer(random: &mut Random) -> Vec<u32> {
-    let count = random.pick(&[0, 1, 11, 12, 13, 24, random.below(60), random.below(60), random.below(200)]);
+    let (few, many) = (random.below(60), random.below(200));
+    let count = random.pick(&[0, 1, 11, 12, 13, 24, few, few, many]);
     let mut list = records(random, count);
     if random.chance(1, 16) {
         list.truncate(random.below(list.len() + 1));
@@ -57,7 +58,8 @@ pub fn random_card(random: &mut Random) -> Result<(), String> {
     for _ in 0..random.below(4) {
         damage(random, &mut card);
     }
-    let total = random.pick(&[total, total, total, total + 1, total.saturating_sub(1), random.below(300) as u32]);
+    let any = random.below(300) as u32;
+    let total = random.pick(&[total, total, total, total + 1, total.saturating_sub(1), any]);
     let lent = room(random, total as usize * WIDTH);
     compare::read(&card, total, lent).map(|_| ())
 }
@@ -86,7 +88,9 @@ impl Three {
             })
             .collect();
         if said != (0, past) || back != meant {
-            return Err(format!("read {said:?}, meant {past} bytes past, or other records"));
+            return Err(format!(
+                "read {said:?}, meant {past} bytes past, or other records"
+            ));
         }
         Ok(())
     }
@@ -100,7 +104,10 @@ pub fn single_words(random: &mut Random) -> Result<u64, String> {
         let (b, i) = (at * 4 / BLOCK, at % (BLOCK / 4));
         let words = words_of(&three.card[b * BLOCK..(b + 1) * BLOCK]);
         let bits = (0..32).map(|bit| words[i] ^ 1 << bit);
-        let more: Vec<u32> = (0..32).map(|_| random.word()).chain([0, 1, !words[i]]).collect();
+        let more: Vec<u32> = (0..32)
+            .map(|_| random.word())
+            .chain([0, 1, !words[i]])
+            .collect();
         for word in bits.chain(more).filter(|word| *word != words[i]) {
             let mut card = three.card.clone();
             let mut changed = words;
