@@ -1,5 +1,5 @@
 -- How many records and words a block has. Assumes nothing.
-use Prim.Native.Nat.{ℕ, suc, _+_, _*_, _-_, _/_, _≤_, _<_, min}
+use Prim.Native.Nat.{ℕ, suc, _+_, _*_, _/_, _%_, _≤_, _<_}
 use native.Mathlib.Omega.{arith}
 use mathlib.Core.Path.{_≡_}
 use Rattle.blocks.specs.Format.{blocksFor, used, usedWords}
@@ -46,3 +46,12 @@ last-block n m h = omega arith
 pub no-blocks : (n : ℕ) → blocksFor n ≡ 0 → n ≡ 0
 unfolding blocksFor
 no-blocks n h = omega arith
+
+-- the block of record k, and its place there
+pub block-of : (n k : ℕ) → k < n → k / 12 < blocksFor n
+unfolding blocksFor
+block-of n k h = omega arith
+
+pub place-of : (n k : ℕ) → k < n → k % 12 < used n (k / 12)
+unfolding used
+place-of n k h = omega arith

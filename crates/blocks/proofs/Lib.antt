@@ -1,3 +1,6 @@
 pub mod Counts
-pub mod Judged
 pub mod Stored
+pub mod Judged
+pub mod Written
+pub mod Changed
+pub mod Same

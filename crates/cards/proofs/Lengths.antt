@@ -1,10 +1,10 @@
 -- How long the blocks of a card and what is read from them are. Assumes nothing.
-use Prim.Native.Nat.{ℕ, zero, suc, _+_, _*_, _≤_, _<_}
+use Prim.Native.Nat.{ℕ, zero, suc, _*_, _≤_, _<_}
 use native.Mathlib.Omega.{arith}
-use mathlib.Core.Path.{_≡_, refl, sym, ap, _∙_}
-use mathlib.Core.List.{List, _++_}
+use mathlib.Core.Path.{_≡_, refl, _∙_}
+use mathlib.Core.List.{List}
 use lib.ListN.{length, length-append}
-use Rattle.words.specs.Lists.{joined, part}
+use Rattle.words.specs.Lists.{joined}
 use Rattle.words.proofs.Lists.{length-joined, length-part}
 use Rattle.blocks.specs.Format.{blocksFor, usedWords, recordsIn, blockOf}
 use Rattle.blocks.specs.Judged.{recordsRead}

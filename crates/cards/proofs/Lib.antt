@@ -1,2 +1,4 @@
 pub mod Lengths
 pub mod Outcomes
+pub mod Back
+pub mod Places

@@ -6,3 +6,4 @@ pub mod Demand3
 pub mod PublicCall
 pub mod OwnLinks
 pub mod OwnColumns
+pub mod Cards

@@ -1,17 +1,15 @@
--- A run of words of a list: read one by one, and stored one by one; a slot that is written or copied, where the list has it and where not. Assumes nothing.
+-- A run of words of a list, read one by one; a slot that is written or copied, where the list has it and where not. Assumes nothing.
 use Prim.Native.Nat.{ℕ, _+_, _*_, _/_, _≤_, _<_}
-use native.Mathlib.Numerals.{add-one}
 use native.Mathlib.Omega.{arith}
 use mathlib.Core.Path.{_≡_, sym, _∙_, ap}
 use mathlib.Core.Bool.{Bool, cond}
 use mathlib.Core.List.{List}
-use lib.ListN.{length, getD, set, take, drop, length-drop}
-use lib.Seq.{sets, take-suc, length-take-le, getD-take, getD-drop, ext-getD}
+use lib.ListN.{length, getD, take, drop, length-drop}
+use lib.Seq.{sets, length-take-le, getD-take, getD-drop, ext-getD}
 use borrow.Author.Tests.{lt-ltb, le-ltb}
 use Rattle.tangent.specs.Slot.{slotWords}
 use Rattle.table.specs.Loop.{listOf}
 use Rattle.table.proofs.Loops.{length-listOf, getD-listOf}
-use Rattle.table.proofs.Laws.{sets-snoc}
 use Rattle.slots.specs.Slots.{wordsAt, writtenAt, copiedAt}
 
 -- n words from place p on
@@ -23,14 +21,6 @@ run-read n p a h =
   where
     at : (i : ℕ) → i < n → getD (listOf n (λ i. getD a (p + i) 0)) i 0 ≡ getD (take n (drop p a)) i 0
     at i l = getD-listOf n (λ i. getD a (p + i) 0) 0 i l ∙ sym (getD-take n (drop p a) i 0 l ∙ getD-drop p a i 0)
-
--- one word more of those that are stored from place p on
-pub run-more : (a u ws : List ℕ) (p i : ℕ) → i < length ws → u ≡ sets a p (take i ws) → set u (p + i) (getD ws i 0) ≡ sets a p (take (i + 1) ws)
-run-more a u ws p i h e =
-    (λ z. set (e z) (at z) (getD ws i 0)) ∙ sets-snoc a p (take i ws) (getD ws i 0) ∙ ap (sets a p) (sym (ap (λ (k : ℕ). take k ws) (add-one i) ∙ take-suc ws i 0 h))
-  where
-    at : p + i ≡ p + length (take i ws)
-    at = omega (arith, length-take-le i ws (omega arith))
 
 -- a slot that the list has, written
 pub written-there : (slot : ℕ) (ws a : List ℕ) → slot < length a / slotWords → writtenAt slot ws a ≡ sets a (slotWords * slot) ws

@@ -1,14 +1,14 @@
 -- The laws of `everyBelow`, `sumOf`, `joined` and `part`. Assumes nothing.
 use Prim.Native.Nat.{ℕ, zero, suc, _+_, _*_, _≤_, _<_}
-use native.Mathlib.Nat.{mul-zero, mul-suc, eq-or-lt-of-le, le-of-suc-le-suc}
+use native.Mathlib.Nat.{add-assoc, mul-zero, mul-suc, eq-or-lt-of-le, le-of-suc-le-suc}
 use native.Mathlib.Numerals.{add-one}
 use native.Mathlib.Omega.{arith}
 use mathlib.Core.Path.{_≡_, refl, sym, ap, _∙_}
 use mathlib.Core.Bool.{Bool, true, false, _&&_}
 use mathlib.Core.Logic.{⊎-elim}
-use mathlib.Core.List.{List, [], _∷_, _++_, append-assoc}
+use mathlib.Core.List.{List, [], _∷_, _++_, append-assoc, append-nil}
 use lib.ListN.{length, getD, set, take, drop, replicate, length-append, length-drop}
-use lib.Seq.{take-suc, getD-drop, take-at, drop-at, take-append-le, drop-append-le, length-take-le}
+use lib.Seq.{take-all, take-suc, take-add, getD-take, getD-drop, take-append-le, drop-append-le, drop-append-add, length-take-le, ext-getD}
 use Rattle.words.specs.Lists.{everyBelow, sumOf, joined, part}
 
 -- no place
@@ -118,3 +118,52 @@ part-sum-none p l = refl
 
 pub part-sum-more : (p n s : ℕ) (l : List ℕ) → p + n < length l → s ≡ sumOf (part p n l) → s + getD l (p + n) 0 ≡ sumOf (part p (n + 1) l)
 part-sum-more p n s l h e = omega (arith, e, sum-snoc (part p n l) (getD l (p + n) 0), ap sumOf (part-more p n l h))
+
+-- one of several lists, with those before it and the rest
+pub joined-split : (k b : ℕ) (f : ℕ → List ℕ) → b < k → (rest : List ℕ) × (joined k f ≡ joined b f ++ (f b ++ rest))
+unfolding joined
+joined-split zero b f h = absurd (omega arith)
+joined-split (suc k) b f h = ⊎-elim
+    (λ e. ([], ap (λ (n : ℕ). joined n f ++ f n) (sym e) ∙ ap (λ (x : List ℕ). joined b f ++ x) (sym (append-nil (f b)))))
+    (λ l. later (joined-split k b f l))
+    (eq-or-lt-of-le (le-of-suc-le-suc h))
+  where
+    later : (rest : List ℕ) × (joined k f ≡ joined b f ++ (f b ++ rest)) → (rest : List ℕ) × (joined k f ++ f k ≡ joined b f ++ (f b ++ rest))
+    later r = (r .0 ++ f k, ap (λ (x : List ℕ). x ++ f k) (r .1) ∙ (append-assoc (joined b f) (f b ++ r .0) (f k) ∙ ap (λ (x : List ℕ). joined b f ++ x) (append-assoc (f b) (r .0) (f k))))
+
+-- a part of the second of three lists
+pub part-middle : (xs ys zs : List ℕ) (p j n : ℕ) → length xs ≡ p → j + n ≤ length ys → part (p + j) n (xs ++ (ys ++ zs)) ≡ part j n ys
+unfolding part
+part-middle xs ys zs p j n e h =
+    ap (take n) (ap (λ (k : ℕ). drop (k + j) (xs ++ (ys ++ zs))) (sym e) ∙ (drop-append-add xs (ys ++ zs) j ∙ drop-append-le j ys zs (omega arith)))
+    ∙ take-append-le n (drop j ys) zs (omega (arith, length-drop j ys))
+
+-- a part of a part
+pub part-part : (p n q m : ℕ) (l : List ℕ) → q + m ≤ n → p + n ≤ length l → part q m (part p n l) ≡ part (p + q) m l
+unfolding part
+part-part p n q m l h k =
+    ext-getD 0 (part q m (part p n l)) (part (p + q) m l) (length-part q m (part p n l) (omega (arith, h, length-part p n l k)) ∙ sym (length-part (p + q) m l (omega (arith, h, k))))
+    (λ i b. at i (omega (arith, b, length-part q m (part p n l) (omega (arith, h, length-part p n l k)))))
+  where
+    at : (i : ℕ) → i < m → getD (take m (drop q (take n (drop p l)))) i 0 ≡ getD (take m (drop (p + q) l)) i 0
+    at i b =
+        getD-take m (drop q (take n (drop p l))) i 0 b
+        ∙ (getD-drop q (take n (drop p l)) i 0
+        ∙ (getD-take n (drop p l) (q + i) 0 (omega (arith, b, h))
+        ∙ (getD-drop p l (q + i) 0
+        ∙ (ap (λ (j : ℕ). getD l j 0) (sym (add-assoc p q i)) ∙ sym (getD-take m (drop (p + q) l) i 0 b ∙ getD-drop (p + q) l i 0)))))
+
+-- parts that follow one another
+pub part-follows : (p n : ℕ) (l : List ℕ) → take p l ++ part p n l ≡ take (p + n) l
+unfolding part
+part-follows p n l = sym (take-add p n l)
+
+-- the whole list
+pub part-whole : (l : List ℕ) (n : ℕ) → length l ≡ n → part 0 n l ≡ l
+unfolding part
+part-whole l n e = take-all n l (omega (arith, e))
+
+-- a part of the first of two lists
+pub part-front : (xs ys : List ℕ) (p n : ℕ) → p + n ≤ length xs → part p n (xs ++ ys) ≡ part p n xs
+unfolding part
+part-front xs ys p n h = ap (take n) (drop-append-le p xs ys (omega arith)) ∙ take-append-le n (drop p xs) ys (omega (arith, length-drop p xs))

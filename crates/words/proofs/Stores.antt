@@ -52,3 +52,7 @@ joined-none l p f = refl
 
 pub joined-stored : (l u : List ℕ) (p q : ℕ) (f : ℕ → List ℕ) (n : ℕ) → q ≡ p + length (joined n f) → u ≡ sets l p (joined n f) → sets u q (f n) ≡ sets l p (joined (n + 1) f)
 joined-stored l u p q f n e h = ap (λ (x : List ℕ). sets x q (f n)) h ∙ (sets-join l p q (joined n f) (f n) e ∙ ap (sets l p) (joined-more n f))
+
+-- all of them, from the front
+pub joined-front : (l u : List ℕ) (f : ℕ → List ℕ) (k n m : ℕ) → u ≡ sets l 0 (joined k f) → k ≡ n → length (joined n f) ≡ m → m ≤ length l → u ≡ joined n f ++ drop m l
+joined-front l u f k n m e q j h = e ∙ (ap (λ (i : ℕ). sets l 0 (joined i f)) q ∙ sets-front l (joined n f) m j h)

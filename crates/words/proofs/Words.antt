@@ -1,17 +1,17 @@
 -- Words and their bytes. Assumes nothing.
 use Prim.Native.Nat.{ℕ, zero, suc, _+_, _*_, _/_, _%_, _≤_, _<_}
-use native.Mathlib.Nat.{add-zero, add-assoc, le-antisymm, le-of-suc-le-suc, mod-add-div}
+use native.Mathlib.Nat.{add-zero, add-assoc, le-antisymm, le-of-suc-le-suc, mod-add-div, zero-lt-suc}
 use native.Mathlib.Numerals.{add-one}
 use native.Mathlib.Omega.{arith}
 use mathlib.Core.Path.{_≡_, refl, sym, ap, _∙_, subst}
 use mathlib.Core.List.{List, [], _∷_, _++_, flatMap, append-assoc}
-use lib.ListN.{length, getD, set, take, drop, replicate, length-append, List·getD-append}
+use lib.ListN.{length, getD, set, take, drop, replicate, List·getD-append}
 use lib.Seq.{sets, getD-append-add, getD-take, getD-drop, ext-getD}
 use Rattle.table.specs.Loop.{listOf}
 use Rattle.table.proofs.Loops.{length-listOf, getD-listOf}
 use Rattle.table.proofs.Laws.{sets-snoc}
 use Rattle.words.specs.Lists.{sumOf, part}
-use Rattle.words.specs.Words.{wordBytes, bytesOf, wordAt, wordsAt}
+use Rattle.words.specs.Words.{wordBytes, bytesOf, wordAt, wordsAt, Fit}
 use Rattle.words.proofs.Lists.{length-zeros, sum-snoc, part-more, length-part}
 use Rattle.words.proofs.Stores.{sets-join}
 
@@ -172,7 +172,7 @@ word-back ws i h k =
     first = ap (λ (n : ℕ). getD (bytesOf ws) n 0) (sym (add-zero (4 * i))) ∙ byte-of ws i 0 h (omega arith)
 
 -- words that stand as bytes in a list, from word p on, read back
-pub words-back : (front ws rest : List ℕ) (p : ℕ) → length front ≡ 4 * p → ((i : ℕ) → i < length ws → getD ws i 0 < 4294967296) → wordsAt (front ++ (bytesOf ws ++ rest)) p (length ws) ≡ ws
+pub words-back : (front ws rest : List ℕ) (p : ℕ) → length front ≡ 4 * p → Fit ws → wordsAt (front ++ (bytesOf ws ++ rest)) p (length ws) ≡ ws
 words-back front ws rest p e h =
     ext-getD 0 (wordsAt bs p (length ws)) ws (length-words bs p (length ws)) (λ i l. at i (subst (λ (n : ℕ). i < n) (length-words bs p (length ws)) l))
   where
@@ -190,3 +190,24 @@ words-back front ws rest p e h =
 
     at : (i : ℕ) → i < length ws → getD (wordsAt bs p (length ws)) i 0 ≡ getD ws i 0
     at i l = word-of bs p (length ws) i l ∙ (same-word bs (bytesOf ws) (p + i) i (λ k m. past i k l m) ∙ word-back ws i l (h i l))
+
+-- words of two lists, of a part, and zeros
+pub fit-append : (l m : List ℕ) → Fit l → Fit m → Fit (l ++ m)
+fit-append [] m f g i h = g i h
+fit-append (x ∷ l) m f g zero h = f zero (zero-lt-suc (length l))
+fit-append (x ∷ l) m f g (suc i) h = fit-append l m (λ j k. f (suc j) (omega (arith, k))) g i (le-of-suc-le-suc h)
+
+pub fit-zeros : (n : ℕ) → Fit (replicate n 0)
+fit-zeros zero i h = absurd (omega arith)
+fit-zeros (suc n) zero h = omega arith
+fit-zeros (suc n) (suc i) h = fit-zeros n i (le-of-suc-le-suc h)
+
+pub fit-one : (w : ℕ) → w < 4294967296 → Fit (w ∷ [])
+fit-one w k zero h = k
+fit-one w k (suc i) h = absurd (omega arith)
+
+pub fit-part : (p n : ℕ) (l : List ℕ) → p + n ≤ length l → Fit l → Fit (part p n l)
+unfolding part
+fit-part p n l h f i k =
+    let b : i < n = omega (arith, k, length-part p n l h) in
+    subst (λ (x : ℕ). x < 4294967296) (sym (getD-take n (drop p l) i 0 b ∙ getD-drop p l i 0)) (f (p + i) (omega (arith, b, h)))

@@ -1,7 +1,7 @@
 -- Words of 32 bits as bytes, the least byte first. Definitions only.
-use Prim.Native.Nat.{ℕ, _+_, _*_, _/_, _%_}
+use Prim.Native.Nat.{ℕ, _+_, _*_, _/_, _%_, _<_}
 use mathlib.Core.List.{List, [], _∷_, flatMap}
-use lib.ListN.{getD}
+use lib.ListN.{length, getD}
 use Rattle.table.specs.Loop.{listOf}
 
 -- the four bytes of a word
@@ -19,3 +19,7 @@ wordAt bs i = getD bs (4 * i) 0 + 256 * getD bs (4 * i + 1) 0 + 65536 * getD bs 
 -- n words of a list of bytes, from word i on
 unfoldable pub wordsAt : List ℕ → ℕ → ℕ → List ℕ
 wordsAt bs i n = listOf n (λ k. wordAt bs (i + k))
+
+-- each number of a list is a word of 32 bits
+abbrev pub Fit : List ℕ → Type 0
+Fit l = (i : ℕ) → i < length l → getD l i 0 < 4294967296

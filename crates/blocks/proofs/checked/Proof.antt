@@ -1,6 +1,6 @@
 -- `blocks::checked` meets its contract. Assumes nothing.
 use native.Mathlib.Omega.{arith}
-use mathlib.Core.Path.{_≡_, sym, _∙_, ap}
+use mathlib.Core.Path.{sym, _∙_, ap}
 use lib.Dec.{eqb}
 use Rattle.words.specs.Lists.{sumOf}
 use Rattle.blocks.specs.Format.{complement, checkWord}

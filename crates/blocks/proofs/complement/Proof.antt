@@ -1,5 +1,4 @@
 -- `blocks::complement` meets its contract. Assumes nothing.
-use native.Mathlib.Omega.{arith}
 use mathlib.Core.Path.{refl}
 use Rattle.blocks.specs.Format.{complement}
 use borrow.Author.Needs.{needs}

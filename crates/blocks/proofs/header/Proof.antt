@@ -4,7 +4,6 @@ use Prim.Native.Nat.{ℕ}
 use mathlib.Core.Path.{ap}
 use mathlib.Core.List.{_∷_}
 use Rattle.blocks.specs.Format.{header, spare}
-use Rattle.blocks.proofs.Counts.{used-le}
 use borrow.Author.Needs.{needs}
 use Rattle.blocks.proofs.header.Statement.{statement}
 use Rattle.blocks.proofs.header.Tie as tie

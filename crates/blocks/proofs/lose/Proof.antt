@@ -6,8 +6,8 @@ use mathlib.Core.Path.{_≡_, refl, sym, _∙_, ap}
 use lib.ListN.{length}
 use lib.Seq.{sets}
 use Rattle.words.specs.Lists.{joined}
-use Rattle.words.proofs.Lists.{length-joined, joined-more}
-use Rattle.words.proofs.Stores.{sets-join, joined-none, joined-stored}
+use Rattle.words.proofs.Lists.{length-joined}
+use Rattle.words.proofs.Stores.{joined-none, joined-stored}
 use Rattle.blocks.specs.Judged as spec
 use Rattle.blocks.proofs.lose.Statement.{statement}
 use Rattle.blocks.proofs.lose.Tie as tie

@@ -1,7 +1,6 @@
 -- `cards::read` meets its contract. Assumes nothing.
 use native.Mathlib.Omega.{arith}
-use Prim.Native.Nat.{ℕ, _*_}
-use mathlib.Core.Path.{sym, _∙_, ap}
+use mathlib.Core.Path.{sym, _∙_}
 use Rattle.cards.specs.Contract.{afterRead}
 use Rattle.cards.proofs.Outcomes.{got-0, got-2}
 use borrow.Author.Needs.{needs}

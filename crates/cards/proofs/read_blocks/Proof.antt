@@ -1,13 +1,12 @@
 -- `cards::read_blocks` meets its contract. Assumes nothing.
 use native.Mathlib.Omega.{arith}
-use Prim.Native.Nat.{ℕ, _+_, _*_, _-_, _≤_}
+use Prim.Native.Nat.{_*_, _-_, _≤_}
 use native.Mathlib.Nat.{le-antisymm}
-use mathlib.Core.Path.{_≡_, refl, sym, _∙_, ap}
-use mathlib.Core.List.{List, _++_}
-use lib.ListN.{length, drop}
+use mathlib.Core.Path.{_≡_, refl, _∙_}
+use lib.ListN.{length}
 use lib.Seq.{sets}
 use Rattle.words.specs.Lists.{joined}
-use Rattle.words.proofs.Stores.{joined-none, joined-stored, sets-front}
+use Rattle.words.proofs.Stores.{joined-none, joined-stored, joined-front}
 use Rattle.blocks.specs.Format.{blocksFor}
 use Rattle.blocks.specs.Judged.{recordsRead}
 use Rattle.blocks.proofs.Counts.{called}
@@ -65,12 +64,9 @@ unfolding readings
 returns c =
     let l = c .before .loop in
     let f = c .before .before in
-    let s = f .before .before .before in
-    let a = s .args in
-    let e = le-antisymm (l .inv .0) (c .loop-test .left) ∙ f .blocks-for .ensures .0 in
-    l .inv .1
-    ∙ (ap (λ k. sets (a .answer .now) 0 (joined k (λ b. recordsRead (a .total) b (a .card .now)))) e
-    ∙ sets-front (a .answer .now) (readings (a .total) (a .card .now)) (10 * a .total) (length-readings (a .total) (a .card .now)) (s .pre))
+    let a = f .before .before .before .args in
+    joined-front (a .answer .now) (l .answer) (λ b. recordsRead (a .total) b (a .card .now)) (l .b) (blocksFor (a .total)) (10 * a .total) (l .inv .1)
+    (le-antisymm (l .inv .0) (c .loop-test .left) ∙ f .blocks-for .ensures .0) (length-readings (a .total) (a .card .now)) (f .before .before .before .pre)
 
 pub read-blocks-spec : {M : Type 1} → statement M
 read-blocks-spec =

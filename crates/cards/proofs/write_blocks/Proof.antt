@@ -1,12 +1,11 @@
 -- `cards::write_blocks` meets its contract. Assumes nothing.
 use native.Mathlib.Omega.{arith}
-use Prim.Native.Nat.{ℕ, _+_, _*_, _-_, _≤_}
+use Prim.Native.Nat.{_*_, _-_, _≤_}
 use native.Mathlib.Nat.{le-antisymm}
-use mathlib.Core.Path.{_≡_, refl, sym, _∙_, ap}
-use mathlib.Core.List.{List, _++_}
-use lib.ListN.{length, drop}
+use mathlib.Core.Path.{_≡_, refl, _∙_}
+use lib.ListN.{length}
 use lib.Seq.{sets}
-use Rattle.words.proofs.Stores.{joined-none, joined-stored, sets-front}
+use Rattle.words.proofs.Stores.{joined-none, joined-stored, joined-front}
 use Rattle.blocks.specs.Format.{blocksFor, recordsIn, blockOf}
 use Rattle.blocks.proofs.Counts.{words-are, used-fits, called}
 use Rattle.cards.specs.Writer.{cardBytes, blocksOf}
@@ -67,17 +66,14 @@ same-length : tie.Need-same-length Inv-loop μ-loop
 same-length c = search needs
 
 returns : tie.Need-returns Inv-loop μ-loop
-unfolding cardBytes
+unfolding cardBytes blocksOf
 returns c =
     let l = c .before .loop in
     let f = c .before .before in
     let s = f .before .before .before in
-    let a = s .args in
-    let e = le-antisymm (l .inv .0) (c .loop-test .left) ∙ f .blocks-for .ensures .0 in
-    l .inv .1
-    ∙ (ap (λ k. sets (a .card .now) 0 (blocksOf k (a .total) (a .answer .now))) e
-    ∙ sets-front (a .card .now) (blocksOf (blocksFor (a .total)) (a .total) (a .answer .now)) (512 * blocksFor (a .total)) (length-blocks (blocksFor (a .total)) (a .total) (a .answer .now) (s .pre .0) (omega arith))
-    (s .pre .1))
+    let n = s .args .total in
+    joined-front (s .args .card .now) (l .card) (λ b. blockOf n b (recordsIn n b (s .args .answer .now))) (l .b) (blocksFor n) (512 * blocksFor n) (l .inv .1)
+    (le-antisymm (l .inv .0) (c .loop-test .left) ∙ f .blocks-for .ensures .0) (length-blocks (blocksFor n) n (s .args .answer .now) (s .pre .0) (omega arith)) (s .pre .1)
 
 pub write-blocks-spec : {M : Type 1} → statement M
 write-blocks-spec =

@@ -5,7 +5,7 @@ use native.Mathlib.Omega.{arith}
 use mathlib.Core.Path.{_≡_, refl, _∙_, ap}
 use lib.ListN.{length, take, length-set}
 use lib.Seq.{sets, take-all}
-use Rattle.slots.proofs.Runs.{run-more}
+use Rattle.words.proofs.Stores.{sets-more}
 use borrow.Author.Needs.{needs}
 use Rattle.slots.proofs.put.Statement.{statement}
 use Rattle.slots.proofs.put.Tie as tie
@@ -52,7 +52,7 @@ loop-again c =
     let l = c .before .loop in
     let s = c .before .before in
     let n = ten s in
-    (omega arith, run-more (s .args .answer .now) (l .answer) (s .args .t3) (10 * s .args .slot) (l .i) (omega arith) (l .inv .1), simp length-set (l .inv .2))
+    (omega arith, sets-more (s .args .answer .now) (l .answer) (s .args .t3) (10 * s .args .slot) (l .i) (omega arith) (l .inv .1), simp length-set (l .inv .2))
 
 same-length : tie.Need-same-length Inv-loop μ-loop
 same-length c = search needs

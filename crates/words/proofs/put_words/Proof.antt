@@ -4,9 +4,9 @@ use Prim.Native.Nat.{_+_, _*_, _-_, _≤_}
 use native.Mathlib.Nat.{le-antisymm}
 use mathlib.Core.Path.{_≡_, refl, _∙_, ap}
 use lib.ListN.{length}
-use lib.Seq.{sets, length-sets}
+use lib.Seq.{sets}
 use Rattle.words.specs.Lists.{sumOf, part}
-use Rattle.words.specs.Words.{bytesOf, wordBytes}
+use Rattle.words.specs.Words.{bytesOf}
 use Rattle.words.proofs.Lists.{part-sum-none, part-sum-more}
 use Rattle.words.proofs.Words.{put-none, put-more}
 use Rattle.words.proofs.put_words.Statement.{statement}

@@ -4,10 +4,10 @@ use Prim.Native.Nat.{_*_, _-_, _≤_}
 use native.Mathlib.Nat.{le-antisymm}
 use mathlib.Core.Path.{_≡_, refl, _∙_, ap}
 use lib.ListN.{length, replicate}
-use lib.Seq.{sets, length-sets}
+use lib.Seq.{sets}
 use Rattle.words.specs.Words.{bytesOf}
 use Rattle.words.proofs.Words.{zeros-none, zeros-more}
-use Prim.Native.Nat.{_+_, _*_, _-_, _≤_}
+use Prim.Native.Nat.{_*_, _-_, _≤_}
 use Rattle.words.proofs.put_zeros.Statement.{statement}
 use Rattle.words.proofs.put_zeros.Tie as tie
 use borrow.Author.Needs.{needs}

@@ -2,8 +2,7 @@
 use native.Mathlib.Omega.{arith}
 use Prim.Native.Nat.{_*_, _-_, _≤_}
 use native.Mathlib.Nat.{le-antisymm}
-use mathlib.Core.Path.{_≡_, refl, _∙_, ap}
-use lib.ListN.{length}
+use mathlib.Core.Path.{_≡_, _∙_, ap}
 use Rattle.words.specs.Lists.{sumOf}
 use Rattle.words.specs.Words.{wordsAt}
 use Rattle.words.proofs.Words.{sums-none, sums-more}

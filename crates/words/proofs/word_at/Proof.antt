@@ -1,5 +1,4 @@
 -- `words::word_at` meets its contract. Assumes nothing.
-use native.Mathlib.Omega.{arith}
 use Rattle.words.specs.Words.{wordAt}
 use borrow.Author.Needs.{needs}
 use Rattle.words.proofs.word_at.Statement.{statement}

@@ -1,0 +1,206 @@
+-- What is promised of cards holds: each from the contracts of the writer and the reader. Assumes nothing.
+use Prim.Native.Nat.{ℕ, _+_, _*_, _/_, _%_, _≤_, _<_}
+use native.Mathlib.Omega.{arith}
+use mathlib.Core.Path.{_≡_, refl, sym, ap, _∙_, subst}
+use mathlib.Core.Bool.{Bool, true, false}
+use mathlib.Core.Logic.{_⊎_, inl, inr}
+use mathlib.Core.List.{List, _++_}
+use lib.ListN.{length, getD, take, drop}
+use lib.Seq.{take-at, drop-at}
+use lib.Dec.{leb, ltb}
+use borrow.Author.Tests.{leb-true, leb-false}
+use Rattle.words.specs.Lists.{joined, part}
+use Rattle.words.specs.Words.{wordAt, Fit}
+use Rattle.words.proofs.Lists.{part-front}
+use Rattle.words.proofs.Words.{word-of, length-words}
+use Rattle.blocks.specs.Format.{blocksFor, used, recordsIn}
+use Rattle.blocks.specs.Judged.{sound, blockAt, good, lost, recordsRead}
+use Rattle.bits.proofs.Bools.{and-right}
+use Rattle.blocks.proofs.Counts.{block-of, place-of}
+use Rattle.blocks.proofs.Judged.{read-lost}
+use Rattle.blocks.proofs.Changed.{one-word}
+use Rattle.blocks.proofs.Same.{same-read}
+use Rattle.cards.specs.Writer.{recordsOf, writable, cardBytes, cardOf, notWritten, cardWritten}
+use Rattle.cards.specs.Reader.{bytesPast, readings}
+use Rattle.cards.specs.Contract.{afterWrite, afterRead}
+use Rattle.cards.proofs.Lengths.{length-readings}
+use Rattle.cards.proofs.Outcomes.{whole-records, wrote-0, wrote-1, wrote-2, got-0, got-2}
+use Rattle.cards.proofs.Back.{block-back, all-back, length-card, none-past}
+use Rattle.cards.proofs.Places.{block-place, record-kept, record-mark, record-lost}
+use Rattle.promises.specs.Cards as spec
+use Rattle.promises.specs.Cards.{Writing, Reading, Unwritten, Done, Unread, OneWord, Kept, Lost, Bytes, recordAt, CardsPromised}
+
+-- which outcome a writing had
+written : (l c : List ℕ) (w : Writing l c) → Unwritten l c w ⊎ Done l c w
+unfolding afterWrite notWritten cardWritten
+written l c w = first (writable l) refl
+  where
+    second : (x : Bool) → writable l ≡ true → leb (cardBytes (recordsOf l)) (length c) ≡ x → Unwritten l c w ⊎ Done l c w
+    second true h k =
+        let e = w .meets ∙ wrote-0 l c h (leb-true (cardBytes (recordsOf l)) (length c) k) in
+        inr (record { number = λ i. e i .number; bytes = λ i. e i .bytes; card = λ i. e i .card })
+    second false h k =
+        let e = w .meets ∙ wrote-2 l c h (leb-false (cardBytes (recordsOf l)) (length c) k) in
+        inl (record { number = inr (λ i. e i .number); bytes = λ i. e i .bytes; card = λ i. e i .card })
+
+    first : (x : Bool) → writable l ≡ x → Unwritten l c w ⊎ Done l c w
+    first true h = second (leb (cardBytes (recordsOf l)) (length c)) h refl
+    first false h =
+        let e = w .meets ∙ wrote-1 l c h in
+        inl (record { number = inl (λ i. e i .number); bytes = λ i. e i .bytes; card = λ i. e i .card })
+
+-- an accepted one: the list could be written
+module _ (l c : List ℕ) (w : Writing l c) (zero : w .returned .number ≡ 0) where
+  can : writable l ≡ true
+  unfolding afterWrite notWritten
+  can = go (writable l) refl
+    where
+      go : (x : Bool) → writable l ≡ x → writable l ≡ true
+      go true h = h
+      go false h =
+          let e = w .meets ∙ wrote-1 l c h in
+          let one : w .returned .number ≡ 1 = λ i. e i .number in
+          absurd (omega (arith, zero, one))
+
+  done : Done l c w
+  done = go (written l c w)
+    where
+      go : Unwritten l c w ⊎ Done l c w → Done l c w
+      go (inr d) = d
+      go (inl u) = absurd (other (u .number))
+        where
+          other : (w .returned .number ≡ 1) ⊎ (w .returned .number ≡ 2) → ⊥
+          other (inl e) = omega (arith, zero, e)
+          other (inr e) = omega (arith, zero, e)
+
+-- an accepted reading: what it left
+pub record Left (bs : List ℕ) (n : ℕ) (a : List ℕ) (r : Reading bs n a) : Type 0 where
+  pub answer : r .answer ≡ readings n bs ++ drop (10 * n) a
+  pub past : r .returned .past ≡ bytesPast n bs
+
+-- which outcome a reading had
+read-by : (bs : List ℕ) (n : ℕ) (a : List ℕ) (r : Reading bs n a) → Unread bs n a r ⊎ ((r .returned .number ≡ 0) × Left bs n a r)
+unfolding afterRead
+read-by bs n a r = go (leb (10 * n) (length a)) refl
+  where
+    go : (x : Bool) → leb (10 * n) (length a) ≡ x → Unread bs n a r ⊎ ((r .returned .number ≡ 0) × Left bs n a r)
+    go true h =
+        let e = r .meets ∙ got-0 n bs a (leb-true (10 * n) (length a) h) in
+        inr (λ i. e i .number, record { answer = λ i. e i .answer; past = λ i. e i .past })
+    go false h =
+        let e = r .meets ∙ got-2 n bs a (leb-false (10 * n) (length a) h) in
+        inl (record { number = λ i. e i .number; past = λ i. e i .past; answer = λ i. e i .answer })
+
+left-of : (bs : List ℕ) (n : ℕ) (a : List ℕ) (r : Reading bs n a) → r .returned .number ≡ 0 → Left bs n a r
+left-of bs n a r zero = go (read-by bs n a r)
+  where
+    go : Unread bs n a r ⊎ ((r .returned .number ≡ 0) × Left bs n a r) → Left bs n a r
+    go (inr g) = g .1
+    go (inl u) = absurd (omega (arith, zero, u .number))
+
+read : (bs : List ℕ) (n : ℕ) (a : List ℕ) (r : Reading bs n a) → Unread bs n a r ⊎ spec.Got bs n a r
+read bs n a r = go (read-by bs n a r)
+  where
+    go : Unread bs n a r ⊎ ((r .returned .number ≡ 0) × Left bs n a r) → Unread bs n a r ⊎ spec.Got bs n a r
+    go (inl u) = inl u
+    go (inr g) = inr (record { number = g .0; past = g .1 .past; rest = ap (drop (10 * n)) (g .1 .answer) ∙ drop-at (readings n bs) (drop (10 * n) a) (10 * n) (length-readings n bs) })
+
+-- the records of block b in what was read
+block-read : (bs : List ℕ) (n b : ℕ) (a : List ℕ) (r : Reading bs n a) → b < blocksFor n → r .returned .number ≡ 0 → recordsIn n b (r .answer) ≡ recordsRead n b bs
+block-read bs n b a r h z = ap (recordsIn n b) (left-of bs n a r z .answer) ∙ block-place n bs (drop (10 * n) a) b h
+
+-- 'What was written reads back the same'
+back : (l c a : List ℕ) (w : Writing l c) (r : Reading (take (w .returned .bytes) (w .card)) (recordsOf l) a) → Fit l → w .returned .number ≡ 0 → r .returned .number ≡ 0 → (r .answer ≡ l ++ drop (length l) a) × (r .returned .past ≡ 0)
+unfolding cardBytes
+back l c a w r f y z =
+    let d = done l c w y in
+    let k = can l c w y in
+    let bs : take (w .returned .bytes) (w .card) ≡ cardOf l = (λ i. take (d .bytes i) (d .card i)) ∙ take-at (cardOf l) (drop (cardBytes (recordsOf l)) c) (cardBytes (recordsOf l)) (length-card l k f) in
+    let g = left-of (take (w .returned .bytes) (w .card)) (recordsOf l) a r z in
+    (g .answer ∙ (λ i. (ap (readings (recordsOf l)) bs ∙ all-back l k f) i ++ drop (sym (whole-records l k) i) a), g .past ∙ (ap (bytesPast (recordsOf l)) bs ∙ none-past l k f))
+
+-- words of bytes are words
+word-fits : (bs : List ℕ) (i : ℕ) → Bytes bs → wordAt bs i < 4294967296
+unfolding wordAt
+word-fits bs i h = omega (arith, h (4 * i), h (4 * i + 1), h (4 * i + 2), h (4 * i + 3))
+
+-- 'a block in which exactly one word was changed is always noticed'
+bad : (n b i : ℕ) (bs cs : List ℕ) → Bytes bs → Bytes cs → good n b bs ≡ true → OneWord b i bs cs → good n b cs ≡ false
+unfolding good blockAt
+bad n b i bs cs f g h o = go (good n b cs) refl
+  where
+    at : getD (blockAt b bs) i 0 ≡ wordAt bs (128 * b + i)
+    at = word-of bs (128 * b) 128 i (o .inside)
+
+    sound-of : (l : List ℕ) → good n b l ≡ true → sound n b (blockAt b l) ≡ true
+    sound-of l e = and-right (ltb b (length l / 512)) (sound n b (blockAt b l)) e
+
+    go : (x : Bool) → good n b cs ≡ x → good n b cs ≡ false
+    go false e = e
+    go true e =
+        absurd (one-word n b (blockAt b bs) i (wordAt cs (128 * b + i)) (length-words bs (128 * b) 128) (o .inside) (subst (λ (k : ℕ). k < 4294967296) (sym at) (word-fits bs (128 * b + i) f)) (word-fits cs (128 * b + i) g)
+        (λ p. o .other (p ∙ at)) (sound-of bs h) (ap (sound n b) (sym (o .rest)) ∙ sound-of cs e))
+
+noticed : (n b i : ℕ) (bs cs a : List ℕ) (r : Reading cs n a) → b < blocksFor n → Bytes bs → Bytes cs → good n b bs ≡ true → OneWord b i bs cs → r .returned .number ≡ 0 → recordsIn n b (r .answer) ≡ joined (used n b) (λ _. lost)
+noticed n b i bs cs a r h f g k o z = block-read cs n b a r h z ∙ read-lost n b cs (bad n b i bs cs f g k o)
+
+others : (n b : ℕ) (bs cs a d : List ℕ) (r : Reading bs n a) (q : Reading cs n d) → b < blocksFor n → part (512 * b) 512 bs ≡ part (512 * b) 512 cs → r .returned .number ≡ 0 → q .returned .number ≡ 0 → recordsIn n b (r .answer) ≡ recordsIn n b (q .answer)
+others n b bs cs a d r q h e y z = block-read bs n b a r h y ∙ (same-read n b bs cs e ∙ sym (block-read cs n b d q h z))
+
+stands : (l c bs a : List ℕ) (b : ℕ) (w : Writing l c) (r : Reading bs (recordsOf l) a) → b < blocksFor (recordsOf l) → Fit l → w .returned .number ≡ 0 → part (512 * b) 512 bs ≡ part (512 * b) 512 (w .card) → r .returned .number ≡ 0 → recordsIn (recordsOf l) b (r .answer) ≡ recordsIn (recordsOf l) b l
+unfolding part
+stands l c bs a b w r h f y e z =
+    let d = done l c w y in
+    let k = can l c w y in
+    block-read bs (recordsOf l) b a r h z
+    ∙ (same-read (recordsOf l) b bs (cardOf l) (e ∙ (ap (part (512 * b) 512) (d .card) ∙ part-front (cardOf l) (drop (cardBytes (recordsOf l)) c) (512 * b) 512 (omega (arith, h, length-card l k f)))) ∙ block-back l k f b h)
+
+told : (n k : ℕ) (bs a : List ℕ) (r : Reading bs n a) → k < n → r .returned .number ≡ 0 → Kept bs n k (recordAt k (r .answer)) ⊎ Lost bs n k (recordAt k (r .answer))
+unfolding recordAt
+told n k bs a r h z = go (good n (k / 12) bs) refl
+  where
+    b : k / 12 < blocksFor n
+    b = block-of n k h
+
+    u : k % 12 < used n (k / 12)
+    u = place-of n k h
+
+    there : part (10 * k) 10 (r .answer) ≡ part (10 * (12 * (k / 12) + k % 12)) 10 (readings n bs ++ drop (10 * n) a)
+    there = (λ i. part (10 * number i) 10 (left-of bs n a r z .answer i))
+      where
+        number : k ≡ 12 * (k / 12) + k % 12
+        number = omega arith
+
+    go : (x : Bool) → good n (k / 12) bs ≡ x → Kept bs n k (part (10 * k) 10 (r .answer)) ⊎ Lost bs n k (part (10 * k) 10 (r .answer))
+    go true g =
+        let e = there ∙ record-kept n bs (drop (10 * n) a) (k / 12) (k % 12) b u g in
+        inl (record { sound = g; words = e; mark = subst (λ (l : List ℕ). getD l 0 0 ≤ 1) (sym e) (record-mark n bs (drop (10 * n) a) (k / 12) (k % 12) b u g) })
+    go false g =
+        let e = there ∙ record-lost n bs (drop (10 * n) a) (k / 12) (k % 12) b u g in
+        inr (record { unsound = g; words = e; mark = ap (λ (l : List ℕ). getD l 0 0) e })
+
+one-writing : (l c : List ℕ) (w v : Writing l c) → (w .returned ≡ v .returned) × (w .card ≡ v .card)
+unfolding afterWrite
+one-writing l c w v =
+    let e = w .meets ∙ sym (v .meets) in
+    (λ i. record { number = e i .number; bytes = e i .bytes }, λ i. e i .card)
+
+one-reading : (bs : List ℕ) (n : ℕ) (a : List ℕ) (r q : Reading bs n a) → (r .returned ≡ q .returned) × (r .answer ≡ q .answer)
+unfolding afterRead
+one-reading bs n a r q =
+    let e = r .meets ∙ sym (q .meets) in
+    (λ i. record { number = e i .number; past = e i .past }, λ i. e i .answer)
+
+pub cards-promised : CardsPromised
+cards-promised =
+    record {
+      back = back;
+      noticed = noticed;
+      others = others;
+      stands = stands;
+      told = told;
+      written = written;
+      read = read;
+      one-writing = one-writing;
+      one-reading = one-reading;
+    }

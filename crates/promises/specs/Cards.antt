@@ -1,0 +1,95 @@
+-- Cards (crate cards; dokphalun_card_write and dokphalun_card_read of the archive): what is promised of whatever their contracts allow. Definitions only.
+use Prim.Native.Nat.{ℕ, _+_, _*_, _/_, _%_, _≤_, _<_}
+use mathlib.Core.Path.{_≡_}
+use mathlib.Core.Bool.{true, false}
+use mathlib.Core.Logic.{_≢_, _⊎_}
+use mathlib.Core.List.{List, _++_}
+use lib.ListN.{length, getD, set, take, drop}
+use Rattle.words.specs.Lists.{joined, part}
+use Rattle.words.specs.Words.{wordAt, wordsAt, Fit}
+use Rattle.blocks.specs.Format.{blockBytes, blockWords, headerWords, recordWords, recordsHeld, blocksFor, used, recordsIn}
+use Rattle.blocks.specs.Judged.{blockAt, good, lost}
+use Rattle.cards.specs.declared.Written.{Written}
+use Rattle.cards.specs.declared.Found.{Found}
+use Rattle.cards.specs.Writer.{recordsOf, cardBytes, cardOf}
+use Rattle.cards.specs.Reader.{bytesPast}
+use Rattle.cards.specs.Contract.{Writes, Reads}
+
+-- a call of the writer that was made, of the answer words l and the lent list c: what it returned, and the list after it
+pub record Writing (l c : List ℕ) : Type 0 where
+  pub returned : Written
+  pub card : List ℕ
+  pub meets : Writes l c returned card
+
+-- a call of the reader that was made, of the bytes bs, the total n and the lent list a
+pub record Reading (bs : List ℕ) (n : ℕ) (a : List ℕ) : Type 0 where
+  pub returned : Found
+  pub answer : List ℕ
+  pub meets : Reads bs n a returned answer
+
+-- the ten words of record k
+unfoldable pub recordAt : ℕ → List ℕ → List ℕ
+recordAt k l = part (recordWords * k) recordWords l
+
+-- each number of a list is a byte
+abbrev pub Bytes : List ℕ → Type 0
+Bytes bs = (i : ℕ) → getD bs i 0 < 256
+
+-- the block at place b has another word i in cs than in bs, and all other words the same
+pub record OneWord (b i : ℕ) (bs cs : List ℕ) : Type 0 where
+  pub inside : i < blockWords
+  pub other : wordAt cs (blockWords * b + i) ≢ wordAt bs (blockWords * b + i)
+  pub rest : blockAt b cs ≡ set (blockAt b bs) i (wordAt cs (blockWords * b + i))
+
+-- record k as it stands in its block, absent (word 0 is 0) or present (1)
+pub record Kept (bs : List ℕ) (n k : ℕ) (ws : List ℕ) : Type 0 where
+  pub sound : good n (k / recordsHeld) bs ≡ true
+  pub words : ws ≡ wordsAt bs (blockWords * (k / recordsHeld) + headerWords + recordWords * (k % recordsHeld)) recordWords
+  pub mark : getD ws 0 0 ≤ 1
+
+-- record k lost (word 0 is 2), because its block is not what its place calls for, or is not there
+pub record Lost (bs : List ℕ) (n k : ℕ) (ws : List ℕ) : Type 0 where
+  pub unsound : good n (k / recordsHeld) bs ≡ false
+  pub words : ws ≡ lost
+  pub mark : getD ws 0 0 ≡ 2
+
+-- 'Nothing is altered then'
+pub record Unwritten (l c : List ℕ) (w : Writing l c) : Type 0 where
+  pub number : (w .returned .number ≡ 1) ⊎ (w .returned .number ≡ 2)
+  pub bytes : w .returned .bytes ≡ 0
+  pub card : w .card ≡ c
+
+-- the card's bytes, and nothing else altered
+pub record Done (l c : List ℕ) (w : Writing l c) : Type 0 where
+  pub number : w .returned .number ≡ 0
+  pub bytes : w .returned .bytes ≡ cardBytes (recordsOf l)
+  pub card : w .card ≡ cardOf l ++ drop (cardBytes (recordsOf l)) c
+
+pub record Unread (bs : List ℕ) (n : ℕ) (a : List ℕ) (r : Reading bs n a) : Type 0 where
+  pub number : r .returned .number ≡ 2
+  pub past : r .returned .past ≡ 0
+  pub answer : r .answer ≡ a
+
+pub record Got (bs : List ℕ) (n : ℕ) (a : List ℕ) (r : Reading bs n a) : Type 0 where
+  pub number : r .returned .number ≡ 0
+  pub past : r .returned .past ≡ bytesPast n bs
+  pub rest : drop (recordWords * n) (r .answer) ≡ drop (recordWords * n) a
+
+-- (That each call ends, whatever it is handed, is part of what its contract says.)
+pub record CardsPromised : Type 0 where
+  -- 'What was written reads back the same'
+  pub back : (l c a : List ℕ) (w : Writing l c) (r : Reading (take (w .returned .bytes) (w .card)) (recordsOf l) a) → Fit l → w .returned .number ≡ 0 → r .returned .number ≡ 0 → (r .answer ≡ l ++ drop (length l) a) × (r .returned .past ≡ 0)
+  -- 'a block in which exactly one word was changed is always noticed': its records read as lost
+  pub noticed : (n b i : ℕ) (bs cs a : List ℕ) (r : Reading cs n a) → b < blocksFor n → Bytes bs → Bytes cs → good n b bs ≡ true → OneWord b i bs cs → r .returned .number ≡ 0 → recordsIn n b (r .answer) ≡ joined (used n b) (λ _. lost)
+  -- 'The other blocks read as if nothing had happened': a block whose bytes are the same reads the same
+  pub others : (n b : ℕ) (bs cs a d : List ℕ) (r : Reading bs n a) (q : Reading cs n d) → b < blocksFor n → part (blockBytes * b) blockBytes bs ≡ part (blockBytes * b) blockBytes cs → r .returned .number ≡ 0 → q .returned .number ≡ 0 → recordsIn n b (r .answer) ≡ recordsIn n b (q .answer)
+  -- so a block that is as it was written reads as it was written, whatever happened to the card
+  pub stands : (l c bs a : List ℕ) (b : ℕ) (w : Writing l c) (r : Reading bs (recordsOf l) a) → b < blocksFor (recordsOf l) → Fit l → w .returned .number ≡ 0 → part (blockBytes * b) blockBytes bs ≡ part (blockBytes * b) blockBytes (w .card) → r .returned .number ≡ 0 → recordsIn (recordsOf l) b (r .answer) ≡ recordsIn (recordsOf l) b l
+  -- absent, present and lost are told apart for every record
+  pub told : (n k : ℕ) (bs a : List ℕ) (r : Reading bs n a) → k < n → r .returned .number ≡ 0 → Kept bs n k (recordAt k (r .answer)) ⊎ Lost bs n k (recordAt k (r .answer))
+  -- the refusals, and what they leave
+  pub written : (l c : List ℕ) (w : Writing l c) → Unwritten l c w ⊎ Done l c w
+  pub read : (bs : List ℕ) (n : ℕ) (a : List ℕ) (r : Reading bs n a) → Unread bs n a r ⊎ Got bs n a r
+  -- 'Any pair of outcomes satisfying it is shown identical'
+  pub one-writing : (l c : List ℕ) (w v : Writing l c) → (w .returned ≡ v .returned) × (w .card ≡ v .card)
+  pub one-reading : (bs : List ℕ) (n : ℕ) (a : List ℕ) (r q : Reading bs n a) → (r .returned ≡ q .returned) × (r .answer ≡ q .answer)
