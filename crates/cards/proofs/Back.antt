@@ -46,9 +46,9 @@ joined-records n (suc m) l e h =
     ap (λ (x : List ℕ). x ++ recordsIn n m l) (before n m l (omega (arith, e)))
     ∙ (part-follows (120 * m) (usedWords n m) l ∙ take-all (120 * m + usedWords n m) l (omega (arith, h, words-are n m, last-block n m e)))
 
-module _ (l : List ℕ) (can : writable l ≡ true) (fit : Fit l) where
+module _ (l : List ℕ) (can : writable l ≡ true) where
   -- the words 0 of a block's records
-  marks : (b : ℕ) → 12 * b < recordsOf l → everyBelow (used (recordsOf l) b) (λ r. leb (getD (recordsIn (recordsOf l) b l) (10 * r) 0) 1) ≡ true
+  pub marks : (b : ℕ) → 12 * b < recordsOf l → everyBelow (used (recordsOf l) b) (λ r. leb (getD (recordsIn (recordsOf l) b l) (10 * r) 0) 1) ≡ true
   unfolding recordsIn part
   marks b h = every-all (used n b) (λ r. leb (getD (recordsIn n b l) (10 * r) 0) 1) (λ r k. ap (λ (w : ℕ). leb w 1) (word r k) ∙ every-at n (12 * b + r) (λ r. leb (getD l (10 * r) 0) 1) (marked-records l can) (omega (arith, k, used-fits n b h)))
     where
@@ -63,6 +63,11 @@ module _ (l : List ℕ) (can : writable l ≡ true) (fit : Fit l) where
           place : 120 * b + 10 * r ≡ 10 * (12 * b + r)
           place = omega arith
 
+  pub length-card : length (cardOf l) ≡ 512 * blocksFor (recordsOf l)
+  unfolding cardOf
+  length-card = length-blocks (blocksFor (recordsOf l)) (recordsOf l) l (omega (arith, whole-records l can)) (omega arith)
+
+module _ (l : List ℕ) (can : writable l ≡ true) (fit : Fit l) where
   -- one block
   pub block-back : (b : ℕ) → b < blocksFor (recordsOf l) → recordsRead (recordsOf l) b (cardOf l) ≡ recordsIn (recordsOf l) b l
   unfolding cardOf blocksOf recordsIn
@@ -72,7 +77,7 @@ module _ (l : List ℕ) (can : writable l ≡ true) (fit : Fit l) where
       let w = whole-records l can in
       ap (recordsRead n b) (s .1)
       ∙ written-read n b (recordsIn n b l) (length-own n b l (omega (arith, w)) c) (blocksOf b n l) (s .0) (length-blocks b n l (omega (arith, w)) (omega (arith, h))) (few-records l can) (omega (arith, c, few-records l can))
-      (fit-part (120 * b) (usedWords n b) l (omega (arith, w, words-are n b, used-fits n b c)) fit) (marks b c)
+      (fit-part (120 * b) (usedWords n b) l (omega (arith, w, words-are n b, used-fits n b c)) fit) (marks l can b c)
     where
       n : ℕ
       n = recordsOf l
@@ -84,10 +89,6 @@ module _ (l : List ℕ) (can : writable l ≡ true) (fit : Fit l) where
       joined-same (blocksFor (recordsOf l)) (λ b. recordsRead (recordsOf l) b (cardOf l)) (λ b. recordsIn (recordsOf l) b l) block-back
       ∙ joined-records (recordsOf l) (blocksFor (recordsOf l)) l refl (whole-records l can)
 
-  pub length-card : length (cardOf l) ≡ 512 * blocksFor (recordsOf l)
-  unfolding cardOf
-  length-card = length-blocks (blocksFor (recordsOf l)) (recordsOf l) l (omega (arith, whole-records l can)) (omega arith)
-
   pub none-past : bytesPast (recordsOf l) (cardOf l) ≡ 0
   unfolding bytesPast blocksThere
-  none-past = omega (arith, length-card)
+  none-past = omega (arith, length-card l can)

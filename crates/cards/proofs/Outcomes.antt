@@ -6,7 +6,7 @@ use mathlib.Core.Bool.{Bool, true, false, cond, _&&_}
 use mathlib.Core.List.{List, _++_}
 use lib.ListN.{length, getD, drop}
 use lib.Dec.{eqb, leb, ltb}
-use borrow.Author.Tests.{eqb-true, ltb-true, le-leb, lt-leb}
+use borrow.Author.Tests.{eqb-true, ltb-true, le-leb, lt-leb, eq-eqb, lt-ltb}
 use Rattle.bits.proofs.Bools.{and-left, and-right}
 use Rattle.words.specs.Lists.{everyBelow}
 use Rattle.cards.specs.Writer.{recordsOf, writable, cardBytes, Wrote, notWritten, cardWritten, wrote}
@@ -29,6 +29,11 @@ module _ (l : List ℕ) where
     pub marked-records : everyBelow (recordsOf l) (λ r. leb (getD l (10 * r) 0) 1) ≡ true
     unfolding writable
     marked-records = and-right (eqb (length l % 10) 0 && ltb (recordsOf l) 4294967296) (everyBelow (recordsOf l) (λ r. leb (getD l (10 * r) 0) 1)) h
+
+  -- and every such list can be
+  pub can-write : length l % 10 ≡ 0 → recordsOf l < 4294967296 → everyBelow (recordsOf l) (λ r. leb (getD l (10 * r) 0) 1) ≡ true → writable l ≡ true
+  unfolding writable
+  can-write e h m = λ z. eq-eqb (length l % 10) 0 e z && lt-ltb (recordsOf l) 4294967296 h z && m z
 
   module _ (card : List ℕ) where
     -- the second test

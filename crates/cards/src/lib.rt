@@ -38,7 +38,7 @@ fn marked(answer: &[u32], count: usize) -> bool
 }
 
 // Whether a list can be written to a card.
-fn writable(answer: &[u32]) -> bool
+pub fn writable(answer: &[u32]) -> bool
     ensures { λ r. ⌜ r ≡ writer.writable (now (answer .entry)) ⌝ }
 {
     if answer.len() % 10 != 0 {

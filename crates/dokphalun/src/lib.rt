@@ -1,7 +1,10 @@
 // The archive: the public calls for programs in other languages. `rt staticlib dokphalun` writes libdokphalun.a.
 // A list is handed over as a pointer to its first element and a number of elements.
 ghost use Rattle.mikktspace.specs.Contract.{Contract};
+ghost use Rattle.appends.specs.Contract.{Follows, Appends};
 ghost use Rattle.cards.specs.Contract.{Writes, Reads};
+use appends::Appended;
+use appends::Next;
 use cards::Found;
 use cards::Written;
 use mikktspace::Outcome;
@@ -36,4 +39,25 @@ pub extern "C" fn dokphalun_card_read(card: &[u8], total: u32, answer: &mut [u32
     ensures { λ r. ⌜ Reads (now (card .entry)) total (now (answer .entry)) r (now (answer .exit)) ⌝ }
 {
     cards::read(card, total, answer)
+}
+
+// See appends::next_block.
+#[no_mangle]
+pub extern "C" fn dokphalun_card_next(long: usize, total: u32) -> Next
+    ensures { λ r. ⌜ Follows long total r ⌝ }
+{
+    appends::next_block(long, total)
+}
+
+// See appends::append.
+#[no_mangle]
+pub extern "C" fn dokphalun_card_append(
+    long: usize,
+    total: u32,
+    records: &[u32],
+    lent: &mut [u8],
+) -> Appended
+    ensures { λ r. ⌜ Appends long total (now (records .entry)) (now (lent .entry)) r (now (lent .exit)) ⌝ }
+{
+    appends::append(long, total, records, lent)
 }

@@ -91,7 +91,7 @@ read-by bs n a r = go (leb (10 * n) (length a)) refl
         let e = r .meets ∙ got-2 n bs a (leb-false (10 * n) (length a) h) in
         inl (record { number = λ i. e i .number; past = λ i. e i .past; answer = λ i. e i .answer })
 
-left-of : (bs : List ℕ) (n : ℕ) (a : List ℕ) (r : Reading bs n a) → r .returned .number ≡ 0 → Left bs n a r
+pub left-of : (bs : List ℕ) (n : ℕ) (a : List ℕ) (r : Reading bs n a) → r .returned .number ≡ 0 → Left bs n a r
 left-of bs n a r zero = go (read-by bs n a r)
   where
     go : Unread bs n a r ⊎ ((r .returned .number ≡ 0) × Left bs n a r) → Left bs n a r
@@ -106,7 +106,7 @@ read bs n a r = go (read-by bs n a r)
     go (inr g) = inr (record { number = g .0; past = g .1 .past; rest = ap (drop (10 * n)) (g .1 .answer) ∙ drop-at (readings n bs) (drop (10 * n) a) (10 * n) (length-readings n bs) })
 
 -- the records of block b in what was read
-block-read : (bs : List ℕ) (n b : ℕ) (a : List ℕ) (r : Reading bs n a) → b < blocksFor n → r .returned .number ≡ 0 → recordsIn n b (r .answer) ≡ recordsRead n b bs
+pub block-read : (bs : List ℕ) (n b : ℕ) (a : List ℕ) (r : Reading bs n a) → b < blocksFor n → r .returned .number ≡ 0 → recordsIn n b (r .answer) ≡ recordsRead n b bs
 block-read bs n b a r h z = ap (recordsIn n b) (left-of bs n a r z .answer) ∙ block-place n bs (drop (10 * n) a) b h
 
 -- 'What was written reads back the same'
@@ -115,7 +115,7 @@ unfolding cardBytes
 back l c a w r f y z =
     let d = done l c w y in
     let k = can l c w y in
-    let bs : take (w .returned .bytes) (w .card) ≡ cardOf l = (λ i. take (d .bytes i) (d .card i)) ∙ take-at (cardOf l) (drop (cardBytes (recordsOf l)) c) (cardBytes (recordsOf l)) (length-card l k f) in
+    let bs : take (w .returned .bytes) (w .card) ≡ cardOf l = (λ i. take (d .bytes i) (d .card i)) ∙ take-at (cardOf l) (drop (cardBytes (recordsOf l)) c) (cardBytes (recordsOf l)) (length-card l k) in
     let g = left-of (take (w .returned .bytes) (w .card)) (recordsOf l) a r z in
     (g .answer ∙ (λ i. (ap (readings (recordsOf l)) bs ∙ all-back l k f) i ++ drop (sym (whole-records l k) i) a), g .past ∙ (ap (bytesPast (recordsOf l)) bs ∙ none-past l k f))
 
@@ -153,7 +153,7 @@ stands l c bs a b w r h f y e z =
     let d = done l c w y in
     let k = can l c w y in
     block-read bs (recordsOf l) b a r h z
-    ∙ (same-read (recordsOf l) b bs (cardOf l) (e ∙ (ap (part (512 * b) 512) (d .card) ∙ part-front (cardOf l) (drop (cardBytes (recordsOf l)) c) (512 * b) 512 (omega (arith, h, length-card l k f)))) ∙ block-back l k f b h)
+    ∙ (same-read (recordsOf l) b bs (cardOf l) (e ∙ (ap (part (512 * b) 512) (d .card) ∙ part-front (cardOf l) (drop (cardBytes (recordsOf l)) c) (512 * b) 512 (omega (arith, h, length-card l k)))) ∙ block-back l k f b h)
 
 told : (n k : ℕ) (bs a : List ℕ) (r : Reading bs n a) → k < n → r .returned .number ≡ 0 → Kept bs n k (recordAt k (r .answer)) ⊎ Lost bs n k (recordAt k (r .answer))
 unfolding recordAt

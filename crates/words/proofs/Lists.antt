@@ -1,6 +1,6 @@
 -- The laws of `everyBelow`, `sumOf`, `joined` and `part`. Assumes nothing.
 use Prim.Native.Nat.{ℕ, zero, suc, _+_, _*_, _≤_, _<_}
-use native.Mathlib.Nat.{add-assoc, mul-zero, mul-suc, eq-or-lt-of-le, le-of-suc-le-suc}
+use native.Mathlib.Nat.{add-zero, add-suc, add-assoc, mul-zero, mul-suc, eq-or-lt-of-le, le-of-suc-le-suc}
 use native.Mathlib.Numerals.{add-one}
 use native.Mathlib.Omega.{arith}
 use mathlib.Core.Path.{_≡_, refl, sym, ap, _∙_}
@@ -167,3 +167,11 @@ part-whole l n e = take-all n l (omega (arith, e))
 pub part-front : (xs ys : List ℕ) (p n : ℕ) → p + n ≤ length xs → part p n (xs ++ ys) ≡ part p n xs
 unfolding part
 part-front xs ys p n h = ap (take n) (drop-append-le p xs ys (omega arith)) ∙ take-append-le n (drop p xs) ys (omega (arith, length-drop p xs))
+
+-- lists up to a + k, in two runs
+pub joined-add : (a k : ℕ) (f : ℕ → List ℕ) → joined (a + k) f ≡ joined a f ++ joined k (λ i. f (a + i))
+unfolding joined
+joined-add a zero f = ap (λ (n : ℕ). joined n f) (add-zero a) ∙ sym (append-nil (joined a f))
+joined-add a (suc k) f =
+    ap (λ (n : ℕ). joined n f) (add-suc a k)
+    ∙ (ap (λ (x : List ℕ). x ++ f (a + k)) (joined-add a k f) ∙ append-assoc (joined a f) (joined k (λ i. f (a + i))) (f (a + k)))

@@ -1,0 +1,111 @@
+-- Blocks that are appended to a cut card, in whole or in part, leave a cut of the same card. Assumes nothing.
+use Prim.Native.Nat.{ℕ, _+_, _-_, _*_, _/_, _%_, _≤_, _<_}
+use native.Mathlib.Omega.{arith}
+use mathlib.Core.Path.{_≡_, refl, sym, ap, _∙_}
+use mathlib.Core.Bool.{Bool, true, false}
+use mathlib.Core.Logic.{inl, inr, _⊎_}
+use mathlib.Core.List.{List, [], _++_, append-assoc, append-nil}
+use lib.ListN.{length, take, drop, take-append-drop, drop-of-length-le}
+use lib.Seq.{take-take, take-at, take-append-add, take-append-le, length-take-le}
+use lib.Dec.{ltb}
+use borrow.Author.Tests.{ltb-true, ltb-false}
+use Rattle.words.specs.Lists.{joined, part}
+use Rattle.words.proofs.Lists.{joined-same, joined-add, part-part}
+use Rattle.blocks.specs.Format.{blocksFor, usedWords, recordsIn, blockOf}
+use Rattle.blocks.proofs.Counts.{words-are, used-fits, called}
+use Rattle.cards.specs.Writer.{recordsOf, writable, blocksOf, cardOf}
+use Rattle.cards.proofs.Lengths.{length-blocks}
+use Rattle.cards.proofs.Outcomes.{whole-records}
+use Rattle.appends.specs.Append.{blocksFrom}
+use Rattle.appends.specs.File.{patched}
+use Rattle.appends.proofs.Counts.{Next, next-words, length-from}
+
+-- f is the beginning of g
+abbrev pub Begins : List ℕ → List ℕ → Type 0
+Begins f g = (rest : List ℕ) × (f ++ rest ≡ g)
+
+pub begins-take : (m : ℕ) (g : List ℕ) → Begins (take m g) g
+begins-take m g = (drop m g, take-append-drop m g)
+
+pub begins-cut : (m : ℕ) (f g : List ℕ) → Begins f g → Begins (take m f) g
+begins-cut m f g b = (drop m f ++ b .0, sym (append-assoc (take m f) (drop m f) (b .0)) ∙ (ap (λ (x : List ℕ). x ++ b .0) (take-append-drop m f) ∙ b .1))
+
+-- it is so many elements of it
+pub begins-is : (f g : List ℕ) → Begins f g → f ≡ take (length f) g
+begins-is f g b = sym (take-at f (b .0) (length f) refl) ∙ ap (take (length f)) (b .1)
+
+-- the first j of the bytes that follow in g, put over a beginning of g at a place in it
+patch-begins : (front xs after f g : List ℕ) (at j : ℕ) → g ≡ front ++ (xs ++ after) → length front ≡ at → at ≤ length f → j ≤ length xs → Begins f g → Begins (patched f at (take j xs)) g
+unfolding patched
+patch-begins front xs after f g at j e l h k b = go (ltb (at + j) (length f)) refl
+  where
+    m : ℕ
+    m = length f
+
+    size : length (take j xs) ≡ j
+    size = length-take-le j xs k
+
+    -- up to the end of what was put
+    start : take at f ++ take j xs ≡ take (at + j) g
+    start =
+        ap (λ (x : List ℕ). x ++ take j xs)
+        (ap (take at) (begins-is f g b) ∙ (take-take at (length f) g h ∙ (ap (take at) e ∙ take-at front (xs ++ after) at l)))
+        ∙ sym (ap (take (at + j)) e ∙ (ap (λ (n : ℕ). take (n + j) (front ++ (xs ++ after))) (sym l) ∙ (take-append-add front (xs ++ after) j ∙ ap (λ (x : List ℕ). front ++ x) (take-append-le j xs after k))))
+
+    whole : take at f ++ take j xs ++ drop (at + length (take j xs)) f ≡ take (at + j) g ++ drop (at + j) f
+    whole = λ z. start z ++ drop (at + size z) f
+
+    go : (x : Bool) → ltb (at + j) (length f) ≡ x → Begins (take at f ++ take j xs ++ drop (at + length (take j xs)) f) g
+    go true p =
+        let q = ltb-true (at + j) (length f) p in
+        let same : take (at + j) g ≡ take (at + j) f = sym (ap (take (at + j)) (begins-is f g b) ∙ take-take (at + j) (length f) g (omega (arith, q))) in
+        (b .0, ap (λ (x : List ℕ). x ++ b .0) (whole ∙ (ap (λ (x : List ℕ). x ++ drop (at + j) f) same ∙ take-append-drop (at + j) f)) ∙ b .1)
+    go false p =
+        let none : drop (at + j) f ≡ [] = drop-of-length-le f (ltb-false (at + j) (length f) p) in
+        (drop (at + j) g, ap (λ (x : List ℕ). x ++ drop (at + j) g) (whole ∙ (ap (λ (x : List ℕ). take (at + j) g ++ x) none ∙ append-nil (take (at + j) g))) ∙ take-append-drop (at + j) g)
+
+-- the next records of l
+module _ (l : List ℕ) (can : writable l ≡ true) (b : ℕ) (rs : List ℕ) (own : rs ≡ part (120 * b) (length rs) l) (ok : writable rs ≡ true) (f : Next (recordsOf l) b (recordsOf rs)) where
+  -- they are among those of l
+  among : 12 * b + recordsOf rs ≤ recordsOf l
+  among = go (f .kind)
+    where
+      go : (12 * b + recordsOf rs ≡ recordsOf l) ⊎ ((12 * b + recordsOf rs < recordsOf l) × (recordsOf rs % 12 ≡ 0)) → 12 * b + recordsOf rs ≤ recordsOf l
+      go (inl e) = omega (arith, e)
+      go (inr e) = omega (arith, e .0)
+
+  -- each of their blocks is the block of l
+  one : (i : ℕ) → i < blocksFor (recordsOf rs) → part (120 * i) (usedWords (recordsOf l) (b + i)) rs ≡ recordsIn (recordsOf l) (b + i) l
+  unfolding recordsIn
+  one i h =
+      ap (part (120 * i) (usedWords (recordsOf l) (b + i))) own
+      ∙ (part-part (120 * b) (length rs) (120 * i) (usedWords (recordsOf l) (b + i)) l
+      (omega (arith, next-words (recordsOf l) b (recordsOf rs) i f h, words-are (recordsOf rs) i, used-fits (recordsOf rs) i (called (recordsOf rs) i h), whole-records rs ok))
+      (omega (arith, among, whole-records rs ok, whole-records l can))
+      ∙ ap (λ (p : ℕ). part p (usedWords (recordsOf l) (b + i)) l) place)
+    where
+      place : 120 * b + 120 * i ≡ 120 * (b + i)
+      place = omega arith
+
+  fit-in : b + blocksFor (recordsOf rs) ≤ blocksFor (recordsOf l)
+  unfolding blocksFor
+  fit-in = omega (arith, among)
+
+  -- the card of l: the blocks before, theirs, and the rest
+  pub card-split : (rest : List ℕ) × (cardOf l ≡ blocksOf b (recordsOf l) l ++ (blocksFrom (recordsOf l) b rs ++ rest))
+  unfolding cardOf blocksOf blocksFrom
+  card-split =
+      let n = recordsOf l in
+      let k = blocksFor (recordsOf rs) in
+      let m = blocksFor n - (b + k) in
+      let g : ℕ → List ℕ = λ i. blockOf n i (recordsIn n i l) in
+      let theirs = joined-same k (λ i. blockOf n (b + i) (part (120 * i) (usedWords n (b + i)) rs)) (λ i. g (b + i)) (λ i h. ap (blockOf n (b + i)) (one i h)) in
+      let count : blocksFor n ≡ b + (k + m) = omega (arith, fit-in) in
+      (joined m (λ i. g (b + (k + i))), ap (λ (j : ℕ). joined j g) count ∙ (joined-add b (k + m) g ∙ ap (λ (x : List ℕ). joined b g ++ x) (joined-add k m (λ i. g (b + i)) ∙ ap (λ (x : List ℕ). x ++ joined m (λ i. g (b + (k + i)))) (sym theirs))))
+
+  -- and what appending them leaves, in whole or in part
+  pub append-begins : (c : List ℕ) (j : ℕ) → b ≡ length c / 512 → j ≤ 512 * blocksFor (recordsOf rs) → Begins c (cardOf l) → Begins (patched c (512 * b) (take j (blocksFrom (recordsOf l) b rs))) (cardOf l)
+  unfolding blocksFrom
+  append-begins c j e h s =
+      patch-begins (blocksOf b (recordsOf l) l) (blocksFrom (recordsOf l) b rs) (card-split .0) c (cardOf l) (512 * b) j (card-split .1)
+      (length-blocks b (recordsOf l) l (omega (arith, whole-records l can)) (omega (arith, fit-in))) (omega (arith, e)) (omega (arith, h, length-from (recordsOf l) b rs f (blocksFor (recordsOf rs)) (omega arith))) s

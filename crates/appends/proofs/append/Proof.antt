@@ -1,0 +1,135 @@
+-- `appends::append` meets its contract. Assumes nothing.
+use native.Mathlib.Omega.{arith}
+use Prim.Native.Nat.{_*_, _/_, _≤_}
+use mathlib.Core.Path.{_≡_, sym, _∙_, ap}
+use mathlib.Core.Bool.{true, false}
+use lib.ListN.{length}
+use borrow.Author.Tests.{not-true, not-false}
+use Rattle.cards.specs.Writer.{recordsOf, writable, cardBytes}
+use Rattle.cards.proofs.Outcomes.{few-records}
+use Rattle.appends.specs.Next.{beyond, firstTorn, placeOf}
+use Rattle.appends.specs.Append.{follow, notAdded, nowAdded}
+use Rattle.appends.specs.Contract.{afterAppend}
+use Rattle.appends.specs.declared.Appended.{Appended}
+use Rattle.appends.proofs.Counts.{torn-among, blocks-le}
+use Rattle.appends.proofs.Outcomes.{added-1, added-2, added-3, added-by}
+use borrow.Author.Needs.{needs}
+use Rattle.appends.proofs.append.Statement.{statement}
+use Rattle.appends.proofs.append.Tie as tie
+
+-- what is known past each test
+can : (c : tie.Else1) → writable (c .before .before .before .before .args .records .now) ≡ true
+can c = sym (c .before .writable .ensures) ∙ not-false _ (c .if1 .left)
+
+room : (c : tie.Else2) → let a = c .before .before .before .before .before .before .args in cardBytes (recordsOf (a .records .now)) ≤ length (a .lent .now)
+unfolding cardBytes recordsOf
+room c = omega (arith, c .if2 .left, c .before .blocks-for .ensures .0)
+
+within : (c : tie.Else3) → let a = c .before .before .before .before .before .before .before .before .args in beyond (a .total) (a .long) ≡ false
+within c = sym (c .before .beyond .ensures) ∙ c .if3 .left
+
+told : (c : tie.After-follow) → let a = c .before .before .before .before .before .before .before .before .before .args in c .follow .result ≡ follow (a .total) (firstTorn (a .long)) (recordsOf (a .records .now))
+unfolding firstTorn recordsOf
+told c = c .follow .ensures
+
+writable-requires : tie.Need-writable-requires
+writable-requires c κs = search needs
+
+refused-requires : tie.Need-refused-requires
+refused-requires c κs = search needs
+
+returns : tie.Need-returns
+unfolding afterAppend notAdded
+returns c =
+    let t = c .before in
+    let a = t .before .before .before .before .args in
+    ap (λ (r : Appended). afterAppend r (a .lent .now)) (c .refused .ensures)
+    ∙ sym (added-1 (a .total) (a .long) (a .records .now) (a .lent .now) (sym (t .before .writable .ensures) ∙ not-true _ (t .if1 .taken)))
+
+cast-count : tie.Need-cast-count
+unfolding recordsOf
+cast-count c = omega (arith, few-records (c .before .before .before .before .args .records .now) (can c))
+
+blocks-for-requires : tie.Need-blocks-for-requires
+blocks-for-requires c κs = search needs
+
+mul-bytes : tie.Need-mul-bytes
+mul-bytes c = search needs
+
+refused-requires-2 : tie.Need-refused-requires-2
+refused-requires-2 c κs = search needs
+
+returns-2 : tie.Need-returns-2
+unfolding afterAppend notAdded cardBytes recordsOf
+returns-2 c =
+    let t = c .before in
+    let e = t .before .before in
+    let a = e .before .before .before .before .args in
+    ap (λ (r : Appended). afterAppend r (a .lent .now)) (c .refused2 .ensures)
+    ∙ sym (added-2 (a .total) (a .long) (a .records .now) (a .lent .now) (can e) (omega (arith, t .if2 .taken, t .before .blocks-for .ensures .0)))
+
+beyond-requires : tie.Need-beyond-requires
+beyond-requires c κs = search needs
+
+refused-requires-3 : tie.Need-refused-requires-3
+refused-requires-3 c κs = search needs
+
+returns-3 : tie.Need-returns-3
+unfolding afterAppend notAdded
+returns-3 c =
+    let t = c .before in
+    let e = t .before .before in
+    let a = e .before .before .before .before .before .before .args in
+    ap (λ (r : Appended). afterAppend r (a .lent .now)) (c .refused3 .ensures)
+    ∙ sym (added-3 (a .total) (a .long) (a .records .now) (a .lent .now) (can (e .before .before)) (room e) (sym (t .before .beyond .ensures) ∙ t .if3 .taken))
+
+follow-requires : tie.Need-follow-requires
+unfolding firstTorn
+follow-requires c =
+    let a = c .before .before .before .before .before .before .before .before .args in
+    omega (arith, torn-among (a .total) (a .long) (within c), blocks-le (a .total))
+
+refused-requires-4 : tie.Need-refused-requires-4
+refused-requires-4 c κs = search needs
+
+returns-4 : tie.Need-returns-4
+unfolding afterAppend notAdded
+returns-4 c =
+    let t = c .before in
+    let e = t .before .before in
+    let a = e .before .before .before .before .before .before .before .before .args in
+    ap (λ (r : Appended). afterAppend r (a .lent .now)) (c .refused4 .ensures)
+    ∙ sym (added-by (a .total) (a .long) (a .records .now) (a .lent .now) (can (e .before .before .before .before)) (room (e .before .before)) (within e) false (sym (told (t .before)) ∙ not-true _ (t .if4 .taken)))
+
+put-blocks-requires : tie.Need-put-blocks-requires
+unfolding firstTorn
+put-blocks-requires c κs =
+    let t = c .before in
+    let e = t .before .before in
+    let a = e .before .before .before .before .before .before .before .before .args in
+    (sym (told (t .before)) ∙ not-false _ (t .if4 .left), few-records (a .records .now) (can (e .before .before .before .before)), omega (arith, torn-among (a .total) (a .long) (within e), blocks-le (a .total)), room (e .before .before))
+
+mul-t10 : tie.Need-mul-t10
+mul-t10 c = search needs
+
+same-length : tie.Need-same-length
+same-length c = search needs
+
+returns-5 : tie.Need-returns-5
+unfolding afterAppend nowAdded firstTorn placeOf cardBytes recordsOf
+returns-5 c =
+    let p = c .before .before in
+    let t = p .before .before in
+    let e = t .before .before in
+    let f = e .before .before .before in
+    let a = f .before .before .before .before .before .args in
+    (λ z. record { number = 0; at = 512 * (a .long / 512); bytes = 512 * f .blocks-for .ensures .0 z; blocks = p .put-blocks .ensures z })
+    ∙ sym (added-by (a .total) (a .long) (a .records .now) (a .lent .now) (can (f .before)) (room (e .before .before)) (within e) true (sym (told (t .before)) ∙ not-false _ (t .if4 .left)))
+
+pub append-spec : {M : Type 1} → statement M
+append-spec =
+    tie.close
+    (tie.spec
+    writable-requires refused-requires returns cast-count blocks-for-requires mul-bytes refused-requires-2 returns-2
+    beyond-requires refused-requires-3 returns-3 follow-requires refused-requires-4 returns-4 put-blocks-requires
+    mul-t10 same-length returns-5)

@@ -1,0 +1,37 @@
+-- `appends::next_block` meets its contract. Assumes nothing.
+use Prim.Native.Nat.{_*_, _/_}
+use mathlib.Core.Path.{sym, _∙_}
+use mathlib.Core.Bool.{true, false}
+use Rattle.appends.specs.Next.{firstTorn, placeOf}
+use Rattle.appends.specs.Contract.{afterNext}
+use Rattle.appends.proofs.Outcomes.{following-by}
+use borrow.Author.Needs.{needs}
+use Rattle.appends.proofs.next_block.Statement.{statement}
+use Rattle.appends.proofs.next_block.Tie as tie
+
+beyond-requires : tie.Need-beyond-requires
+beyond-requires c κs = search needs
+
+returns : tie.Need-returns
+unfolding afterNext
+returns c =
+    let a = c .before .before .args in
+    sym (following-by (a .total) (a .long) true (sym (c .before .beyond .ensures) ∙ c .if1 .taken))
+
+mul-t5 : tie.Need-mul-t5
+mul-t5 c = search needs
+
+wanted-requires : tie.Need-wanted-requires
+wanted-requires c κs = search needs
+
+returns-2 : tie.Need-returns-2
+unfolding afterNext firstTorn placeOf
+returns-2 c =
+    let e = c .before in
+    let a = e .before .before .args in
+    (λ z. record { number = 0; block = a .long / 512; at = 512 * (a .long / 512); records = c .wanted .ensures z })
+    ∙ sym (following-by (a .total) (a .long) false (sym (e .before .beyond .ensures) ∙ e .if1 .left))
+
+pub next-block-spec : {M : Type 1} → statement M
+next-block-spec = tie.close (tie.spec
+    beyond-requires returns mul-t5 wanted-requires returns-2)

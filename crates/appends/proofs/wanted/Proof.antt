@@ -1,0 +1,23 @@
+-- `appends::wanted` meets its contract. Assumes nothing.
+use native.Mathlib.Omega.{arith}
+use Rattle.blocks.specs.Format.{blocksFor, used}
+use borrow.Author.Needs.{needs}
+use Rattle.appends.proofs.wanted.Statement.{statement}
+use Rattle.appends.proofs.wanted.Tie as tie
+
+blocks-for-requires : tie.Need-blocks-for-requires
+blocks-for-requires c κs = search needs
+
+returns : tie.Need-returns
+unfolding blocksFor used
+returns c = omega (arith, c .if1 .taken, c .before .blocks-for .ensures .0)
+
+used-requires : tie.Need-used-requires
+used-requires c κs = search needs
+
+returns-2 : tie.Need-returns-2
+returns-2 c = search needs
+
+pub wanted-spec : {M : Type 1} → statement M
+wanted-spec = tie.close (tie.spec
+    blocks-for-requires returns used-requires returns-2)

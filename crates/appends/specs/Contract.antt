@@ -1,0 +1,24 @@
+-- What `next_block` and `append` promise, for every input. Definitions only.
+use Prim.Native.Nat.{ℕ}
+use mathlib.Core.Path.{_≡_}
+use mathlib.Core.List.{List}
+use Rattle.appends.specs.Next.{Following, following}
+use Rattle.appends.specs.Append.{Added, added}
+use Rattle.appends.specs.declared.Next.{Next}
+use Rattle.appends.specs.declared.Appended.{Appended}
+
+-- what `next_block` returned
+unfoldable pub afterNext : Next → Following
+afterNext r = record { number = r .number; block = r .block; at = r .at; records = r .records }
+
+-- The contract of `next_block`: of a card of so many bytes and the total n it returned r.
+abbrev pub Follows : ℕ → ℕ → Next → Type 0
+Follows long n r = afterNext r ≡ following n long
+
+-- all that a call of `append` leaves behind
+unfoldable pub afterAppend : Appended → List ℕ → Added
+afterAppend r lent = record { number = r .number; at = r .at; bytes = r .bytes; blocks = lent }
+
+-- The contract of `append`. Handed in: the length of the card, the total n and the records l; lent: the list c, which it leaves as d; returned: r.
+abbrev pub Appends : ℕ → ℕ → List ℕ → List ℕ → Appended → List ℕ → Type 0
+Appends long n l c r d = afterAppend r d ≡ added n long l c

@@ -1,0 +1,4 @@
+pub mod Next
+pub mod Append
+pub mod Contract
+pub mod File

@@ -1,0 +1,31 @@
+-- Which block comes next on a card that may be torn, from request E14. Definitions only.
+use Prim.Native.Nat.{ℕ, _*_, _/_}
+use mathlib.Core.Bool.{Bool, cond}
+use lib.Dec.{ltb}
+use Rattle.blocks.specs.Format.{blockBytes, blocksFor, used}
+
+-- whether a card of so many bytes holds more than n records call for
+unfoldable pub beyond : ℕ → ℕ → Bool
+beyond n length = ltb (blockBytes * blocksFor n) length
+
+-- the first block that is not whole: 'Appending after that starts at the torn block'
+unfoldable pub firstTorn : ℕ → ℕ
+firstTorn length = length / blockBytes
+
+-- where its bytes go
+unfoldable pub placeOf : ℕ → ℕ
+placeOf length = blockBytes * firstTorn length
+
+-- what is next on a card of so many bytes
+pub record Following : Type 0 where
+  pub number : ℕ
+  pub block : ℕ
+  pub at : ℕ
+  pub records : ℕ
+
+-- the torn block, where it goes and how many records it takes, none where the card is whole; refused with 3 where it holds more than n records call for
+unfoldable pub following : ℕ → ℕ → Following
+following n length =
+    cond (beyond n length)
+    (record { number = 3; block = 0; at = 0; records = 0 })
+    (record { number = 0; block = firstTorn length; at = placeOf length; records = used n (firstTorn length) })

@@ -1,0 +1,126 @@
+// Appending to a card that may be torn: request E14. A program with a file asks which block comes next, hands in its records, and puts the bytes at their place.
+ghost use mathlib.Core.Path.{_≡_};
+ghost use mathlib.Core.Bool.{true, false};
+ghost use mathlib.Core.List.{_++_};
+ghost use Prim.Native.Nat.{_+_, _*_, _≤_, _<_};
+ghost use lib.ListN.{length, drop};
+ghost use Rattle.blocks.specs.Format.{used};
+ghost use Rattle.cards.specs.Writer.{recordsOf, cardBytes};
+ghost use Rattle.appends.specs.Next as next;
+ghost use Rattle.appends.specs.Append as spec;
+ghost use Rattle.appends.specs.Contract.{Follows, Appends};
+
+// What comes next on a card: 0, the number of the block, where its bytes go and how many records it takes (none where the card is whole); or 3 and zeros.
+#[repr(C)]
+pub struct Next {
+    pub number: u32,
+    pub block: usize,
+    pub at: usize,
+    pub records: usize,
+}
+
+// What `append` returns: 0, where the bytes go and how many they are; or a refusal, 1 to 4, and zeros.
+#[repr(C)]
+pub struct Appended {
+    pub number: u32,
+    pub at: usize,
+    pub bytes: usize,
+}
+
+// Whether a card of so many bytes holds more than the total calls for.
+fn beyond(long: usize, total: u32) -> bool
+    ensures { λ r. ⌜ r ≡ next.beyond total long ⌝ }
+{
+    512 * blocks::blocks_for(total) < long
+}
+
+// How many records block b takes, none where the total does not call for it.
+fn wanted(total: u32, b: usize) -> usize
+    ensures { λ r. ⌜ r ≡ used total b ⌝ }
+{
+    if blocks::blocks_for(total) <= b {
+        return 0;
+    }
+    blocks::used(total, b)
+}
+
+// What comes next on a card of so many bytes: refused with 3 where it holds more than the total calls for.
+pub fn next_block(long: usize, total: u32) -> Next
+    ensures { λ r. ⌜ Follows long total r ⌝ }
+{
+    if beyond(long, total) {
+        return Next {
+            number: 3,
+            block: 0,
+            at: 0,
+            records: 0,
+        };
+    }
+    let block = long / 512;
+    Next {
+        number: 0,
+        block: block,
+        at: 512 * block,
+        records: wanted(total, block),
+    }
+}
+
+// Whether so many records are those of block b and of whole blocks after it.
+fn follow(total: u32, b: usize, count: u32) -> bool
+    requires { ⌜ b ≤ 4294967296 ⌝ }
+    ensures { λ r. ⌜ r ≡ spec.follow total b count ⌝ }
+{
+    let end = 12 * b + count as usize;
+    let all = end == total as usize;
+    let full = (end < total as usize) & (count % 12 == 0);
+    (0 < count) & (all | full)
+}
+
+// The bytes of the blocks from b on that hold these records.
+fn put_blocks(total: u32, b: usize, records: &[u32], lent: &mut [u8])
+    requires { ⌜ (spec.follow total b (recordsOf (now records)) ≡ true) × (recordsOf (now records) < 4294967296) × (b ≤ 4294967296) × (cardBytes (recordsOf (now records)) ≤ length (now lent)) ⌝ }
+    ensures { λ _. ⌜ now (lent .exit) ≡ spec.blocksFrom total b (now (records .entry)) ++ drop (cardBytes (recordsOf (now (records .entry)))) (now (lent .entry)) ⌝ }
+{
+    for i in 0..blocks::blocks_for((records.len() / 10) as u32) {
+        blocks::put_block(lent, i, total, b + i, records, 120 * i);
+    }
+}
+
+// The blocks of these records for a card of so many bytes, and where they go. Refused with 1 where they are not whole records with 0 or 1 in word 0, with 2 where the lent list is
+// too short, with 3 where the card holds more than the total calls for, with 4 where they are not the records of the next blocks by count.
+pub fn append(long: usize, total: u32, records: &[u32], lent: &mut [u8]) -> Appended
+    ensures { λ r. ⌜ Appends long total (now (records .entry)) (now (lent .entry)) r (now (lent .exit)) ⌝ }
+{
+    if !cards::writable(records) {
+        return refused(1);
+    }
+    let count = (records.len() / 10) as u32;
+    let bytes = 512 * blocks::blocks_for(count);
+    if lent.len() < bytes {
+        return refused(2);
+    }
+    if beyond(long, total) {
+        return refused(3);
+    }
+    let first = long / 512;
+    if !follow(total, first, count) {
+        return refused(4);
+    }
+    put_blocks(total, first, records, lent);
+    Appended {
+        number: 0,
+        at: 512 * first,
+        bytes: bytes,
+    }
+}
+
+// A refusal.
+fn refused(number: u32) -> Appended
+    ensures { λ r. ⌜ r ≡ record { number = number; at = 0; bytes = 0 } ⌝ }
+{
+    Appended {
+        number: number,
+        at: 0,
+        bytes: 0,
+    }
+}

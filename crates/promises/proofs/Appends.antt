@@ -1,0 +1,192 @@
+-- What is promised of appending holds: each from the contracts. Assumes nothing.
+use Prim.Native.Nat.{ℕ, _*_, _/_, _≤_, _<_}
+use native.Mathlib.Omega.{arith}
+use mathlib.Core.Path.{_≡_, refl, sym, ap, _∙_, subst}
+use mathlib.Core.Bool.{Bool, true, false}
+use mathlib.Core.List.{List, _++_}
+use lib.ListN.{length, getD, take, drop, length-append}
+use lib.Seq.{take-append-le, take-all}
+use lib.Dec.{leb}
+use borrow.Author.Tests.{leb-true, leb-false, le-ltb}
+use Rattle.words.specs.Lists.{everyBelow, part}
+use Rattle.words.specs.Words.{Fit}
+use Rattle.blocks.specs.Format.{blocksFor, used, recordsIn}
+use Rattle.cards.specs.Writer.{recordsOf, writable, cardBytes, cardOf}
+use Rattle.cards.specs.Reader.{blocksThere, bytesPast}
+use Rattle.words.proofs.Lists.{part-front}
+use Rattle.blocks.proofs.Counts.{words-are, used-le, used-one, called}
+use Rattle.blocks.proofs.Judged.{good-none, read-lost}
+use Rattle.blocks.proofs.Same.{same-read}
+use Rattle.cards.proofs.Lengths.{length-own}
+use Rattle.cards.proofs.Outcomes.{whole-records, can-write}
+use Rattle.cards.proofs.Back.{marks, block-back, length-card}
+use Rattle.appends.specs.Next.{beyond, firstTorn, placeOf}
+use Rattle.appends.specs.Append.{follow, blocksFrom, notAdded, nowAdded}
+use Rattle.appends.specs.File.{patched}
+use Rattle.appends.specs.Contract.{afterNext, afterAppend}
+use Rattle.appends.proofs.Counts.{Next, follows, follow-is, one-next, length-from}
+use Rattle.appends.proofs.Outcomes.{following-by, added-1, added-2, added-3, added-by}
+use Rattle.appends.proofs.Runs.{Begins, begins-is, begins-cut, append-begins}
+use Rattle.promises.specs.Cards.{Reading}
+use Rattle.promises.proofs.Cards.{left-of, block-read}
+use Rattle.promises.specs.Appends.{Appending, Asking, NextOf, Walk, start, more, cut, Finds, AppendsPromised}
+
+-- an appending that was accepted
+record Accepted (long n : ℕ) (rs c : List ℕ) (a : Appending long n rs c) : Type 0 where
+  can : writable rs ≡ true
+  room : cardBytes (recordsOf rs) ≤ length c
+  within : beyond n long ≡ false
+  next : follow n (firstTorn long) (recordsOf rs) ≡ true
+  left : afterAppend (a .returned) (a .lent) ≡ nowAdded n long rs c
+
+module _ (long n : ℕ) (rs c : List ℕ) (a : Appending long n rs c) (zero : a .returned .number ≡ 0) where
+  -- no refusal leaves the number 0
+  not-refused : (k : ℕ) → 0 < k → afterAppend (a .returned) (a .lent) ≡ notAdded k c → ⊥
+  unfolding afterAppend notAdded
+  not-refused k h e =
+      let number : a .returned .number ≡ k = λ i. e i .number in
+      omega (arith, h, zero, number)
+
+  accepted : Accepted long n rs c a
+  accepted = first (writable rs) refl
+    where
+      fourth : (x : Bool) → writable rs ≡ true → cardBytes (recordsOf rs) ≤ length c → beyond n long ≡ false → follow n (firstTorn long) (recordsOf rs) ≡ x → Accepted long n rs c a
+      fourth true p q r s = record { can = p; room = q; within = r; next = s; left = a .meets ∙ added-by n long rs c p q r true s }
+      fourth false p q r s = absurd (not-refused 4 (omega arith) (a .meets ∙ added-by n long rs c p q r false s))
+
+      third : (x : Bool) → writable rs ≡ true → cardBytes (recordsOf rs) ≤ length c → beyond n long ≡ x → Accepted long n rs c a
+      third true p q r = absurd (not-refused 3 (omega arith) (a .meets ∙ added-3 n long rs c p q r))
+      third false p q r = fourth (follow n (firstTorn long) (recordsOf rs)) p q r refl
+
+      second : (x : Bool) → writable rs ≡ true → leb (cardBytes (recordsOf rs)) (length c) ≡ x → Accepted long n rs c a
+      second true p q = third (beyond n long) p (leb-true (cardBytes (recordsOf rs)) (length c) q) refl
+      second false p q = absurd (not-refused 2 (omega arith) (a .meets ∙ added-2 n long rs c p (leb-false (cardBytes (recordsOf rs)) (length c) q)))
+
+      first : (x : Bool) → writable rs ≡ x → Accepted long n rs c a
+      first true p = second (leb (cardBytes (recordsOf rs)) (length c)) p refl
+      first false p = absurd (not-refused 1 (omega arith) (a .meets ∙ added-1 n long rs c p))
+
+-- what an accepted appending leaves on the file begins the card
+appended : (l f rs c : List ℕ) (a : Appending (length f) (recordsOf l) rs c) (j : ℕ) → writable l ≡ true → NextOf l (length f) rs → Accepted (length f) (recordsOf l) rs c a → j ≤ a .returned .bytes → Begins f (cardOf l) → Begins (patched f (a .returned .at) (take j (a .lent))) (cardOf l)
+unfolding afterAppend nowAdded placeOf firstTorn cardBytes blocksFrom
+appended l f rs c a j can own p h b =
+    let n = recordsOf l in
+    let k = length f / 512 in
+    let next = follows n k (recordsOf rs) (p .next) in
+    let e = p .left in
+    let at : a .returned .at ≡ 512 * k = λ i. e i .at in
+    let size : a .returned .bytes ≡ 512 * blocksFor (recordsOf rs) = λ i. e i .bytes in
+    let lent : a .lent ≡ blocksFrom n k rs ++ drop (512 * blocksFor (recordsOf rs)) c = λ i. e i .blocks in
+    let long : length (blocksFrom n k rs) ≡ 512 * blocksFor (recordsOf rs) = length-from n k rs next (blocksFor (recordsOf rs)) (omega arith) in
+    let put : take j (a .lent) ≡ take j (blocksFrom n k rs) = ap (take j) lent ∙ take-append-le j (blocksFrom n k rs) (drop (512 * blocksFor (recordsOf rs)) c) (omega (arith, h, size, long)) in
+    subst (λ (x : List ℕ). Begins x (cardOf l)) (sym (λ i. patched f (at i) (put i))) (append-begins l can k rs own (p .can) next f j refl (omega (arith, h, size)) b)
+
+-- what is on the file begins the card
+begins : (l f : List ℕ) → writable l ≡ true → Walk l f → Begins f (cardOf l)
+begins l f can start = (cardOf l, refl)
+begins l f can (cut g m w) = begins-cut m g (cardOf l) (begins l g can w)
+begins l f can (more g rs c a j w own zero h) = appended l g rs c a j can own (accepted (length g) (recordsOf l) rs c a zero) h (begins l g can w)
+
+-- no longer than it
+no-longer : (l f : List ℕ) → Begins f (cardOf l) → length f ≤ length (cardOf l)
+no-longer l f b = omega (arith, length-append f (b .0), ap length (b .1))
+
+-- 'For every cut length n, the reader finds ..'
+finds : (l f a : List ℕ) (r : Reading f (recordsOf l) a) → writable l ≡ true → Fit l → Walk l f → r .returned .number ≡ 0 → Finds l (length f) (r .returned .past) (r .answer)
+unfolding bytesPast blocksThere
+finds l f a r can fit w z =
+    record {
+      whole = λ b h.
+          let c : b < blocksFor n = omega (arith, h, most) in
+          block-read f n b a r c z ∙ (same-read n b f (cardOf l) (bytes b h) ∙ block-back l can fit b c);
+      torn = left-of f n a r z .past ∙ omega (arith, most);
+      others = λ b h c. block-read f n b a r c z ∙ read-lost n b f (sym (good-none n b f h));
+    }
+  where
+    n : ℕ
+    n = recordsOf l
+
+    b : Begins f (cardOf l)
+    b = begins l f can w
+
+    most : length f ≤ 512 * blocksFor (recordsOf l)
+    most = omega (arith, no-longer l f (begins l f can w), length-card l can)
+
+    bytes : (k : ℕ) → k < length f / 512 → part (512 * k) 512 f ≡ part (512 * k) 512 (cardOf l)
+    bytes k h = sym (part-front f (begins l f can w .0) (512 * k) 512 (omega (arith, h))) ∙ ap (part (512 * k) 512) (begins l f can w .1)
+
+-- a card on which a block is missing
+module _ (l f : List ℕ) (can : writable l ≡ true) (w : Walk l f) where
+  most : length f ≤ 512 * blocksFor (recordsOf l)
+  most = omega (arith, no-longer l f (begins l f can w), length-card l can)
+
+  not-beyond : beyond (recordsOf l) (length f) ≡ false
+  unfolding beyond
+  not-beyond = le-ltb (512 * blocksFor (recordsOf l)) (length f) most
+
+  asks : (q : Asking (length f) (recordsOf l)) → (q .returned .number ≡ 0) × (q .returned .block ≡ length f / 512) × (q .returned .at ≡ 512 * (length f / 512)) × (q .returned .records ≡ used (recordsOf l) (length f / 512))
+  unfolding afterNext firstTorn placeOf
+  asks q =
+      let e = q .meets ∙ following-by (recordsOf l) (length f) false not-beyond in
+      (λ i. e i .number, λ i. e i .block, λ i. e i .at, λ i. e i .records)
+
+  module _ (h : length f < length (cardOf l)) where
+    abbrev n : ℕ
+    n = recordsOf l
+
+    abbrev k : ℕ
+    k = length f / 512
+
+    abbrev rs : List ℕ
+    rs = recordsIn (recordsOf l) (length f / 512) l
+
+    missing : 12 * k < n
+    missing = called n k (omega (arith, h, length-card l can))
+
+    length-rs : length rs ≡ 10 * used n k
+    length-rs = length-own n k l (omega (arith, whole-records l can)) missing ∙ words-are n k
+
+    count : recordsOf rs ≡ used n k
+    unfolding recordsOf
+    count = omega (arith, length-rs)
+
+    can-rs : writable rs ≡ true
+    can-rs = can-write rs (omega (arith, length-rs)) (omega (arith, count, used-le n k)) (ap (λ (m : ℕ). everyBelow m (λ r. leb (getD rs (10 * r) 0) 1)) count ∙ marks l can k missing)
+
+    one : blocksFor (recordsOf rs) ≡ 1
+    unfolding blocksFor
+    one = omega (arith, count, used-le n k, used-one n k missing)
+
+    goes-on : (c : List ℕ) (a : Appending (length f) n rs c) → 512 ≤ length c → (a .returned .number ≡ 0) × (a .returned .at ≡ 512 * k) × (a .returned .bytes ≡ 512)
+    unfolding afterAppend nowAdded firstTorn placeOf cardBytes
+    goes-on c a m =
+        let next = follow-is n k (recordsOf rs) (subst (Next n k) (sym count) (one-next n k missing)) in
+        let e = a .meets ∙ added-by n (length f) rs c can-rs (omega (arith, one, m)) not-beyond true next in
+        (λ i. e i .number, λ i. e i .at, (λ i. e i .bytes) ∙ ap (λ (x : ℕ). 512 * x) one)
+
+one-appending : (long n : ℕ) (rs c : List ℕ) (a b : Appending long n rs c) → (a .returned ≡ b .returned) × (a .lent ≡ b .lent)
+unfolding afterAppend
+one-appending long n rs c a b =
+    let e = a .meets ∙ sym (b .meets) in
+    (λ i. record { number = e i .number; at = e i .at; bytes = e i .bytes }, λ i. e i .blocks)
+
+one-asking : (long n : ℕ) (a b : Asking long n) → a .returned ≡ b .returned
+unfolding afterNext
+one-asking long n a b =
+    let e = a .meets ∙ sym (b .meets) in
+    λ i. record { number = e i .number; block = e i .block; at = e i .at; records = e i .records }
+
+same : (l f : List ℕ) → writable l ≡ true → Walk l f → f ≡ take (length f) (cardOf l)
+same l f can w = begins-is f (cardOf l) (begins l f can w)
+
+pub appends-promised : AppendsPromised
+appends-promised =
+    record {
+      same = same;
+      end = λ l f can w e. same l f can w ∙ take-all (length f) (cardOf l) (omega (arith, e));
+      finds = finds;
+      goes-on = λ l f c a can w h m. goes-on l f can w h c a m;
+      asks = λ l f q can w. asks l f can w q;
+      one-appending = one-appending;
+      one-asking = one-asking;
+    }

@@ -1,0 +1,64 @@
+-- Appending to a card while the power may go (crate appends; dokphalun_card_next and dokphalun_card_append of the archive): what is promised of whatever the contracts allow. Definitions only.
+use Prim.Native.Nat.{ℕ, _*_, _/_, _%_, _≤_, _<_}
+use mathlib.Core.Path.{_≡_}
+use mathlib.Core.Bool.{true}
+use mathlib.Core.List.{List, []}
+use lib.ListN.{length, take}
+use Rattle.words.specs.Lists.{joined, part}
+use Rattle.words.specs.Words.{Fit}
+use Rattle.blocks.specs.Format.{blockBytes, roomWords, blocksFor, used, recordsIn}
+use Rattle.blocks.specs.Judged.{lost}
+use Rattle.cards.specs.Writer.{recordsOf, writable, cardOf}
+use Rattle.appends.specs.declared.Next.{Next}
+use Rattle.appends.specs.declared.Appended.{Appended}
+use Rattle.appends.specs.File.{patched}
+use Rattle.appends.specs.Contract.{Follows, Appends}
+use Rattle.promises.specs.Cards.{Reading}
+
+-- a call of `append` that was made: of a card of so many bytes, the total n, the records rs and the lent list c
+pub record Appending (long n : ℕ) (rs c : List ℕ) : Type 0 where
+  pub returned : Appended
+  pub lent : List ℕ
+  pub meets : Appends long n rs c returned lent
+
+-- a call of `next_block`
+pub record Asking (long n : ℕ) : Type 0 where
+  pub returned : Next
+  pub meets : Follows long n returned
+
+-- records rs are the next of l for a card of so many bytes: those from the torn block on
+abbrev pub NextOf : List ℕ → ℕ → List ℕ → Type 0
+NextOf l long rs = rs ≡ part (roomWords * (long / blockBytes)) (length rs) l
+
+-- What the file may hold in a walk round the tank whose records are l, 'block by block', where 'the power may go after any byte'
+pub data Walk (l : List ℕ) : List ℕ → Type 0 where
+  -- nothing yet
+  start : Walk l []
+  -- the next records were appended, and the power went after j of the bytes, or not at all
+  more : (f rs c : List ℕ) (a : Appending (length f) (recordsOf l) rs c) (j : ℕ) → Walk l f → NextOf l (length f) rs → a .returned .number ≡ 0 → j ≤ a .returned .bytes → Walk l (patched f (a .returned .at) (take j (a .lent)))
+  -- bytes at the end were lost
+  cut : (f : List ℕ) (m : ℕ) → Walk l f → Walk l (take m f)
+
+-- what the reader finds on a card of so many bytes, of the records l, in the answer list
+pub record Finds (l : List ℕ) (long past : ℕ) (answer : List ℕ) : Type 0 where
+  -- 'exactly the first n / 512 blocks, rounded down, as they were written'
+  pub whole : (b : ℕ) → b < long / blockBytes → recordsIn (recordsOf l) b answer ≡ recordsIn (recordsOf l) b l
+  -- 'reports the torn rest by its length'
+  pub torn : past ≡ long % blockBytes
+  -- 'and shows every record outside those blocks as lost'
+  pub others : (b : ℕ) → long / blockBytes ≤ b → b < blocksFor (recordsOf l) → recordsIn (recordsOf l) b answer ≡ joined (used (recordsOf l) b) (λ _. lost)
+
+pub record AppendsPromised : Type 0 where
+  -- whatever the cuts, one after another, the file holds the beginning of the card that a run without them writes
+  pub same : (l f : List ℕ) → writable l ≡ true → Walk l f → f ≡ take (length f) (cardOf l)
+  -- so it 'ends in the same bytes as a run without the cut'
+  pub end : (l f : List ℕ) → writable l ≡ true → Walk l f → length f ≡ length (cardOf l) → f ≡ cardOf l
+  -- 'For every cut length n, the reader finds ..'
+  pub finds : (l f a : List ℕ) (r : Reading f (recordsOf l) a) → writable l ≡ true → Fit l → Walk l f → r .returned .number ≡ 0 → Finds l (length f) (r .returned .past) (r .answer)
+  -- 'Appending after that starts at the torn block': while a block is missing, its records are accepted, and go there
+  pub goes-on : (l f c : List ℕ) (a : Appending (length f) (recordsOf l) (recordsIn (recordsOf l) (length f / blockBytes) l) c) → writable l ≡ true → Walk l f → length f < length (cardOf l) → blockBytes ≤ length c → (a .returned .number ≡ 0) × (a .returned .at ≡ blockBytes * (length f / blockBytes)) × (a .returned .bytes ≡ blockBytes)
+  -- and `next_block` says so
+  pub asks : (l f : List ℕ) (q : Asking (length f) (recordsOf l)) → writable l ≡ true → Walk l f → (q .returned .number ≡ 0) × (q .returned .block ≡ length f / blockBytes) × (q .returned .at ≡ blockBytes * (length f / blockBytes)) × (q .returned .records ≡ used (recordsOf l) (length f / blockBytes))
+  -- 'Any pair of outcomes satisfying it is shown identical'
+  pub one-appending : (long n : ℕ) (rs c : List ℕ) (a b : Appending long n rs c) → (a .returned ≡ b .returned) × (a .lent ≡ b .lent)
+  pub one-asking : (long n : ℕ) (a b : Asking long n) → a .returned ≡ b .returned
