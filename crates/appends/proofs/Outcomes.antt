@@ -13,10 +13,10 @@ use Rattle.appends.specs.Append.{follow, Added, notAdded, nowAdded, adde
 
 module _ (n long : ℕ) where
   abbrev pub none-next : Following
-  none-next = record { number = 3; block = 0; at = 0; records = 0 }
+  none-next = record { number = 3; records = 0; at = 0 }
 
   abbrev pub next-torn : Following
-  next-torn = record { number = 0; block = firstTorn long; at = placeOf long; records = used n (firstTorn long) }
+  next-torn = record { number = 0; records = used n (firstTorn long); at = placeOf long }
 
   pub following-by : (x : Bool) → beyond n long ≡ x → following n long ≡ cond x none-next next-torn
   unfolding following

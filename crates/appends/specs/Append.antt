@@ -17,25 +17,25 @@ follow n b k = ltb 0 k && (eqb (recordsHeld * b + k) n || ltb (recordsHeld * b +
 unfoldable pub blocksFrom : ℕ → ℕ → List ℕ → List ℕ
 blocksFrom n b l = joined (blocksFor (recordsOf l)) (λ i. blockOf n (b + i) (part (roomWords * i) (usedWords n (b + i)) l))
 
--- all that appending leaves behind: a number, where the bytes go, how many they are, and the lent list
+-- all that appending leaves behind: a number, how many blocks, where they go, and the lent list
 pub record Added : Type 0 where
   pub number : ℕ
+  pub count : ℕ
   pub at : ℕ
-  pub bytes : ℕ
-  pub blocks : List ℕ
+  pub lent : List ℕ
 
 -- a refusal alters nothing
 unfoldable pub notAdded : ℕ → List ℕ → Added
-notAdded k lent = record { number = k; at = 0; bytes = 0; blocks = lent }
+notAdded k lent = record { number = k; count = 0; at = 0; lent = lent }
 
 -- the blocks' bytes, to be put at the torn block's place
 unfoldable pub nowAdded : ℕ → ℕ → List ℕ → List ℕ → Added
 nowAdded n long l lent =
     record {
       number = 0;
+      count = blocksFor (recordsOf l);
       at = placeOf long;
-      bytes = cardBytes (recordsOf l);
-      blocks = blocksFrom n (firstTorn long) l ++ drop (cardBytes (recordsOf l)) lent;
+      lent = blocksFrom n (firstTorn long) l ++ drop (cardBytes (recordsOf l)) lent;
     }
 
 -- what appending the records l, of n in all, to a card of so many bytes leaves behind. Refused, in this order: 1, a list that cannot be written; 2, a lent list too short; 3, a card that holds more than n records call for; 4, records that are not those of the next blocks by count

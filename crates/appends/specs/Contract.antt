@@ -9,7 +9,7 @@ use Rattle.appends.specs.declared.Appended.{Appended}
 
 -- what `next_block` returned
 unfoldable pub afterNext : Next → Following
-afterNext r = record { number = r .number; block = r .block; at = r .at; records = r .records }
+afterNext r = record { number = r .number; records = r .records; at = r .at }
 
 -- The contract of `next_block`: of a card of so many bytes and the total n it returned r.
 abbrev pub Follows : ℕ → ℕ → Next → Type 0
@@ -17,7 +17,7 @@ Follows long n r = afterNext r ≡ following n long
 
 -- all that a call of `append` leaves behind
 unfoldable pub afterAppend : Appended → List ℕ → Added
-afterAppend r lent = record { number = r .number; at = r .at; bytes = r .bytes; blocks = lent }
+afterAppend r lent = record { number = r .number; count = r .count; at = r .at; lent = lent }
 
 -- The contract of `append`. Handed in: the length of the card, the total n and the records l; lent: the list c, which it leaves as d; returned: r.
 abbrev pub Appends : ℕ → ℕ → List ℕ → List ℕ → Appended → List ℕ → Type 0

@@ -19,13 +19,12 @@ placeOf length = blockBytes * firstTorn length
 -- what is next on a card of so many bytes
 pub record Following : Type 0 where
   pub number : ℕ
-  pub block : ℕ
-  pub at : ℕ
   pub records : ℕ
+  pub at : ℕ
 
--- the torn block, where it goes and how many records it takes, none where the card is whole; refused with 3 where it holds more than n records call for
+-- how many records the torn block takes, none where the card is whole, and where it goes; refused with 3 where it holds more than n records call for
 unfoldable pub following : ℕ → ℕ → Following
 following n length =
     cond (beyond n length)
-    (record { number = 3; block = 0; at = 0; records = 0 })
-    (record { number = 0; block = firstTorn length; at = placeOf length; records = used n (firstTorn length) })
+    (record { number = 3; records = 0; at = 0 })
+    (record { number = 0; records = used n (firstTorn length); at = placeOf length })

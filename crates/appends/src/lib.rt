@@ -10,21 +10,20 @@ ghost use Rattle.appends.specs.Next as next;
 ghost use Rattle.appends.specs.Append as spec;
 ghost use Rattle.appends.specs.Contract.{Follows, Appends};
 
-// What comes next on a card: 0, the number of the block, where its bytes go and how many records it takes (none where the card is whole); or 3 and zeros.
+// What comes next on a card: 0, how many records the next block takes (none where the card is whole) and where its bytes go; or 3 and zeros.
 #[repr(C)]
 pub struct Next {
     pub number: u32,
-    pub block: usize,
+    pub records: u32,
     pub at: usize,
-    pub records: usize,
 }
 
-// What `append` returns: 0, where the bytes go and how many they are; or a refusal, 1 to 4, and zeros.
+// What `append` returns: 0, how many blocks of 512 bytes and where they go; or a refusal, 1 to 4, and zeros.
 #[repr(C)]
 pub struct Appended {
     pub number: u32,
+    pub count: u32,
     pub at: usize,
-    pub bytes: usize,
 }
 
 // Whether a card of so many bytes holds more than the total calls for.
@@ -35,13 +34,13 @@ fn beyond(long: usize, total: u32) -> bool
 }
 
 // How many records block b takes, none where the total does not call for it.
-fn wanted(total: u32, b: usize) -> usize
+fn wanted(total: u32, b: usize) -> u32
     ensures { λ r. ⌜ r ≡ used total b ⌝ }
 {
     if blocks::blocks_for(total) <= b {
         return 0;
     }
-    blocks::used(total, b)
+    blocks::used(total, b) as u32
 }
 
 // What comes next on a card of so many bytes: refused with 3 where it holds more than the total calls for.
@@ -51,17 +50,15 @@ pub fn next_block(long: usize, total: u32) -> Next
     if beyond(long, total) {
         return Next {
             number: 3,
-            block: 0,
-            at: 0,
             records: 0,
+            at: 0,
         };
     }
     let block = long / 512;
     Next {
         number: 0,
-        block: block,
-        at: 512 * block,
         records: wanted(total, block),
+        at: 512 * block,
     }
 }
 
@@ -95,8 +92,8 @@ pub fn append(long: usize, total: u32, records: &[u32], lent: &mut [u8]) -> Appe
         return refused(1);
     }
     let count = (records.len() / 10) as u32;
-    let bytes = 512 * blocks::blocks_for(count);
-    if lent.len() < bytes {
+    let made = blocks::blocks_for(count);
+    if lent.len() < 512 * made {
         return refused(2);
     }
     if beyond(long, total) {
@@ -109,18 +106,18 @@ pub fn append(long: usize, total: u32, records: &[u32], lent: &mut [u8]) -> Appe
     put_blocks(total, first, records, lent);
     Appended {
         number: 0,
+        count: made as u32,
         at: 512 * first,
-        bytes: bytes,
     }
 }
 
 // A refusal.
 fn refused(number: u32) -> Appended
-    ensures { λ r. ⌜ r ≡ record { number = number; at = 0; bytes = 0 } ⌝ }
+    ensures { λ r. ⌜ r ≡ record { number = number; count = 0; at = 0 } ⌝ }
 {
     Appended {
         number: number,
+        count: 0,
         at: 0,
-        bytes: 0,
     }
 }

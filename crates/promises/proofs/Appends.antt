@@ -67,7 +67,7 @@ module _ (long n : ℕ) (rs c : List ℕ) (a : Appending long n rs c) (zero : a 
       first false p = absurd (not-refused 1 (omega arith) (a .meets ∙ added-1 n long rs c p))
 
 -- what an accepted appending leaves on the file begins the card
-appended : (l f rs c : List ℕ) (a : Appending (length f) (recordsOf l) rs c) (j : ℕ) → writable l ≡ true → NextOf l (length f) rs → Accepted (length f) (recordsOf l) rs c a → j ≤ a .returned .bytes → Begins f (cardOf l) → Begins (patched f (a .returned .at) (take j (a .lent))) (cardOf l)
+appended : (l f rs c : List ℕ) (a : Appending (length f) (recordsOf l) rs c) (j : ℕ) → writable l ≡ true → NextOf l (length f) rs → Accepted (length f) (recordsOf l) rs c a → j ≤ 512 * a .returned .count → Begins f (cardOf l) → Begins (patched f (a .returned .at) (take j (a .lent))) (cardOf l)
 unfolding afterAppend nowAdded placeOf firstTorn cardBytes blocksFrom
 appended l f rs c a j can own p h b =
     let n = recordsOf l in
@@ -75,8 +75,8 @@ appended l f rs c a j can own p h b =
     let next = follows n k (recordsOf rs) (p .next) in
     let e = p .left in
     let at : a .returned .at ≡ 512 * k = λ i. e i .at in
-    let size : a .returned .bytes ≡ 512 * blocksFor (recordsOf rs) = λ i. e i .bytes in
-    let lent : a .lent ≡ blocksFrom n k rs ++ drop (512 * blocksFor (recordsOf rs)) c = λ i. e i .blocks in
+    let size : a .returned .count ≡ blocksFor (recordsOf rs) = λ i. e i .count in
+    let lent : a .lent ≡ blocksFrom n k rs ++ drop (512 * blocksFor (recordsOf rs)) c = λ i. e i .lent in
     let long : length (blocksFrom n k rs) ≡ 512 * blocksFor (recordsOf rs) = length-from n k rs next (blocksFor (recordsOf rs)) (omega arith) in
     let put : take j (a .lent) ≡ take j (blocksFrom n k rs) = ap (take j) lent ∙ take-append-le j (blocksFrom n k rs) (drop (512 * blocksFor (recordsOf rs)) c) (omega (arith, h, size, long)) in
     subst (λ (x : List ℕ). Begins x (cardOf l)) (sym (λ i. patched f (at i) (put i))) (append-begins l can k rs own (p .can) next f j refl (omega (arith, h, size)) b)
@@ -124,11 +124,11 @@ module _ (l f : List ℕ) (can : writable l ≡ true) (w : Walk l f) where
   unfolding beyond
   not-beyond = le-ltb (512 * blocksFor (recordsOf l)) (length f) most
 
-  asks : (q : Asking (length f) (recordsOf l)) → (q .returned .number ≡ 0) × (q .returned .block ≡ length f / 512) × (q .returned .at ≡ 512 * (length f / 512)) × (q .returned .records ≡ used (recordsOf l) (length f / 512))
+  asks : (q : Asking (length f) (recordsOf l)) → (q .returned .number ≡ 0) × (q .returned .at ≡ 512 * (length f / 512)) × (q .returned .records ≡ used (recordsOf l) (length f / 512))
   unfolding afterNext firstTorn placeOf
   asks q =
       let e = q .meets ∙ following-by (recordsOf l) (length f) false not-beyond in
-      (λ i. e i .number, λ i. e i .block, λ i. e i .at, λ i. e i .records)
+      (λ i. e i .number, λ i. e i .at, λ i. e i .records)
 
   module _ (h : length f < length (cardOf l)) where
     abbrev n : ℕ
@@ -157,24 +157,24 @@ module _ (l f : List ℕ) (can : writable l ≡ true) (w : Walk l f) where
     unfolding blocksFor
     one = omega (arith, count, used-le n k, used-one n k missing)
 
-    goes-on : (c : List ℕ) (a : Appending (length f) n rs c) → 512 ≤ length c → (a .returned .number ≡ 0) × (a .returned .at ≡ 512 * k) × (a .returned .bytes ≡ 512)
+    goes-on : (c : List ℕ) (a : Appending (length f) n rs c) → 512 ≤ length c → (a .returned .number ≡ 0) × (a .returned .at ≡ 512 * k) × (a .returned .count ≡ 1)
     unfolding afterAppend nowAdded firstTorn placeOf cardBytes
     goes-on c a m =
         let next = follow-is n k (recordsOf rs) (subst (Next n k) (sym count) (one-next n k missing)) in
         let e = a .meets ∙ added-by n (length f) rs c can-rs (omega (arith, one, m)) not-beyond true next in
-        (λ i. e i .number, λ i. e i .at, (λ i. e i .bytes) ∙ ap (λ (x : ℕ). 512 * x) one)
+        (λ i. e i .number, λ i. e i .at, (λ i. e i .count) ∙ one)
 
 one-appending : (long n : ℕ) (rs c : List ℕ) (a b : Appending long n rs c) → (a .returned ≡ b .returned) × (a .lent ≡ b .lent)
 unfolding afterAppend
 one-appending long n rs c a b =
     let e = a .meets ∙ sym (b .meets) in
-    (λ i. record { number = e i .number; at = e i .at; bytes = e i .bytes }, λ i. e i .blocks)
+    (λ i. record { number = e i .number; count = e i .count; at = e i .at }, λ i. e i .lent)
 
 one-asking : (long n : ℕ) (a b : Asking long n) → a .returned ≡ b .returned
 unfolding afterNext
 one-asking long n a b =
     let e = a .meets ∙ sym (b .meets) in
-    λ i. record { number = e i .number; block = e i .block; at = e i .at; records = e i .records }
+    λ i. record { number = e i .number; records = e i .records; at = e i .at }
 
 same : (l f : List ℕ) → writable l ≡ true → Walk l f → f ≡ take (length f) (cardOf l)
 same l f can w = begins-is f (cardOf l) (begins l f can w)

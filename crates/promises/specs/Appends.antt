@@ -35,7 +35,7 @@ pub data Walk (l : List ℕ) : List ℕ → Type 0 where
   -- nothing yet
   start : Walk l []
   -- the next records were appended, and the power went after j of the bytes, or not at all
-  more : (f rs c : List ℕ) (a : Appending (length f) (recordsOf l) rs c) (j : ℕ) → Walk l f → NextOf l (length f) rs → a .returned .number ≡ 0 → j ≤ a .returned .bytes → Walk l (patched f (a .returned .at) (take j (a .lent)))
+  more : (f rs c : List ℕ) (a : Appending (length f) (recordsOf l) rs c) (j : ℕ) → Walk l f → NextOf l (length f) rs → a .returned .number ≡ 0 → j ≤ blockBytes * a .returned .count → Walk l (patched f (a .returned .at) (take j (a .lent)))
   -- bytes at the end were lost
   cut : (f : List ℕ) (m : ℕ) → Walk l f → Walk l (take m f)
 
@@ -56,9 +56,9 @@ pub record AppendsPromised : Type 0 where
   -- 'For every cut length n, the reader finds ..'
   pub finds : (l f a : List ℕ) (r : Reading f (recordsOf l) a) → writable l ≡ true → Fit l → Walk l f → r .returned .number ≡ 0 → Finds l (length f) (r .returned .past) (r .answer)
   -- 'Appending after that starts at the torn block': while a block is missing, its records are accepted, and go there
-  pub goes-on : (l f c : List ℕ) (a : Appending (length f) (recordsOf l) (recordsIn (recordsOf l) (length f / blockBytes) l) c) → writable l ≡ true → Walk l f → length f < length (cardOf l) → blockBytes ≤ length c → (a .returned .number ≡ 0) × (a .returned .at ≡ blockBytes * (length f / blockBytes)) × (a .returned .bytes ≡ blockBytes)
+  pub goes-on : (l f c : List ℕ) (a : Appending (length f) (recordsOf l) (recordsIn (recordsOf l) (length f / blockBytes) l) c) → writable l ≡ true → Walk l f → length f < length (cardOf l) → blockBytes ≤ length c → (a .returned .number ≡ 0) × (a .returned .at ≡ blockBytes * (length f / blockBytes)) × (a .returned .count ≡ 1)
   -- and `next_block` says so
-  pub asks : (l f : List ℕ) (q : Asking (length f) (recordsOf l)) → writable l ≡ true → Walk l f → (q .returned .number ≡ 0) × (q .returned .block ≡ length f / blockBytes) × (q .returned .at ≡ blockBytes * (length f / blockBytes)) × (q .returned .records ≡ used (recordsOf l) (length f / blockBytes))
+  pub asks : (l f : List ℕ) (q : Asking (length f) (recordsOf l)) → writable l ≡ true → Walk l f → (q .returned .number ≡ 0) × (q .returned .at ≡ blockBytes * (length f / blockBytes)) × (q .returned .records ≡ used (recordsOf l) (length f / blockBytes))
   -- 'Any pair of outcomes satisfying it is shown identical'
   pub one-appending : (long n : ℕ) (rs c : List ℕ) (a b : Appending long n rs c) → (a .returned ≡ b .returned) × (a .lent ≡ b .lent)
   pub one-asking : (long n : ℕ) (a b : Asking long n) → a .returned ≡ b .returned

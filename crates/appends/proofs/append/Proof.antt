@@ -53,8 +53,8 @@ cast-count c = omega (arith, few-records (c .before .before .before .before .arg
 blocks-for-requires : tie.Need-blocks-for-requires
 blocks-for-requires c κs = search needs
 
-mul-bytes : tie.Need-mul-bytes
-mul-bytes c = search needs
+mul-if2 : tie.Need-mul-if2
+mul-if2 c = search needs
 
 refused-requires-2 : tie.Need-refused-requires-2
 refused-requires-2 c κs = search needs
@@ -109,8 +109,14 @@ put-blocks-requires c κs =
     let a = e .before .before .before .before .before .before .before .before .args in
     (sym (told (t .before)) ∙ not-false _ (t .if4 .left), few-records (a .records .now) (can (e .before .before .before .before)), omega (arith, torn-among (a .total) (a .long) (within e), blocks-le (a .total)), room (e .before .before))
 
-mul-t10 : tie.Need-mul-t10
-mul-t10 c = search needs
+cast-t16 : tie.Need-cast-t16
+unfolding recordsOf
+cast-t16 c =
+    let f = c .before .before .before .before .before .before .before .before .before in
+    omega (arith, f .blocks-for .ensures .1, few-records (f .before .before .before .before .before .args .records .now) (can (f .before)))
+
+mul-t11 : tie.Need-mul-t11
+mul-t11 c = search needs
 
 same-length : tie.Need-same-length
 same-length c = search needs
@@ -123,13 +129,13 @@ returns-5 c =
     let e = t .before .before in
     let f = e .before .before .before in
     let a = f .before .before .before .before .before .args in
-    (λ z. record { number = 0; at = 512 * (a .long / 512); bytes = 512 * f .blocks-for .ensures .0 z; blocks = p .put-blocks .ensures z })
+    (λ z. record { number = 0; count = f .blocks-for .ensures .0 z; at = 512 * (a .long / 512); lent = p .put-blocks .ensures z })
     ∙ sym (added-by (a .total) (a .long) (a .records .now) (a .lent .now) (can (f .before)) (room (e .before .before)) (within e) true (sym (told (t .before)) ∙ not-false _ (t .if4 .left)))
 
 pub append-spec : {M : Type 1} → statement M
 append-spec =
     tie.close
     (tie.spec
-    writable-requires refused-requires returns cast-count blocks-for-requires mul-bytes refused-requires-2 returns-2
+    writable-requires refused-requires returns cast-count blocks-for-requires mul-if2 refused-requires-2 returns-2
     beyond-requires refused-requires-3 returns-3 follow-requires refused-requires-4 returns-4 put-blocks-requires
-    mul-t10 same-length returns-5)
+    cast-t16 mul-t11 same-length returns-5)

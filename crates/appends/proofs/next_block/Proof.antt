@@ -18,20 +18,20 @@ returns c =
     let a = c .before .before .args in
     sym (following-by (a .total) (a .long) true (sym (c .before .beyond .ensures) ∙ c .if1 .taken))
 
-mul-t5 : tie.Need-mul-t5
-mul-t5 c = search needs
-
 wanted-requires : tie.Need-wanted-requires
 wanted-requires c κs = search needs
+
+mul-t6 : tie.Need-mul-t6
+mul-t6 c = search needs
 
 returns-2 : tie.Need-returns-2
 unfolding afterNext firstTorn placeOf
 returns-2 c =
     let e = c .before in
     let a = e .before .before .args in
-    (λ z. record { number = 0; block = a .long / 512; at = 512 * (a .long / 512); records = c .wanted .ensures z })
+    (λ z. record { number = 0; records = c .wanted .ensures z; at = 512 * (a .long / 512) })
     ∙ sym (following-by (a .total) (a .long) false (sym (e .before .beyond .ensures) ∙ e .if1 .left))
 
 pub next-block-spec : {M : Type 1} → statement M
 next-block-spec = tie.close (tie.spec
-    beyond-requires returns mul-t5 wanted-requires returns-2)
+    beyond-requires returns wanted-requires mul-t6 returns-2)

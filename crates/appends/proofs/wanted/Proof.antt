@@ -15,9 +15,12 @@ returns c = omega (arith, c .if1 .taken, c .before .blocks-for .ensures .0)
 used-requires : tie.Need-used-requires
 used-requires c κs = search needs
 
+cast-result : tie.Need-cast-result
+cast-result c = search needs
+
 returns-2 : tie.Need-returns-2
 returns-2 c = search needs
 
 pub wanted-spec : {M : Type 1} → statement M
 wanted-spec = tie.close (tie.spec
-    blocks-for-requires returns used-requires returns-2)
+    blocks-for-requires returns used-requires cast-result returns-2)

@@ -1,0 +1,185 @@
+// A card file in a walk round the tank: appended to block by block, cut at awkward lengths, read, and appended to until it is whole. Prints what it found.
+use libc::STDOUT_FILENO;
+
+// Three blocks, the last of them part full.
+const RECORDS: u32 = 29;
+
+// Words of a record: 0 or 1 first, the others different from place to place.
+fn word(i: usize) -> u32 {
+    if i % 10 == 0 {
+        return (i / 10 % 2) as u32;
+    }
+    (i % 1000) as u32 * 4000003 % 4000000007
+}
+
+fn fill(list: &mut [u32]) {
+    for i in 0..list.len() {
+        list[i] = word(i);
+    }
+}
+
+// The file's bytes, and how many they are.
+fn read_file(fd: i32, bytes: &mut [u8]) -> usize {
+    let got = libc::pread(fd, bytes, 0);
+    io::count(got, bytes)
+}
+
+// 512 bytes into the file.
+fn put(fd: i32, bytes: &[u8], at: usize) {
+    if bytes.len() < 512 {
+        return;
+    }
+    if 1024 < at {
+        return;
+    }
+    let end = 512;
+    libc::pwrite(fd, &bytes[..end], at as i64);
+}
+
+// The records of the next block, appended at the torn one.
+fn append_one(fd: i32, list: &[u32], bytes: &mut [u8]) {
+    let long = read_file(fd, bytes);
+    let next = appends::next_block(long, RECORDS);
+    let from = next.at % 1537 / 512 * 120;
+    let to = from + 10 * (next.records % 13) as usize;
+    if list.len() < to {
+        return;
+    }
+    let added = appends::append(long, RECORDS, &list[from..to], bytes);
+    if added.number == 0 {
+        put(fd, bytes, added.at);
+    }
+}
+
+fn append_all(fd: i32, list: &[u32], bytes: &mut [u8]) {
+    append_one(fd, list, bytes);
+    append_one(fd, list, bytes);
+    append_one(fd, list, bytes);
+}
+
+// P for a present record, A for an absent one, L for a lost one.
+fn letter(mark: u32) -> u8 {
+    match mark {
+        0 => b'A',
+        1 => b'P',
+        2 => b'L',
+        _ => b'?',
+    }
+}
+
+fn print_letters(answer: &[u32]) {
+    for r in 0..29 {
+        if 10 * r < answer.len() {
+            io::write_all(STDOUT_FILENO, &[letter(answer[10 * r])]);
+        }
+    }
+}
+
+// What the reader finds in so many bytes.
+fn find(bytes: &[u8], n: usize, answer: &mut [u32]) {
+    if bytes.len() < n {
+        return;
+    }
+    let found = cards::read(&bytes[..n], RECORDS, answer);
+    io::print_decimal(STDOUT_FILENO, n as u64);
+    io::write_all(STDOUT_FILENO, b" bytes: ");
+    print_letters(answer);
+    io::write_all(STDOUT_FILENO, b", torn ");
+    io::print_decimal(STDOUT_FILENO, found.past as u64);
+    io::write_all(STDOUT_FILENO, b"\n");
+}
+
+// What is in the file.
+fn report(fd: i32, bytes: &mut [u8], answer: &mut [u32]) {
+    let n = read_file(fd, bytes);
+    find(bytes, n, answer);
+}
+
+// Whether the bytes are those of a run without a cut.
+fn same(whole: &[u8], bytes: &[u8]) -> bool {
+    if bytes.len() < whole.len() {
+        return false;
+    }
+    for i in 0..whole.len() {
+        if whole[i] != bytes[i] {
+            return false;
+        }
+    }
+    true
+}
+
+// The file cut, read, appended to until it is whole, and read again.
+fn turn(fd: i32, cut: i64, list: &[u32], whole: &[u8], bytes: &mut [u8], answer: &mut [u32]) {
+    libc::ftruncate(fd, cut);
+    report(fd, bytes, answer);
+    append_all(fd, list, bytes);
+    report(fd, bytes, answer);
+    if same(whole, bytes) {
+        io::write_all(STDOUT_FILENO, b"the bytes of a run without the cut\n");
+    } else {
+        io::write_all(STDOUT_FILENO, b"OTHER BYTES\n");
+    }
+}
+
+// In the first block: nothing, one byte, the middle of the sum, all but one byte.
+fn first_block(fd: i32, list: &[u32], whole: &[u8], bytes: &mut [u8], answer: &mut [u32]) {
+    turn(fd, 0, list, whole, bytes, answer);
+    turn(fd, 1, list, whole, bytes, answer);
+    turn(fd, 510, list, whole, bytes, answer);
+    turn(fd, 511, list, whole, bytes, answer);
+}
+
+// The first block whole, one byte more, and the middle of the second sum.
+fn second_block(fd: i32, list: &[u32], whole: &[u8], bytes: &mut [u8], answer: &mut [u32]) {
+    turn(fd, 512, list, whole, bytes, answer);
+    turn(fd, 513, list, whole, bytes, answer);
+    turn(fd, 1022, list, whole, bytes, answer);
+}
+
+// Two blocks, all but one byte, and no cut.
+fn third_block(fd: i32, list: &[u32], whole: &[u8], bytes: &mut [u8], answer: &mut [u32]) {
+    turn(fd, 1024, list, whole, bytes, answer);
+    turn(fd, 1535, list, whole, bytes, answer);
+    turn(fd, 1536, list, whole, bytes, answer);
+}
+
+// One cut after another, and a block appended between.
+fn many_cuts(fd: i32, list: &[u32], whole: &[u8], bytes: &mut [u8], answer: &mut [u32]) {
+    libc::ftruncate(fd, 1100);
+    append_one(fd, list, bytes);
+    libc::ftruncate(fd, 900);
+    append_one(fd, list, bytes);
+    turn(fd, 3, list, whole, bytes, answer);
+}
+
+fn all_cuts(fd: i32, list: &[u32], whole: &[u8], bytes: &mut [u8], answer: &mut [u32]) {
+    first_block(fd, list, whole, bytes, answer);
+    second_block(fd, list, whole, bytes, answer);
+    third_block(fd, list, whole, bytes, answer);
+    many_cuts(fd, list, whole, bytes, answer);
+}
+
+// A run without a cut, and then every cut.
+fn walk(fd: i32) {
+    let mut list = [0u32; 290];
+    let mut answer = [0u32; 290];
+    let mut bytes = [0u8; 2048];
+    let mut whole = [0u8; 1536];
+    fill(&mut list);
+    append_all(fd, &list, &mut bytes);
+    read_file(fd, &mut whole);
+    report(fd, &mut bytes, &mut answer);
+    all_cuts(fd, &list, &whole, &mut bytes, &mut answer);
+}
+
+fn main() {
+    let path = b"card";
+    libc::close(os::open_overwrite(path));
+    let fd = os::open_update(path);
+    if fd < 0 {
+        os::fail(path);
+        return;
+    }
+    walk(fd);
+    libc::close(fd);
+}
