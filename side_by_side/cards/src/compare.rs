@@ -16,17 +16,21 @@ fn word(i: usize) -> u32 {
 }
 
 /// What a call says, and its list with both guards.
-type Left<T> = (Said, Vec<T>);
+type Left<T, S = Said> = (S, Vec<T>);
 
 /// A call on `count` lent elements between two guards.
-fn lent<T>(fill: fn(usize) -> T, count: usize, call: impl Fn(&mut [T]) -> Said) -> Left<T> {
+fn lent<T, S>(fill: fn(usize) -> T, count: usize, call: impl Fn(&mut [T]) -> S) -> Left<T, S> {
     let mut list: Vec<T> = (0..count + 2 * GUARD).map(fill).collect();
     let said = call(&mut list[GUARD..GUARD + count]);
     (said, list)
 }
 
 /// What both leave, if it is the same; else what differs.
-fn same<T: PartialEq + Debug>(who: &str, plain: Left<T>, ours: Left<T>) -> Result<Left<T>, String> {
+fn same<T: PartialEq + Debug, S: PartialEq + Debug>(
+    who: &str,
+    plain: Left<T, S>,
+    ours: Left<T, S>,
+) -> Result<Left<T, S>, String> {
     if plain.0 != ours.0 {
         return Err(format!(
             "{who}: plain says {:?}, ours {:?}",
@@ -45,7 +49,7 @@ fn same<T: PartialEq + Debug>(who: &str, plain: Left<T>, ours: Left<T>) -> Resul
 }
 
 /// Between the guards.
-fn middle<T>((said, mut list): Left<T>) -> Left<T> {
+fn middle<T, S>((said, mut list): Left<T, S>) -> Left<T, S> {
     list.truncate(list.len() - GUARD);
     (said, list.split_off(GUARD))
 }
@@ -62,4 +66,23 @@ pub fn read(card: &[u8], total: u32, room: usize) -> Result<Left<u32>, String> {
     let plain = lent(word, room, |answer| plain::read(card, total, answer));
     let ours = lent(word, room, |answer| ours::read(card, total, answer));
     same("read", plain, ours).map(middle)
+}
+
+/// The next records for a card of so many bytes, into a lent list of `room` bytes, by both.
+pub fn append(
+    long: usize,
+    total: u32,
+    records: &[u32],
+    room: usize,
+) -> Result<Left<u8, (u32, u32, usize)>, String> {
+    if plain::next(long, total) != ours::next(long, total) {
+        return Err(format!("next: of {long} bytes and {total} records"));
+    }
+    let plain = lent(byte, room, |blocks| {
+        plain::append(long, total, records, blocks)
+    });
+    let ours = lent(byte, room, |blocks| {
+        ours::append(long, total, records, blocks)
+    });
+    same("append", plain, ours).map(middle)
 }

@@ -8,25 +8,28 @@ mod plain;
 #[allow(dead_code)]
 mod random;
 mod runs;
+mod walks;
+mod writer;
 
 use random::Random;
-use std::env::args;
-use std::process::ExitCode;
+use std::env::{args, temp_dir};
+use std::fs;
+use std::path::{Path, PathBuf};
+use std::process::{ExitCode, id};
 
-/// What is asked for: a seed, how many random cards, and whether the speed is to be measured.
-struct Asked {
-    seed: u64,
-    count: u64,
-    bench: bool,
+/// What is asked for.
+enum Asked {
+    /// All runs, from a seed: so many random cards, and so many walks.
+    Runs { seed: u64, cards: u64, walks: u64 },
+    /// The speed of both.
+    Bench,
+    /// To be the process that writes a card: of a seed, so many records, to a file.
+    Writer(u64, usize, PathBuf),
 }
 
 /// The words of the command line.
 fn asked() -> Result<Asked, String> {
-    let mut asked = Asked {
-        seed: 1,
-        count: 100_000,
-        bench: false,
-    };
+    let (mut seed, mut cards, mut walks) = (1, 100_000, 20);
     let mut words = args().skip(1);
     while let Some(word) = words.next() {
         let mut number = || {
@@ -36,34 +39,73 @@ fn asked() -> Result<Asked, String> {
                 .ok_or(format!("{word} wants a number"))
         };
         match word.as_str() {
-            "--seed" => asked.seed = number()?,
-            "--count" => asked.count = number()?,
-            "--bench" => asked.bench = true,
-            _ => return Err(format!("{word} is not known: --seed N, --count N, --bench")),
+            "--seed" => seed = number()?,
+            "--count" => cards = number()?,
+            "--walks" => walks = number()?,
+            "--bench" => return Ok(Asked::Bench),
+            "--writer" => {
+                let (seed, count) = (number()?, number()? as usize);
+                let file = words.next().ok_or("--writer wants a file")?;
+                return Ok(Asked::Writer(seed, count, file.into()));
+            }
+            _ => {
+                return Err(format!(
+                    "{word} is not known: --seed N, --count N, --walks N, --bench"
+                ));
+            }
         }
     }
-    Ok(asked)
+    Ok(Asked::Runs { seed, cards, walks })
+}
+
+/// So many cases of a kind, each from a generator of its own.
+fn cases(
+    seed: u64,
+    kind: &str,
+    count: u64,
+    one: fn(&mut Random) -> Result<(), String>,
+) -> Result<(), String> {
+    for case in 0..count {
+        one(&mut Random::of(seed, kind, case))
+            .map_err(|what| format!("{kind}, seed {seed}, case {case}: {what}"))?;
+    }
+    Ok(())
+}
+
+/// Walks in a folder of their own; how often the writing process was killed.
+fn walks(seed: u64, count: u64, folder: &Path) -> Result<u64, String> {
+    fs::create_dir_all(folder).map_err(|e| e.to_string())?;
+    let kills = (0..count)
+        .map(|case| walks::walk(&mut Random::of(seed, "walks", case), folder, seed + case))
+        .sum();
+    fs::remove_dir_all(folder).map_err(|e| e.to_string())?;
+    kills
 }
 
 /// All runs; each prints what it compared.
-fn run(asked: &Asked) -> Result<(), String> {
-    let seed = asked.seed;
+fn run(seed: u64, cards: u64, count: u64) -> Result<(), String> {
     let words = runs::single_words(&mut Random::of(seed, "words", 0))?;
     println!("one word changed in a card of three blocks: {words} cards, each noticed");
     let moved = runs::moved_blocks(&mut Random::of(seed, "moved", 0))?;
     println!("blocks exchanged, doubled, dropped, cards cut at every length: {moved} cards");
-    for case in 0..asked.count {
-        runs::random_card(&mut Random::of(seed, "cards", case))
-            .map_err(|what| format!("seed {seed}, card {case}: {what}"))?;
-    }
-    println!("random cards, written, damaged and read: {}", asked.count);
+    cases(seed, "cards", cards, runs::random_card)?;
+    println!("random cards, written, damaged and read: {cards}");
+    cases(seed, "appends", cards, walks::random_append)?;
+    println!("random records appended to cards of random lengths: {cards}");
+    let kills = walks(seed, count, &temp_dir().join(format!("cards-{}", id())))?;
+    println!(
+        "walks whose writing process was killed: {count}, killed {kills} times; each card read after each, and whole in the end"
+    );
     Ok(())
 }
 
 fn main() -> ExitCode {
-    let done = asked().and_then(|asked| match asked.bench {
-        true => Ok(bench::bench(&mut Random::of(asked.seed, "bench", 0))),
-        false => run(&asked),
+    let done = asked().and_then(|asked| match asked {
+        Asked::Bench => Ok(bench::bench(&mut Random::of(1, "bench", 0))),
+        Asked::Writer(seed, count, file) => {
+            writer::write(&file, seed, count).map_err(|e| e.to_string())
+        }
+        Asked::Runs { seed, cards, walks } => run(seed, cards, walks),
     });
     match done {
         Ok(()) => ExitCode::SUCCESS,

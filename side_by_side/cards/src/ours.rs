@@ -8,6 +8,14 @@ struct Returned {
     bytes: usize,
 }
 
+/// What the two calls of appending return: a number, how many records or blocks, and a place.
+#[repr(C)]
+struct Placed {
+    number: u32,
+    count: u32,
+    at: usize,
+}
+
 unsafe extern "C" {
     // a slice passes as a pointer and a length
     fn dokphalun_card_write(
@@ -23,6 +31,15 @@ unsafe extern "C" {
         answer: *mut u32,
         answer_count: usize,
     ) -> Returned;
+    fn dokphalun_card_next(long: usize, total: u32) -> Placed;
+    fn dokphalun_card_append(
+        long: usize,
+        total: u32,
+        records: *const u32,
+        record_count: usize,
+        lent: *mut u8,
+        lent_count: usize,
+    ) -> Placed;
 }
 
 /// Answer words to a card.
@@ -47,4 +64,27 @@ pub fn read(card: &[u8], total: u32, answer: &mut [u32]) -> Said {
         )
     };
     (said.number, said.bytes)
+}
+
+/// What comes next on a card of so many bytes.
+pub fn next(long: usize, total: u32) -> (u32, u32, usize) {
+    // SAFETY: numbers alone are handed over.
+    let said = unsafe { dokphalun_card_next(long, total) };
+    (said.number, said.count, said.at)
+}
+
+/// The blocks of the next records for a card of so many bytes.
+pub fn append(long: usize, total: u32, records: &[u32], lent: &mut [u8]) -> (u32, u32, usize) {
+    // SAFETY: both lists are handed over with their own lengths, and are not used elsewhere during the call.
+    let said = unsafe {
+        dokphalun_card_append(
+            long,
+            total,
+            records.as_ptr(),
+            records.len(),
+            lent.as_mut_ptr(),
+            lent.len(),
+        )
+    };
+    (said.number, said.count, said.at)
 }

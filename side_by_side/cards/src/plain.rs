@@ -52,16 +52,59 @@ pub fn write(answer: &[u32], card: &mut [u8]) -> Said {
     let Some(card) = card.get_mut(..bytes) else {
         return (2, 0);
     };
-    for (number, (part, block)) in parts.zip(card.chunks_exact_mut(BLOCK)).enumerate() {
+    put_blocks(card, 0, total, answer);
+    (0, bytes)
+}
+
+/// The blocks from number `first` on that hold these records.
+fn put_blocks(card: &mut [u8], first: usize, total: u32, records: &[u32]) {
+    let parts = records.chunks(HELD * WIDTH);
+    for (i, (part, block)) in parts.zip(card.chunks_exact_mut(BLOCK)).enumerate() {
         let mut words = [0; WORDS];
-        words[0] = number as u32;
+        words[0] = (first + i) as u32;
         words[1] = (part.len() / WIDTH) as u32;
         words[2] = total;
         words[AHEAD..AHEAD + part.len()].copy_from_slice(part);
         words[WORDS - 1] = check_word(&words);
         put_words(block, &words);
     }
-    (0, bytes)
+}
+
+/// How many records block `b` takes.
+fn wanted(total: u32, b: usize) -> usize {
+    (total as usize).saturating_sub(b * HELD).min(HELD)
+}
+
+/// What comes next on a card of so many bytes: a number, how many records, and where the block goes.
+pub fn next(long: usize, total: u32) -> (u32, u32, usize) {
+    let block = long / BLOCK;
+    match long > (total as usize).div_ceil(HELD) * BLOCK {
+        true => (3, 0, 0),
+        false => (0, wanted(total, block) as u32, block * BLOCK),
+    }
+}
+
+/// The blocks of the next records for a card of so many bytes: a number, how many blocks, and where they go.
+pub fn append(long: usize, total: u32, records: &[u32], lent: &mut [u8]) -> (u32, u32, usize) {
+    let marks_fit = records.iter().step_by(WIDTH).all(|mark| *mark <= 1);
+    if records.len() % WIDTH != 0 || !marks_fit {
+        return (1, 0, 0);
+    }
+    let count = records.len() / WIDTH;
+    let made = count.div_ceil(HELD);
+    if lent.len() < made * BLOCK {
+        return (2, 0, 0);
+    }
+    if next(long, total).0 == 3 {
+        return (3, 0, 0);
+    }
+    let first = long / BLOCK;
+    let whole: usize = (first..first + made).map(|b| wanted(total, b)).sum();
+    if count == 0 || whole != count {
+        return (4, 0, 0);
+    }
+    put_blocks(lent, first, total, records);
+    (0, made as u32, first * BLOCK)
 }
 
 /// Whether the words of a block are what its place calls for: so many records of the total.

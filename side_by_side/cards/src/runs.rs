@@ -5,7 +5,7 @@ use crate::plain::{BLOCK, HELD, WIDTH, put_words, words_of};
 use crate::random::Random;
 
 /// So many random records; the words 0 are 0 or 1.
-fn records(random: &mut Random, count: usize) -> Vec<u32> {
+pub fn records(random: &mut Random, count: usize) -> Vec<u32> {
     (0..count * WIDTH)
         .map(|i| match i % WIDTH {
             0 => random.below(2) as u32,
@@ -15,7 +15,7 @@ fn records(random: &mut Random, count: usize) -> Vec<u32> {
 }
 
 /// A list to write: whole records most of the time.
-fn answer(random: &mut Random) -> Vec<u32> {
+pub fn answer(random: &mut Random) -> Vec<u32> {
     let (few, many) = (random.below(60), random.below(200));
     let count = random.pick(&[0, 1, 11, 12, 13, 24, few, few, many]);
     let mut list = records(random, count);
@@ -30,7 +30,7 @@ fn answer(random: &mut Random) -> Vec<u32> {
 }
 
 /// A length near the one that is needed.
-fn room(random: &mut Random, need: usize) -> usize {
+pub fn room(random: &mut Random, need: usize) -> usize {
     match random.below(8) {
         0 => need.saturating_sub(1),
         1 => random.below(need + 1),
