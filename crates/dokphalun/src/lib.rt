@@ -3,11 +3,14 @@
 ghost use Rattle.mikktspace.specs.Contract.{Contract};
 ghost use Rattle.appends.specs.Contract.{Follows, Appends};
 ghost use Rattle.cards.specs.Contract.{Writes, Reads};
+ghost use Rattle.packed.specs.Contract.{Packs, Unpacks};
 use appends::Appended;
 use appends::Next;
 use cards::Found;
 use cards::Written;
 use mikktspace::Outcome;
+use packed::Packed;
+use packed::Unpacked;
 
 // See mikktspace::generate_tangent_space.
 #[no_mangle]
@@ -60,4 +63,20 @@ pub extern "C" fn dokphalun_card_append(
     ensures { λ r. ⌜ Appends long total (now (records .entry)) (now (lent .entry)) r (now (lent .exit)) ⌝ }
 {
     appends::append(long, total, records, lent)
+}
+
+// See packed::pack.
+#[no_mangle]
+pub extern "C" fn dokphalun_pack(answer: &[u32], numbers: &mut [u16]) -> Packed
+    ensures { λ r. ⌜ Packs (now (answer .entry)) (now (numbers .entry)) r (now (numbers .exit)) ⌝ }
+{
+    packed::pack(answer, numbers)
+}
+
+// See packed::unpack.
+#[no_mangle]
+pub extern "C" fn dokphalun_unpack(numbers: &[u16], answer: &mut [u32]) -> Unpacked
+    ensures { λ r. ⌜ Unpacks (now (numbers .entry)) (now (answer .entry)) r (now (answer .exit)) ⌝ }
+{
+    packed::unpack(numbers, answer)
 }

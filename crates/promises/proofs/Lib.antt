@@ -8,3 +8,8 @@ pub mod OwnLinks
 pub mod OwnColumns
 pub mod Cards
 pub mod Appends
+pub mod PackedValue
+pub mod PackedSlots
+pub mod PackedFound
+pub mod PackedWritten
+pub mod Packed

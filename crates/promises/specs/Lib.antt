@@ -9,3 +9,4 @@ pub mod OwnLinks
 pub mod OwnColumns
 pub mod Cards
 pub mod Appends
+pub mod Packed

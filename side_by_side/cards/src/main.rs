@@ -2,6 +2,8 @@
 mod bench;
 mod compare;
 mod damage;
+#[path = "../../src/lent.rs"]
+mod lent;
 mod ours;
 mod plain;
 #[path = "../../src/random.rs"]

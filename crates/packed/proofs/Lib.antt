@@ -1,0 +1,6 @@
+pub mod Rounding
+pub mod Range
+pub mod Copies
+pub mod Runs
+pub mod Outcomes
+pub mod Signs

@@ -1,0 +1,119 @@
+-- Slots that are written one after another, and the first of them that fails a test. Assumes nothing.
+use Prim.Native.Nat.{ℕ, zero, suc, _+_, _*_, _≤_, _<_}
+use native.Mathlib.Nat.{eq-or-lt-of-le, le-of-suc-le-suc, mul-le-mul-left}
+use native.Mathlib.Numerals.{add-one}
+use native.Mathlib.Omega.{arith}
+use mathlib.Core.Path.{_≡_, refl, sym, ap, _∙_}
+use mathlib.Core.Bool.{Bool, true, false, cond, _&&_}
+use mathlib.Core.Logic.{⊎-elim}
+use mathlib.Core.List.{List, _∷_, _++_}
+use lib.ListN.{length, take, drop, replicate, length-drop}
+use lib.Dec.{eqb}
+use lib.Seq.{sets, take-all, drop-at, drop-append-le, take-append-le}
+use borrow.Author.Tests.{eq-eqb, ne-eqb, eqb-true, eqb-false}
+use Rattle.table.specs.Loop.{listOf}
+use Rattle.words.specs.Lists.{joined, part}
+use Rattle.words.proofs.Lists.{length-joined}
+use Rattle.words.proofs.Stores.{joined-none, joined-stored, sets-front}
+use Rattle.packed.specs.Packer.{present, frame, packedSlot}
+use Rattle.packed.specs.Reader.{missing, frameWords, readSeven, firstFailing, First}
+
+-- a packed slot is seven numbers
+pub length-packed : (slot : List ℕ) → length (packedSlot slot) ≡ 7
+unfolding packedSlot frame listOf
+length-packed slot = go (present slot)
+  where
+    go : (t : Bool) → length (cond t (frame slot) (replicate 7 0x8000)) ≡ 7
+    go true = refl
+    go false = refl
+
+-- and what is read of it is eight words
+pub length-read : (ns : List ℕ) → length (readSeven ns) ≡ 8
+unfolding readSeven frameWords listOf
+length-read ns = go (missing ns)
+  where
+    go : (t : Bool) → length (cond t (0 ∷ replicate 7 0xffff_8000) (frameWords ns)) ≡ 8
+    go true = refl
+    go false = refl
+
+-- lists of k numbers each, stored one after another: none yet, one more, and all
+module _ (k : ℕ) (f : ℕ → List ℕ) (each : (i : ℕ) → length (f i) ≡ k) (l : List ℕ) where
+  pub run-none : l ≡ sets l 0 (joined 0 f)
+  run-none = joined-none l 0 f
+
+  pub run-more : (u : List ℕ) (n : ℕ) → u ≡ sets l 0 (joined n f) → sets u (k * n) (f n) ≡ sets l 0 (joined (n + 1) f)
+  run-more u n e = joined-stored l u 0 (k * n) f n (omega (arith, length-joined n k f (λ i _. each i))) e
+
+  pub run-all : (u : List ℕ) (i n : ℕ) → i ≡ n → k * n ≤ length l → u ≡ sets l 0 (joined i f) → u ≡ joined n f ++ drop (k * n) l
+  run-all u i n s h e = e ∙ (ap (λ (j : ℕ). sets l 0 (joined j f)) s ∙ sets-front l (joined n f) (k * n) (length-joined n k f (λ i _. each i)) h)
+
+-- the first that fails: none of none
+pub failing-none : (p : ℕ → Bool) → firstFailing 0 p ≡ 0
+unfolding firstFailing
+failing-none p = refl
+
+-- none of one more
+pub failing-more : (n : ℕ) (p : ℕ → Bool) → firstFailing n p ≡ n → p n ≡ true → firstFailing (n + 1) p ≡ n + 1
+unfolding firstFailing
+failing-more n p e h =
+    ap (λ (k : ℕ). firstFailing k p) (add-one n) ∙ ((λ z. cond (eq-eqb (firstFailing n p) n e z && h z) (suc n) (firstFailing n p)) ∙ sym (add-one n))
+
+-- the last of those looked at
+failing-last : (n : ℕ) (p : ℕ → Bool) → firstFailing n p ≡ n → p n ≡ false → firstFailing (suc n) p ≡ n
+unfolding firstFailing
+failing-last n p e h = (λ z. cond (eq-eqb (firstFailing n p) n e z && h z) (suc n) (firstFailing n p)) ∙ e
+
+-- and so of all that come after
+pub failing-here : (n i : ℕ) (p : ℕ → Bool) → i < n → firstFailing i p ≡ i → p i ≡ false → firstFailing n p ≡ i
+unfolding firstFailing
+failing-here zero i p l e h = absurd (omega arith)
+failing-here (suc n) i p l e h =
+    ⊎-elim (λ s. ap (λ (k : ℕ). firstFailing (suc k) p) (sym s) ∙ failing-last i p e h) (λ k. before (failing-here n i p k e h) k) (eq-or-lt-of-le (le-of-suc-le-suc l))
+  where
+    before : firstFailing n p ≡ i → i < n → cond (eqb (firstFailing n p) n && p n) (suc n) (firstFailing n p) ≡ i
+    before s k = ap (λ (t : Bool). cond (t && p n) (suc n) (firstFailing n p)) (ne-eqb (firstFailing n p) n (λ r. omega (arith, s, r, k))) ∙ s
+
+-- none of any, where all pass
+pub failing-all : (n : ℕ) (p : ℕ → Bool) → ((i : ℕ) → i < n → p i ≡ true) → firstFailing n p ≡ n
+unfolding firstFailing
+failing-all zero p h = refl
+failing-all (suc n) p h = λ z. cond (eq-eqb (firstFailing n p) n (failing-all n p (λ i l. h i (omega arith))) z && h n (omega arith) z) (suc n) (firstFailing n p)
+
+-- what makes it the first that fails
+pub failing-first : (n : ℕ) (p : ℕ → Bool) → First n p (firstFailing n p)
+unfolding firstFailing
+failing-first zero p = record { at-most = omega arith; before = λ i l. absurd (omega arith); here = λ l. absurd (omega arith) }
+failing-first (suc n) p = go (eqb k n) (p n) refl refl (failing-first n p)
+  where
+    k : ℕ
+    k = firstFailing n p
+
+    go : (t u : Bool) → eqb k n ≡ t → p n ≡ u → First n p k → First (suc n) p (cond (t && u) (suc n) k)
+    go true true e h F =
+        record {
+          at-most = omega arith;
+          before = λ i l. ⊎-elim (λ s. ap p s ∙ h) (λ m. F .before i (omega (arith, m, eqb-true k n e))) (eq-or-lt-of-le (le-of-suc-le-suc l));
+          here = λ l. absurd (omega arith);
+        }
+    go true false e h F = record { at-most = omega (arith, F .at-most); before = F .before; here = λ l. ap p (eqb-true k n e) ∙ h }
+    go false u e h F = record { at-most = omega (arith, F .at-most); before = F .before; here = λ l. F .here (omega (arith, F .at-most, eqb-false k n e)) }
+
+-- one of the lists that stand one after another
+pub part-joined : (n k : ℕ) (f : ℕ → List ℕ) → ((i : ℕ) → length (f i) ≡ k) → (i : ℕ) → i < n → part (k * i) k (joined n f) ≡ f i
+unfolding joined part
+part-joined zero k f each i h = absurd (omega arith)
+part-joined (suc n) k f each i h = ⊎-elim (λ e. at-last e) (λ l. before l (part-joined n k f each i l)) (eq-or-lt-of-le (le-of-suc-le-suc h))
+  where
+    long : length (joined n f) ≡ k * n
+    long = length-joined n k f (λ i _. each i)
+
+    at-last : i ≡ n → take k (drop (k * i) (joined n f ++ f n)) ≡ f i
+    at-last e =
+        ap (take k) (drop-at (joined n f) (f n) (k * i) (long ∙ ap (λ (j : ℕ). k * j) (sym e))) ∙ (take-all k (f n) (omega (arith, each n)) ∙ ap f (sym e))
+
+    before : i < n → take k (drop (k * i) (joined n f)) ≡ f i → take k (drop (k * i) (joined n f ++ f n)) ≡ f i
+    before l e =
+        ap (take k) (drop-append-le (k * i) (joined n f) (f n) (omega (arith, long, room l))) ∙ (take-append-le k (drop (k * i) (joined n f)) (f n) (omega (arith, length-drop (k * i) (joined n f), long, room l)) ∙ e)
+      where
+        room : i < n → k * suc i ≤ k * n
+        room l = mul-le-mul-left k l

@@ -1,0 +1,5 @@
+pub mod Rounding
+pub mod Component
+pub mod Packer
+pub mod Reader
+pub mod Contract
