@@ -24,9 +24,6 @@ use Rattle.appends.proofs.Counts.{Next, next-words, length-from}
 abbrev pub Begins : List ℕ → List ℕ → Type 0
 Begins f g = (rest : List ℕ) × (f ++ rest ≡ g)
 
-pub begins-take : (m : ℕ) (g : List ℕ) → Begins (take m g) g
-begins-take m g = (drop m g, take-append-drop m g)
-
 pub begins-cut : (m : ℕ) (f g : List ℕ) → Begins f g → Begins (take m f) g
 begins-cut m f g b = (drop m f ++ b .0, sym (append-assoc (take m f) (drop m f) (b .0)) ∙ (ap (λ (x : List ℕ). x ++ b .0) (take-append-drop m f) ∙ b .1))
 

@@ -9,7 +9,7 @@ use Rattle.blocks.specs.Format.{recordsHeld, roomWords, blocksFor, usedWords, b
 use Rattle.cards.specs.Writer.{recordsOf, writable, cardBytes}
 use Rattle.appends.specs.Next.{beyond, firstTorn, placeOf}
 
--- whether k records are those of block b and of no, one or more whole blocks after it, among n: all that is left, or full blocks
+-- whether k of n records, k not 0, are those of block b and of the blocks after it: full ones, or all that is left
 unfoldable pub follow : ℕ → ℕ → ℕ → Bool
 follow n b k = ltb 0 k && (eqb (recordsHeld * b + k) n || ltb (recordsHeld * b + k) n && eqb (k % recordsHeld) 0)
 
@@ -20,20 +20,20 @@ blocksFrom n b l = joined (blocksFor (recordsOf l)) (λ i. blockOf n (b + i) (pa
 -- all that appending leaves behind: a number, how many blocks, where they go, and the lent list
 pub record Added : Type 0 where
   pub number : ℕ
-  pub count : ℕ
+  pub blocks : ℕ
   pub at : ℕ
   pub lent : List ℕ
 
 -- a refusal alters nothing
 unfoldable pub notAdded : ℕ → List ℕ → Added
-notAdded k lent = record { number = k; count = 0; at = 0; lent = lent }
+notAdded k lent = record { number = k; blocks = 0; at = 0; lent = lent }
 
 -- the blocks' bytes, to be put at the torn block's place
 unfoldable pub nowAdded : ℕ → ℕ → List ℕ → List ℕ → Added
 nowAdded n long l lent =
     record {
       number = 0;
-      count = blocksFor (recordsOf l);
+      blocks = blocksFor (recordsOf l);
       at = placeOf long;
       lent = blocksFrom n (firstTorn long) l ++ drop (cardBytes (recordsOf l)) lent;
     }

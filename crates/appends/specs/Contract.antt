@@ -17,7 +17,7 @@ Follows long n r = afterNext r ≡ following n long
 
 -- all that a call of `append` leaves behind
 unfoldable pub afterAppend : Appended → List ℕ → Added
-afterAppend r lent = record { number = r .number; count = r .count; at = r .at; lent = lent }
+afterAppend r lent = record { number = r .number; blocks = r .blocks; at = r .at; lent = lent }
 
 -- The contract of `append`. Handed in: the length of the card, the total n and the records l; lent: the list c, which it leaves as d; returned: r.
 abbrev pub Appends : ℕ → ℕ → List ℕ → List ℕ → Appended → List ℕ → Type 0

@@ -6,15 +6,15 @@ use Rattle.blocks.specs.Format.{blockBytes, blocksFor, used}
 
 -- whether a card of so many bytes holds more than n records call for
 unfoldable pub beyond : ℕ → ℕ → Bool
-beyond n length = ltb (blockBytes * blocksFor n) length
+beyond n long = ltb (blockBytes * blocksFor n) long
 
 -- the first block that is not whole: 'Appending after that starts at the torn block'
 unfoldable pub firstTorn : ℕ → ℕ
-firstTorn length = length / blockBytes
+firstTorn long = long / blockBytes
 
 -- where its bytes go
 unfoldable pub placeOf : ℕ → ℕ
-placeOf length = blockBytes * firstTorn length
+placeOf long = blockBytes * firstTorn long
 
 -- what is next on a card of so many bytes
 pub record Following : Type 0 where
@@ -24,7 +24,7 @@ pub record Following : Type 0 where
 
 -- how many records the torn block takes, none where the card is whole, and where it goes; refused with 3 where it holds more than n records call for
 unfoldable pub following : ℕ → ℕ → Following
-following n length =
-    cond (beyond n length)
+following n long =
+    cond (beyond n long)
     (record { number = 3; records = 0; at = 0 })
-    (record { number = 0; records = used n (firstTorn length); at = placeOf length })
+    (record { number = 0; records = used n (firstTorn long); at = placeOf long })

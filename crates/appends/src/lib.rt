@@ -1,6 +1,6 @@
 // Appending to a card that may be torn: request E14. A program with a file asks which block comes next, hands in its records, and puts the bytes at their place.
 ghost use mathlib.Core.Path.{_≡_};
-ghost use mathlib.Core.Bool.{true, false};
+ghost use mathlib.Core.Bool.{true};
 ghost use mathlib.Core.List.{_++_};
 ghost use Prim.Native.Nat.{_+_, _*_, _≤_, _<_};
 ghost use lib.ListN.{length, drop};
@@ -22,7 +22,7 @@ pub struct Next {
 #[repr(C)]
 pub struct Appended {
     pub number: u32,
-    pub count: u32,
+    pub blocks: u32,
     pub at: usize,
 }
 
@@ -62,7 +62,7 @@ pub fn next_block(long: usize, total: u32) -> Next
     }
 }
 
-// Whether so many records are those of block b and of whole blocks after it.
+// Whether so many records are those of block b and of the blocks after it: full ones, or all that is left.
 fn follow(total: u32, b: usize, count: u32) -> bool
     requires { ⌜ b ≤ 4294967296 ⌝ }
     ensures { λ r. ⌜ r ≡ spec.follow total b count ⌝ }
@@ -83,8 +83,8 @@ fn put_blocks(total: u32, b: usize, records: &[u32], lent: &mut [u8])
     }
 }
 
-// The blocks of these records for a card of so many bytes, and where they go. Refused with 1 where they are not whole records with 0 or 1 in word 0, with 2 where the lent list is
-// too short, with 3 where the card holds more than the total calls for, with 4 where they are not the records of the next blocks by count.
+// The blocks of these records for a card of so many bytes, and where they go. Refused, in this order: with 1 where they are not whole records, fewer than 2^32, with 0 or 1 in word 0; with 2
+// where the lent list is too short; with 3 where the card holds more than the total calls for; with 4 where they are not the records of the next blocks by count.
 pub fn append(long: usize, total: u32, records: &[u32], lent: &mut [u8]) -> Appended
     ensures { λ r. ⌜ Appends long total (now (records .entry)) (now (lent .entry)) r (now (lent .exit)) ⌝ }
 {
@@ -106,18 +106,18 @@ pub fn append(long: usize, total: u32, records: &[u32], lent: &mut [u8]) -> Appe
     put_blocks(total, first, records, lent);
     Appended {
         number: 0,
-        count: made as u32,
+        blocks: made as u32,
         at: 512 * first,
     }
 }
 
 // A refusal.
 fn refused(number: u32) -> Appended
-    ensures { λ r. ⌜ r ≡ record { number = number; count = 0; at = 0 } ⌝ }
+    ensures { λ r. ⌜ r ≡ record { number = number; blocks = 0; at = 0 } ⌝ }
 {
     Appended {
         number: number,
-        count: 0,
+        blocks: 0,
         at: 0,
     }
 }

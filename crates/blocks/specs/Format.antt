@@ -21,7 +21,7 @@ recordsHeld = 12
 
 -- the words that a block's records take
 abbrev pub roomWords : ℕ
-roomWords = 120
+roomWords = recordsHeld * recordWords
 
 -- 'four zero words'
 abbrev pub spare : List ℕ
@@ -33,7 +33,7 @@ headerWords = 7
 
 -- how many blocks n records take: 'No records, no blocks; only the last may be part full'
 unfoldable pub blocksFor : ℕ → ℕ
-blocksFor n = (n + 11) / recordsHeld
+blocksFor n = (n + (recordsHeld - 1)) / recordsHeld
 
 -- 'records used (1 to 12)': how many of n records are in block b
 unfoldable pub used : ℕ → ℕ → ℕ

@@ -22,7 +22,7 @@ emptied n b ws = everyBelow (roomWords - usedWords n b) (λ i. eqb (getD ws (hea
 
 -- 'or sum'
 unfoldable pub checked : List ℕ → Bool
-checked ws = eqb (getD ws 127 0) (checkWord (take 127 ws))
+checked ws = eqb (getD ws (blockWords - 1) 0) (checkWord (take (blockWords - 1) ws))
 
 -- whether the words of a block are what place b of n records calls for
 unfoldable pub sound : ℕ → ℕ → List ℕ → Bool
@@ -38,7 +38,7 @@ good n b bs = ltb b (length bs / blockBytes) && sound n b (blockAt b bs)
 
 -- a record that is lost: 'word 0 is 2, the rest zero'
 abbrev pub lost : List ℕ
-lost = 2 ∷ replicate 9 0
+lost = 2 ∷ replicate (recordWords - 1) 0
 
 -- the records of block b, as they are read from a list of bytes: 'its records read as lost' where it is not good
 unfoldable pub recordsRead : ℕ → ℕ → List ℕ → List ℕ

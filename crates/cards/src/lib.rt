@@ -60,7 +60,7 @@ fn write_blocks(answer: &[u32], total: u32, card: &mut [u8])
     }
 }
 
-// Answer words to a card: refused with 1 where they are not whole records with 0 or 1 in word 0, with 2 where the card is too short.
+// Answer words to a card: refused with 1 where they are not whole records, fewer than 2^32, with 0 or 1 in word 0, with 2, checked second, where the card is too short.
 pub fn write(answer: &[u32], card: &mut [u8]) -> Written
     ensures { λ r. ⌜ Writes (now (answer .entry)) (now (card .entry)) r (now (card .exit)) ⌝ }
 {

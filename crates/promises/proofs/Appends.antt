@@ -1,19 +1,20 @@
 -- What is promised of appending holds: each from the contracts. Assumes nothing.
-use Prim.Native.Nat.{ℕ, _*_, _/_, _≤_, _<_}
+use Prim.Native.Nat.{ℕ, zero, suc, _+_, _*_, _/_, _≤_, _<_}
 use native.Mathlib.Omega.{arith}
 use mathlib.Core.Path.{_≡_, refl, sym, ap, _∙_, subst}
 use mathlib.Core.Bool.{Bool, true, false}
-use mathlib.Core.List.{List, _++_}
-use lib.ListN.{length, getD, take, drop, length-append}
-use lib.Seq.{take-append-le, take-all}
+use mathlib.Core.Logic.{_⊎_, inl, inr}
+use mathlib.Core.List.{List, [], _++_, append-nil}
+use lib.ListN.{length, getD, take, drop, replicate, length-append}
+use lib.Seq.{take-append-le, take-all, drop-at, drop-nil}
 use lib.Dec.{leb}
 use borrow.Author.Tests.{leb-true, leb-false, le-ltb}
-use Rattle.words.specs.Lists.{everyBelow, part}
+use Rattle.words.specs.Lists.{everyBelow, joined, part}
 use Rattle.words.specs.Words.{Fit}
 use Rattle.blocks.specs.Format.{blocksFor, used, recordsIn}
-use Rattle.cards.specs.Writer.{recordsOf, writable, cardBytes, cardOf}
+use Rattle.cards.specs.Writer.{recordsOf, writable, cardBytes, blocksOf, cardOf}
 use Rattle.cards.specs.Reader.{blocksThere, bytesPast}
-use Rattle.words.proofs.Lists.{part-front}
+use Rattle.words.proofs.Lists.{length-zeros, part-front, part-whole}
 use Rattle.blocks.proofs.Counts.{words-are, used-le, used-one, called}
 use Rattle.blocks.proofs.Judged.{good-none, read-lost}
 use Rattle.blocks.proofs.Same.{same-read}
@@ -21,15 +22,15 @@ use Rattle.cards.proofs.Lengths.{length-own}
 use Rattle.cards.proofs.Outcomes.{whole-records, can-write}
 use Rattle.cards.proofs.Back.{marks, block-back, length-card}
 use Rattle.appends.specs.Next.{beyond, firstTorn, placeOf}
-use Rattle.appends.specs.Append.{follow, blocksFrom, notAdded, nowAdded}
+use Rattle.appends.specs.Append.{added, follow, blocksFrom, notAdded, nowAdded}
 use Rattle.appends.specs.File.{patched}
 use Rattle.appends.specs.Contract.{afterNext, afterAppend}
 use Rattle.appends.proofs.Counts.{Next, follows, follow-is, one-next, length-from}
 use Rattle.appends.proofs.Outcomes.{following-by, added-1, added-2, added-3, added-by}
-use Rattle.appends.proofs.Runs.{Begins, begins-is, begins-cut, append-begins}
+use Rattle.appends.proofs.Runs.{Begins, begins-is, begins-cut, card-split, append-begins}
 use Rattle.promises.specs.Cards.{Reading}
 use Rattle.promises.proofs.Cards.{left-of, block-read}
-use Rattle.promises.specs.Appends.{Appending, Asking, NextOf, Walk, start, more, cut, Finds, AppendsPromised}
+use Rattle.promises.specs.Appends.{Appending, Asking, NextOf, Walk, start, more, cut, Finds, Unmade, Made, AppendsPromised}
 
 -- an appending that was accepted
 record Accepted (long n : ℕ) (rs c : List ℕ) (a : Appending long n rs c) : Type 0 where
@@ -39,35 +40,75 @@ record Accepted (long n : ℕ) (rs c : List ℕ) (a : Appending long n rs c) : T
   next : follow n (firstTorn long) (recordsOf rs) ≡ true
   left : afterAppend (a .returned) (a .lent) ≡ nowAdded n long rs c
 
-module _ (long n : ℕ) (rs c : List ℕ) (a : Appending long n rs c) (zero : a .returned .number ≡ 0) where
-  -- no refusal leaves the number 0
-  not-refused : (k : ℕ) → 0 < k → afterAppend (a .returned) (a .lent) ≡ notAdded k c → ⊥
-  unfolding afterAppend notAdded
-  not-refused k h e =
-      let number : a .returned .number ≡ k = λ i. e i .number in
-      omega (arith, h, zero, number)
+-- a refusal
+record Refused (long n : ℕ) (rs c : List ℕ) (a : Appending long n rs c) : Type 0 where
+  number : ℕ
+  first : 1 ≤ number
+  last : number ≤ 4
+  left : afterAppend (a .returned) (a .lent) ≡ notAdded number c
 
-  accepted : Accepted long n rs c a
-  accepted = first (writable rs) refl
-    where
-      fourth : (x : Bool) → writable rs ≡ true → cardBytes (recordsOf rs) ≤ length c → beyond n long ≡ false → follow n (firstTorn long) (recordsOf rs) ≡ x → Accepted long n rs c a
-      fourth true p q r s = record { can = p; room = q; within = r; next = s; left = a .meets ∙ added-by n long rs c p q r true s }
-      fourth false p q r s = absurd (not-refused 4 (omega arith) (a .meets ∙ added-by n long rs c p q r false s))
+-- which of the two it is
+by : (long n : ℕ) (rs c : List ℕ) (a : Appending long n rs c) → Refused long n rs c a ⊎ Accepted long n rs c a
+by long n rs c a = first (writable rs) refl
+  where
+    refusal : (k : ℕ) → 1 ≤ k → k ≤ 4 → added n long rs c ≡ notAdded k c → Refused long n rs c a ⊎ Accepted long n rs c a
+    refusal k p q e = inl (record { number = k; first = p; last = q; left = a .meets ∙ e })
 
-      third : (x : Bool) → writable rs ≡ true → cardBytes (recordsOf rs) ≤ length c → beyond n long ≡ x → Accepted long n rs c a
-      third true p q r = absurd (not-refused 3 (omega arith) (a .meets ∙ added-3 n long rs c p q r))
-      third false p q r = fourth (follow n (firstTorn long) (recordsOf rs)) p q r refl
+    fourth : (x : Bool) → writable rs ≡ true → cardBytes (recordsOf rs) ≤ length c → beyond n long ≡ false → follow n (firstTorn long) (recordsOf rs) ≡ x → Refused long n rs c a ⊎ Accepted long n rs c a
+    fourth true p q r s = inr (record { can = p; room = q; within = r; next = s; left = a .meets ∙ added-by n long rs c p q r true s })
+    fourth false p q r s = refusal 4 (omega arith) (omega arith) (added-by n long rs c p q r false s)
 
-      second : (x : Bool) → writable rs ≡ true → leb (cardBytes (recordsOf rs)) (length c) ≡ x → Accepted long n rs c a
-      second true p q = third (beyond n long) p (leb-true (cardBytes (recordsOf rs)) (length c) q) refl
-      second false p q = absurd (not-refused 2 (omega arith) (a .meets ∙ added-2 n long rs c p (leb-false (cardBytes (recordsOf rs)) (length c) q)))
+    third : (x : Bool) → writable rs ≡ true → cardBytes (recordsOf rs) ≤ length c → beyond n long ≡ x → Refused long n rs c a ⊎ Accepted long n rs c a
+    third true p q r = refusal 3 (omega arith) (omega arith) (added-3 n long rs c p q r)
+    third false p q r = fourth (follow n (firstTorn long) (recordsOf rs)) p q r refl
 
-      first : (x : Bool) → writable rs ≡ x → Accepted long n rs c a
-      first true p = second (leb (cardBytes (recordsOf rs)) (length c)) p refl
-      first false p = absurd (not-refused 1 (omega arith) (a .meets ∙ added-1 n long rs c p))
+    second : (x : Bool) → writable rs ≡ true → leb (cardBytes (recordsOf rs)) (length c) ≡ x → Refused long n rs c a ⊎ Accepted long n rs c a
+    second true p q = third (beyond n long) p (leb-true (cardBytes (recordsOf rs)) (length c) q) refl
+    second false p q = refusal 2 (omega arith) (omega arith) (added-2 n long rs c p (leb-false (cardBytes (recordsOf rs)) (length c) q))
+
+    first : (x : Bool) → writable rs ≡ x → Refused long n rs c a ⊎ Accepted long n rs c a
+    first true p = second (leb (cardBytes (recordsOf rs)) (length c)) p refl
+    first false p = refusal 1 (omega arith) (omega arith) (added-1 n long rs c p)
+
+accepted : (long n : ℕ) (rs c : List ℕ) (a : Appending long n rs c) → a .returned .number ≡ 0 → Accepted long n rs c a
+unfolding afterAppend notAdded
+accepted long n rs c a z = go (by long n rs c a)
+  where
+    go : Refused long n rs c a ⊎ Accepted long n rs c a → Accepted long n rs c a
+    go (inr p) = p
+    go (inl r) =
+        let e = r .left in
+        let number : a .returned .number ≡ r .number = λ i. e i .number in
+        absurd (omega (arith, r .first, z, number))
+
+-- how long the blocks of an accepted one are
+long-from : (long n : ℕ) (rs c : List ℕ) (a : Appending long n rs c) → Accepted long n rs c a → length (blocksFrom n (firstTorn long) rs) ≡ 512 * blocksFor (recordsOf rs)
+unfolding blocksFrom
+long-from long n rs c a p = length-from n (firstTorn long) rs (follows n (firstTorn long) (recordsOf rs) (p .next)) (blocksFor (recordsOf rs)) (omega arith)
+
+made : (long n : ℕ) (rs c : List ℕ) (a : Appending long n rs c) → Unmade long n rs c a ⊎ Made long n rs c a
+unfolding afterAppend notAdded nowAdded placeOf firstTorn cardBytes
+made long n rs c a = go (by long n rs c a)
+  where
+    go : Refused long n rs c a ⊎ Accepted long n rs c a → Unmade long n rs c a ⊎ Made long n rs c a
+    go (inl r) =
+        let e = r .left in
+        let number : a .returned .number ≡ r .number = λ i. e i .number in
+        inl (record { number = (omega (arith, r .first, number), omega (arith, r .last, number)); lent = λ i. e i .lent })
+    go (inr p) =
+        let e = p .left in
+        let k = blocksFor (recordsOf rs) in
+        let blocks : a .returned .blocks ≡ k = λ i. e i .blocks in
+        let lent : a .lent ≡ blocksFrom n (long / 512) rs ++ drop (512 * k) c = λ i. e i .lent in
+        inr (record {
+          number = λ i. e i .number;
+          at = λ i. e i .at;
+          blocks = blocks;
+          rest = (λ i. drop (512 * blocks i) (lent i)) ∙ (drop-at (blocksFrom n (long / 512) rs) (drop (512 * k) c) (512 * k) (long-from long n rs c a p) ∙ sym (ap (λ (x : ℕ). drop (512 * x) c) blocks));
+        })
 
 -- what an accepted appending leaves on the file begins the card
-appended : (l f rs c : List ℕ) (a : Appending (length f) (recordsOf l) rs c) (j : ℕ) → writable l ≡ true → NextOf l (length f) rs → Accepted (length f) (recordsOf l) rs c a → j ≤ 512 * a .returned .count → Begins f (cardOf l) → Begins (patched f (a .returned .at) (take j (a .lent))) (cardOf l)
+appended : (l f rs c : List ℕ) (a : Appending (length f) (recordsOf l) rs c) (j : ℕ) → writable l ≡ true → NextOf l (length f) rs → Accepted (length f) (recordsOf l) rs c a → j ≤ 512 * a .returned .blocks → Begins f (cardOf l) → Begins (patched f (a .returned .at) (take j (a .lent))) (cardOf l)
 unfolding afterAppend nowAdded placeOf firstTorn cardBytes blocksFrom
 appended l f rs c a j can own p h b =
     let n = recordsOf l in
@@ -75,9 +116,9 @@ appended l f rs c a j can own p h b =
     let next = follows n k (recordsOf rs) (p .next) in
     let e = p .left in
     let at : a .returned .at ≡ 512 * k = λ i. e i .at in
-    let size : a .returned .count ≡ blocksFor (recordsOf rs) = λ i. e i .count in
+    let size : a .returned .blocks ≡ blocksFor (recordsOf rs) = λ i. e i .blocks in
     let lent : a .lent ≡ blocksFrom n k rs ++ drop (512 * blocksFor (recordsOf rs)) c = λ i. e i .lent in
-    let long : length (blocksFrom n k rs) ≡ 512 * blocksFor (recordsOf rs) = length-from n k rs next (blocksFor (recordsOf rs)) (omega arith) in
+    let long = long-from (length f) n rs c a p in
     let put : take j (a .lent) ≡ take j (blocksFrom n k rs) = ap (take j) lent ∙ take-append-le j (blocksFrom n k rs) (drop (512 * blocksFor (recordsOf rs)) c) (omega (arith, h, size, long)) in
     subst (λ (x : List ℕ). Begins x (cardOf l)) (sym (λ i. patched f (at i) (put i))) (append-begins l can k rs own (p .can) next f j refl (omega (arith, h, size)) b)
 
@@ -85,7 +126,7 @@ appended l f rs c a j can own p h b =
 begins : (l f : List ℕ) → writable l ≡ true → Walk l f → Begins f (cardOf l)
 begins l f can start = (cardOf l, refl)
 begins l f can (cut g m w) = begins-cut m g (cardOf l) (begins l g can w)
-begins l f can (more g rs c a j w own zero h) = appended l g rs c a j can own (accepted (length g) (recordsOf l) rs c a zero) h (begins l g can w)
+begins l f can (more g rs c a j w own z h) = appended l g rs c a j can own (accepted (length g) (recordsOf l) rs c a z) h (begins l g can w)
 
 -- no longer than it
 no-longer : (l f : List ℕ) → Begins f (cardOf l) → length f ≤ length (cardOf l)
@@ -114,6 +155,14 @@ finds l f a r can fit w z =
 
     bytes : (k : ℕ) → k < length f / 512 → part (512 * k) 512 f ≡ part (512 * k) 512 (cardOf l)
     bytes k h = sym (part-front f (begins l f can w .0) (512 * k) 512 (omega (arith, h))) ∙ ap (part (512 * k) 512) (begins l f can w .1)
+
+-- bytes put on an empty file
+append-drop-nil : (xs : List ℕ) → [] ++ xs ++ drop (0 + length xs) [] ≡ xs
+append-drop-nil xs = ap (λ (x : List ℕ). xs ++ x) (drop-nil (0 + length xs)) ∙ append-nil xs
+
+positive : (n : ℕ) → 1 ≤ blocksFor n → 0 < n
+unfolding blocksFor
+positive n h = omega (arith, h)
 
 -- a card on which a block is missing
 module _ (l f : List ℕ) (can : writable l ≡ true) (w : Walk l f) where
@@ -157,18 +206,66 @@ module _ (l f : List ℕ) (can : writable l ≡ true) (w : Walk l f) where
     unfolding blocksFor
     one = omega (arith, count, used-le n k, used-one n k missing)
 
-    goes-on : (c : List ℕ) (a : Appending (length f) n rs c) → 512 ≤ length c → (a .returned .number ≡ 0) × (a .returned .at ≡ 512 * k) × (a .returned .count ≡ 1)
+    goes-on : (c : List ℕ) (a : Appending (length f) n rs c) → 512 ≤ length c → (a .returned .number ≡ 0) × (a .returned .at ≡ 512 * k) × (a .returned .blocks ≡ 1)
     unfolding afterAppend nowAdded firstTorn placeOf cardBytes
     goes-on c a m =
         let next = follow-is n k (recordsOf rs) (subst (Next n k) (sym count) (one-next n k missing)) in
         let e = a .meets ∙ added-by n (length f) rs c can-rs (omega (arith, one, m)) not-beyond true next in
-        (λ i. e i .number, λ i. e i .at, (λ i. e i .count) ∙ one)
+        (λ i. e i .number, λ i. e i .at, (λ i. e i .blocks) ∙ one)
+
+-- each beginning of the card is what some walk leaves: all records appended at once, and the power gone after so many bytes
+module _ (l : List ℕ) (can : writable l ≡ true) where
+  abbrev total : ℕ
+  total = recordsOf l
+
+  -- a lent list with room
+  abbrev lent : List ℕ
+  lent = replicate (512 * blocksFor (recordsOf l)) 0
+
+  all-next : 0 < total → Next total 0 total
+  all-next h = record { some = h; kind = inl (omega arith) }
+
+  whole-call : 0 < total → Appending 0 total l lent
+  unfolding afterAppend nowAdded placeOf firstTorn beyond cardBytes
+  whole-call h =
+      record {
+        returned = record { number = 0; blocks = blocksFor total; at = 0 };
+        lent = blocksFrom total 0 l ++ drop (512 * blocksFor total) lent;
+        meets = sym (added-by total 0 l lent can (omega (arith, length-zeros (512 * blocksFor total))) (le-ltb (512 * blocksFor total) 0 (omega arith)) true (follow-is total 0 total (all-next h)));
+      }
+
+  -- the first j bytes of it
+  first-bytes : (j : ℕ) → 0 < total → j ≤ 512 * blocksFor total → take j (blocksFrom total 0 l ++ drop (512 * blocksFor total) lent) ≡ take j (cardOf l)
+  unfolding blocksFrom blocksOf joined
+  first-bytes j h k =
+      let s = card-split l can 0 l (sym (part-whole l (length l) refl)) can (all-next h) in
+      let long : length (blocksFrom total 0 l) ≡ 512 * blocksFor total = length-from total 0 l (all-next h) (blocksFor total) (omega arith) in
+      take-append-le j (blocksFrom total 0 l) (drop (512 * blocksFor total) lent) (omega (arith, k, long)) ∙ sym (ap (take j) (s .1) ∙ take-append-le j (blocksFrom total 0 l) (s .0) (omega (arith, k, long)))
+
+  reach : (j : ℕ) → j ≤ 512 * blocksFor total → Walk l (take j (cardOf l))
+  unfolding patched whole-call
+  reach zero h = start
+  reach (suc j) h =
+      subst (Walk l) (append-drop-nil (take (suc j) (blocksFrom total 0 l ++ drop (512 * blocksFor total) lent)) ∙ first-bytes (suc j) some h)
+      (more [] l lent (whole-call some) (suc j) start (sym (part-whole l (length l) refl)) refl h)
+    where
+      some : 0 < recordsOf l
+      some = positive (recordsOf l) (omega (arith, h))
+
+  reaches : (m : ℕ) → Walk l (take m (cardOf l))
+  reaches m = go (leb m (512 * blocksFor total)) refl
+    where
+      go : (x : Bool) → leb m (512 * blocksFor total) ≡ x → Walk l (take m (cardOf l))
+      go true h = reach m (leb-true m (512 * blocksFor total) h)
+      go false h =
+          let k = leb-false m (512 * blocksFor total) h in
+          subst (Walk l) (take-all (512 * blocksFor total) (cardOf l) (omega (arith, length-card l can)) ∙ sym (take-all m (cardOf l) (omega (arith, k, length-card l can)))) (reach (512 * blocksFor total) (omega arith))
 
 one-appending : (long n : ℕ) (rs c : List ℕ) (a b : Appending long n rs c) → (a .returned ≡ b .returned) × (a .lent ≡ b .lent)
 unfolding afterAppend
 one-appending long n rs c a b =
     let e = a .meets ∙ sym (b .meets) in
-    (λ i. record { number = e i .number; count = e i .count; at = e i .at }, λ i. e i .lent)
+    (λ i. record { number = e i .number; blocks = e i .blocks; at = e i .at }, λ i. e i .lent)
 
 one-asking : (long n : ℕ) (a b : Asking long n) → a .returned ≡ b .returned
 unfolding afterNext
@@ -182,11 +279,13 @@ same l f can w = begins-is f (cardOf l) (begins l f can w)
 pub appends-promised : AppendsPromised
 appends-promised =
     record {
+      reaches = λ l m can. reaches l can m;
       same = same;
       end = λ l f can w e. same l f can w ∙ take-all (length f) (cardOf l) (omega (arith, e));
       finds = finds;
       goes-on = λ l f c a can w h m. goes-on l f can w h c a m;
       asks = λ l f q can w. asks l f can w q;
+      made = made;
       one-appending = one-appending;
       one-asking = one-asking;
     }

@@ -4,16 +4,16 @@ use native.Mathlib.Omega.{arith}
 use mathlib.Core.Path.{_≡_, refl, sym, ap, _∙_, subst}
 use mathlib.Core.Bool.{Bool, true, false}
 use mathlib.Core.Logic.{_⊎_, inl, inr}
-use mathlib.Core.List.{List, _++_}
-use lib.ListN.{length, getD, take, drop}
+use mathlib.Core.List.{List, _∷_, _++_, flatMap}
+use lib.ListN.{length, getD, take, drop, replicate, length-append}
 use lib.Seq.{take-at, drop-at}
 use lib.Dec.{leb, ltb}
 use borrow.Author.Tests.{leb-true, leb-false}
-use Rattle.words.specs.Lists.{joined, part}
-use Rattle.words.specs.Words.{wordAt, Fit}
-use Rattle.words.proofs.Lists.{part-front}
+use Rattle.words.specs.Lists.{sumOf, joined, part}
+use Rattle.words.specs.Words.{wordBytes, bytesOf, wordAt, Fit}
+use Rattle.words.proofs.Lists.{joined-same, part-front}
 use Rattle.words.proofs.Words.{word-of, length-words}
-use Rattle.blocks.specs.Format.{blocksFor, used, recordsIn}
+use Rattle.blocks.specs.Format.{blocksFor, used, usedWords, recordsIn, header, body, complement, checkWord, block, blockOf}
 use Rattle.blocks.specs.Judged.{sound, blockAt, good, lost, recordsRead}
 use Rattle.bits.proofs.Bools.{and-right}
 use Rattle.blocks.proofs.Counts.{block-of, place-of}
@@ -21,14 +21,14 @@ use Rattle.blocks.proofs.Judged.{read-lost}
 use Rattle.blocks.proofs.Changed.{one-word}
 use Rattle.blocks.proofs.Same.{same-read}
 use Rattle.cards.specs.Writer.{recordsOf, writable, cardBytes, cardOf, notWritten, cardWritten}
-use Rattle.cards.specs.Reader.{bytesPast, readings}
+use Rattle.cards.specs.Reader.{blocksThere, bytesPast, readings}
 use Rattle.cards.specs.Contract.{afterWrite, afterRead}
 use Rattle.cards.proofs.Lengths.{length-readings}
 use Rattle.cards.proofs.Outcomes.{whole-records, wrote-0, wrote-1, wrote-2, got-0, got-2}
-use Rattle.cards.proofs.Back.{block-back, all-back, length-card, none-past}
+use Rattle.cards.proofs.Back.{block-back, all-back, length-card}
 use Rattle.cards.proofs.Places.{block-place, record-kept, record-mark, record-lost}
 use Rattle.promises.specs.Cards as spec
-use Rattle.promises.specs.Cards.{Writing, Reading, Unwritten, Done, Unread, OneWord, Kept, Lost, Bytes, recordAt, CardsPromised}
+use Rattle.promises.specs.Cards.{Writing, Reading, Unwritten, Done, Unread, OneWord, Kept, Lost, Bytes, recordAt, CardsPromised, sampleBytes}
 
 -- which outcome a writing had
 written : (l c : List ℕ) (w : Writing l c) → Unwritten l c w ⊎ Done l c w
@@ -38,43 +38,32 @@ written l c w = first (writable l) refl
     second : (x : Bool) → writable l ≡ true → leb (cardBytes (recordsOf l)) (length c) ≡ x → Unwritten l c w ⊎ Done l c w
     second true h k =
         let e = w .meets ∙ wrote-0 l c h (leb-true (cardBytes (recordsOf l)) (length c) k) in
-        inr (record { number = λ i. e i .number; bytes = λ i. e i .bytes; card = λ i. e i .card })
+        inr (record { can = h; room = leb-true (cardBytes (recordsOf l)) (length c) k; number = λ i. e i .number; bytes = λ i. e i .bytes; card = λ i. e i .card })
     second false h k =
         let e = w .meets ∙ wrote-2 l c h (leb-false (cardBytes (recordsOf l)) (length c) k) in
-        inl (record { number = inr (λ i. e i .number); bytes = λ i. e i .bytes; card = λ i. e i .card })
+        inl (record { number = inr (h, leb-false (cardBytes (recordsOf l)) (length c) k, λ i. e i .number); bytes = λ i. e i .bytes; card = λ i. e i .card })
 
     first : (x : Bool) → writable l ≡ x → Unwritten l c w ⊎ Done l c w
     first true h = second (leb (cardBytes (recordsOf l)) (length c)) h refl
     first false h =
         let e = w .meets ∙ wrote-1 l c h in
-        inl (record { number = inl (λ i. e i .number); bytes = λ i. e i .bytes; card = λ i. e i .card })
+        inl (record { number = inl (h, λ i. e i .number); bytes = λ i. e i .bytes; card = λ i. e i .card })
 
--- an accepted one: the list could be written
-module _ (l c : List ℕ) (w : Writing l c) (zero : w .returned .number ≡ 0) where
-  can : writable l ≡ true
-  unfolding afterWrite notWritten
-  can = go (writable l) refl
-    where
-      go : (x : Bool) → writable l ≡ x → writable l ≡ true
-      go true h = h
-      go false h =
-          let e = w .meets ∙ wrote-1 l c h in
-          let one : w .returned .number ≡ 1 = λ i. e i .number in
-          absurd (omega (arith, zero, one))
-
-  done : Done l c w
-  done = go (written l c w)
-    where
-      go : Unwritten l c w ⊎ Done l c w → Done l c w
-      go (inr d) = d
-      go (inl u) = absurd (other (u .number))
-        where
-          other : (w .returned .number ≡ 1) ⊎ (w .returned .number ≡ 2) → ⊥
-          other (inl e) = omega (arith, zero, e)
-          other (inr e) = omega (arith, zero, e)
+-- an accepted one
+done : (l c : List ℕ) (w : Writing l c) → w .returned .number ≡ 0 → Done l c w
+done l c w zero = go (written l c w)
+  where
+    go : Unwritten l c w ⊎ Done l c w → Done l c w
+    go (inr d) = d
+    go (inl u) = absurd (other (u .number))
+      where
+        other : ((writable l ≡ false) × (w .returned .number ≡ 1)) ⊎ ((writable l ≡ true) × (length c < cardBytes (recordsOf l)) × (w .returned .number ≡ 2)) → ⊥
+        other (inl e) = omega (arith, zero, e .1)
+        other (inr e) = omega (arith, zero, e .2)
 
 -- an accepted reading: what it left
 pub record Left (bs : List ℕ) (n : ℕ) (a : List ℕ) (r : Reading bs n a) : Type 0 where
+  pub room : 10 * n ≤ length a
   pub answer : r .answer ≡ readings n bs ++ drop (10 * n) a
   pub past : r .returned .past ≡ bytesPast n bs
 
@@ -86,10 +75,10 @@ read-by bs n a r = go (leb (10 * n) (length a)) refl
     go : (x : Bool) → leb (10 * n) (length a) ≡ x → Unread bs n a r ⊎ ((r .returned .number ≡ 0) × Left bs n a r)
     go true h =
         let e = r .meets ∙ got-0 n bs a (leb-true (10 * n) (length a) h) in
-        inr (λ i. e i .number, record { answer = λ i. e i .answer; past = λ i. e i .past })
+        inr (λ i. e i .number, record { room = leb-true (10 * n) (length a) h; answer = λ i. e i .answer; past = λ i. e i .past })
     go false h =
         let e = r .meets ∙ got-2 n bs a (leb-false (10 * n) (length a) h) in
-        inl (record { number = λ i. e i .number; past = λ i. e i .past; answer = λ i. e i .answer })
+        inl (record { short = leb-false (10 * n) (length a) h; number = λ i. e i .number; past = λ i. e i .past; answer = λ i. e i .answer })
 
 pub left-of : (bs : List ℕ) (n : ℕ) (a : List ℕ) (r : Reading bs n a) → r .returned .number ≡ 0 → Left bs n a r
 left-of bs n a r zero = go (read-by bs n a r)
@@ -103,21 +92,35 @@ read bs n a r = go (read-by bs n a r)
   where
     go : Unread bs n a r ⊎ ((r .returned .number ≡ 0) × Left bs n a r) → Unread bs n a r ⊎ spec.Got bs n a r
     go (inl u) = inl u
-    go (inr g) = inr (record { number = g .0; past = g .1 .past; rest = ap (drop (10 * n)) (g .1 .answer) ∙ drop-at (readings n bs) (drop (10 * n) a) (10 * n) (length-readings n bs) })
+    go (inr g) = inr (record { room = g .1 .room; number = g .0; past = g .1 .past; rest = ap (drop (10 * n)) (g .1 .answer) ∙ drop-at (readings n bs) (drop (10 * n) a) (10 * n) (length-readings n bs) })
 
 -- the records of block b in what was read
 pub block-read : (bs : List ℕ) (n b : ℕ) (a : List ℕ) (r : Reading bs n a) → b < blocksFor n → r .returned .number ≡ 0 → recordsIn n b (r .answer) ≡ recordsRead n b bs
 block-read bs n b a r h z = ap (recordsIn n b) (left-of bs n a r z .answer) ∙ block-place n bs (drop (10 * n) a) b h
 
+-- a card with bytes past it: its blocks are read as if they were not there
+with-tail : (l t : List ℕ) → writable l ≡ true → Fit l → readings (recordsOf l) (cardOf l ++ t) ≡ l
+unfolding readings
+with-tail l t k f =
+    joined-same (blocksFor n) (λ b. recordsRead n b (cardOf l ++ t)) (λ b. recordsRead n b (cardOf l))
+    (λ b h. same-read n b (cardOf l ++ t) (cardOf l) (part-front (cardOf l) t (512 * b) 512 (omega (arith, h, length-card l k)))) ∙ all-back l k f
+  where
+    n : ℕ
+    n = recordsOf l
+
+tail-past : (l t : List ℕ) → writable l ≡ true → bytesPast (recordsOf l) (cardOf l ++ t) ≡ length t
+unfolding bytesPast blocksThere
+tail-past l t k = omega (arith, length-append (cardOf l) t, length-card l k)
+
 -- 'What was written reads back the same'
-back : (l c a : List ℕ) (w : Writing l c) (r : Reading (take (w .returned .bytes) (w .card)) (recordsOf l) a) → Fit l → w .returned .number ≡ 0 → r .returned .number ≡ 0 → (r .answer ≡ l ++ drop (length l) a) × (r .returned .past ≡ 0)
+back : (l c t a : List ℕ) (w : Writing l c) (r : Reading (take (w .returned .bytes) (w .card) ++ t) (recordsOf l) a) → Fit l → w .returned .number ≡ 0 → r .returned .number ≡ 0 → (r .answer ≡ l ++ drop (length l) a) × (r .returned .past ≡ length t)
 unfolding cardBytes
-back l c a w r f y z =
+back l c t a w r f y z =
     let d = done l c w y in
-    let k = can l c w y in
-    let bs : take (w .returned .bytes) (w .card) ≡ cardOf l = (λ i. take (d .bytes i) (d .card i)) ∙ take-at (cardOf l) (drop (cardBytes (recordsOf l)) c) (cardBytes (recordsOf l)) (length-card l k) in
-    let g = left-of (take (w .returned .bytes) (w .card)) (recordsOf l) a r z in
-    (g .answer ∙ (λ i. (ap (readings (recordsOf l)) bs ∙ all-back l k f) i ++ drop (sym (whole-records l k) i) a), g .past ∙ (ap (bytesPast (recordsOf l)) bs ∙ none-past l k f))
+    let k = d .can in
+    let bs : take (w .returned .bytes) (w .card) ++ t ≡ cardOf l ++ t = ap (λ (x : List ℕ). x ++ t) ((λ i. take (d .bytes i) (d .card i)) ∙ take-at (cardOf l) (drop (cardBytes (recordsOf l)) c) (cardBytes (recordsOf l)) (length-card l k)) in
+    let g = left-of (take (w .returned .bytes) (w .card) ++ t) (recordsOf l) a r z in
+    (g .answer ∙ (λ i. (ap (readings (recordsOf l)) bs ∙ with-tail l t k f) i ++ drop (sym (whole-records l k) i) a), g .past ∙ (ap (bytesPast (recordsOf l)) bs ∙ tail-past l t k))
 
 -- words of bytes are words
 word-fits : (bs : List ℕ) (i : ℕ) → Bytes bs → wordAt bs i < 4294967296
@@ -151,7 +154,7 @@ stands : (l c bs a : List ℕ) (b : ℕ) (w : Writing l c) (r : Reading bs (reco
 unfolding part
 stands l c bs a b w r h f y e z =
     let d = done l c w y in
-    let k = can l c w y in
+    let k = d .can in
     block-read bs (recordsOf l) b a r h z
     ∙ (same-read (recordsOf l) b bs (cardOf l) (e ∙ (ap (part (512 * b) 512) (d .card) ∙ part-front (cardOf l) (drop (cardBytes (recordsOf l)) c) (512 * b) 512 (omega (arith, h, length-card l k)))) ∙ block-back l k f b h)
 
@@ -191,9 +194,15 @@ one-reading bs n a r q =
     let e = r .meets ∙ sym (q .meets) in
     (λ i. record { number = e i .number; past = e i .past }, λ i. e i .answer)
 
+sample : blockOf 14 1 (1 ∷ replicate 19 0) ≡ sampleBytes
+unfolding blockOf block body header checkWord complement sumOf used usedWords bytesOf wordBytes flatMap
+sample = refl
+
 pub cards-promised : CardsPromised
 cards-promised =
     record {
+      width = refl;
+      sample = sample;
       back = back;
       noticed = noticed;
       others = others;

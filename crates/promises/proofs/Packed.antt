@@ -7,12 +7,10 @@ use lib.ListN.{length, drop}
 use Rattle.words.specs.Lists.{joined}
 use Rattle.words.proofs.Lists.{length-joined, joined-same}
 use Rattle.packed.specs.Rounding.{Nearest}
-use Rattle.packed.specs.Component.{negative, cut, scaled, parts, units, signed, component}
+use Rattle.packed.specs.Component.{negative, cut, scaled, parts, units, signed, component, amount}
 use Rattle.packed.specs.Packer.{Wrote, packedSlot, slotAt, packedSlots}
-use Rattle.packed.specs.Reader.{Got, accepted, readSeven, sevenAt, sevensIn, firstRefused, readSlots, allRead, got}
+use Rattle.packed.specs.Reader.{Got, accepted, readSeven, sevenAt, sevensIn, firstRefused, readSlots, allRead, got, First}
 use Rattle.packed.specs.Contract.{Packs, Unpacks, afterPack, afterUnpack}
-use Rattle.packed.specs.Component.{amount}
-use Rattle.packed.specs.Reader.{First}
 use Rattle.promises.specs.Packed.{Rounded, listBack, PackedPromised}
 use Rattle.packed.specs.declared.Packed.{Packed}
 use Rattle.packed.specs.declared.Unpacked.{Unpacked}

@@ -2,8 +2,9 @@
 use Prim.Native.Nat.{ℕ, _*_, _/_, _%_, _≤_, _<_}
 use mathlib.Core.Path.{_≡_}
 use mathlib.Core.Bool.{true}
+use mathlib.Core.Logic.{_⊎_}
 use mathlib.Core.List.{List, []}
-use lib.ListN.{length, take}
+use lib.ListN.{length, take, drop}
 use Rattle.words.specs.Lists.{joined, part}
 use Rattle.words.specs.Words.{Fit}
 use Rattle.blocks.specs.Format.{blockBytes, roomWords, blocksFor, used, recordsIn}
@@ -35,7 +36,7 @@ pub data Walk (l : List ℕ) : List ℕ → Type 0 where
   -- nothing yet
   start : Walk l []
   -- the next records were appended, and the power went after j of the bytes, or not at all
-  more : (f rs c : List ℕ) (a : Appending (length f) (recordsOf l) rs c) (j : ℕ) → Walk l f → NextOf l (length f) rs → a .returned .number ≡ 0 → j ≤ blockBytes * a .returned .count → Walk l (patched f (a .returned .at) (take j (a .lent)))
+  more : (f rs c : List ℕ) (a : Appending (length f) (recordsOf l) rs c) (j : ℕ) → Walk l f → NextOf l (length f) rs → a .returned .number ≡ 0 → j ≤ blockBytes * a .returned .blocks → Walk l (patched f (a .returned .at) (take j (a .lent)))
   -- bytes at the end were lost
   cut : (f : List ℕ) (m : ℕ) → Walk l f → Walk l (take m f)
 
@@ -48,7 +49,21 @@ pub record Finds (l : List ℕ) (long past : ℕ) (answer : List ℕ) : Type 0 w
   -- 'and shows every record outside those blocks as lost'
   pub others : (b : ℕ) → long / blockBytes ≤ b → b < blocksFor (recordsOf l) → recordsIn (recordsOf l) b answer ≡ joined (used (recordsOf l) b) (λ _. lost)
 
+-- a refusal of `append`, 1 to 4: nothing altered
+pub record Unmade (long n : ℕ) (rs c : List ℕ) (a : Appending long n rs c) : Type 0 where
+  pub number : (1 ≤ a .returned .number) × (a .returned .number ≤ 4)
+  pub lent : a .lent ≡ c
+
+-- blocks made, for the torn block's place, and nothing altered past them
+pub record Made (long n : ℕ) (rs c : List ℕ) (a : Appending long n rs c) : Type 0 where
+  pub number : a .returned .number ≡ 0
+  pub at : a .returned .at ≡ blockBytes * (long / blockBytes)
+  pub blocks : a .returned .blocks ≡ blocksFor (recordsOf rs)
+  pub rest : drop (blockBytes * a .returned .blocks) (a .lent) ≡ drop (blockBytes * a .returned .blocks) c
+
 pub record AppendsPromised : Type 0 where
+  -- 'For every cut length n': each beginning of the card, and the whole card, is what some walk leaves
+  pub reaches : (l : List ℕ) (m : ℕ) → writable l ≡ true → Walk l (take m (cardOf l))
   -- whatever the cuts, one after another, the file holds the beginning of the card that a run without them writes
   pub same : (l f : List ℕ) → writable l ≡ true → Walk l f → f ≡ take (length f) (cardOf l)
   -- so it 'ends in the same bytes as a run without the cut'
@@ -56,9 +71,11 @@ pub record AppendsPromised : Type 0 where
   -- 'For every cut length n, the reader finds ..'
   pub finds : (l f a : List ℕ) (r : Reading f (recordsOf l) a) → writable l ≡ true → Fit l → Walk l f → r .returned .number ≡ 0 → Finds l (length f) (r .returned .past) (r .answer)
   -- 'Appending after that starts at the torn block': while a block is missing, its records are accepted, and go there
-  pub goes-on : (l f c : List ℕ) (a : Appending (length f) (recordsOf l) (recordsIn (recordsOf l) (length f / blockBytes) l) c) → writable l ≡ true → Walk l f → length f < length (cardOf l) → blockBytes ≤ length c → (a .returned .number ≡ 0) × (a .returned .at ≡ blockBytes * (length f / blockBytes)) × (a .returned .count ≡ 1)
+  pub goes-on : (l f c : List ℕ) (a : Appending (length f) (recordsOf l) (recordsIn (recordsOf l) (length f / blockBytes) l) c) → writable l ≡ true → Walk l f → length f < length (cardOf l) → blockBytes ≤ length c → (a .returned .number ≡ 0) × (a .returned .at ≡ blockBytes * (length f / blockBytes)) × (a .returned .blocks ≡ 1)
   -- and `next_block` says so
   pub asks : (l f : List ℕ) (q : Asking (length f) (recordsOf l)) → writable l ≡ true → Walk l f → (q .returned .number ≡ 0) × (q .returned .at ≡ blockBytes * (length f / blockBytes)) × (q .returned .records ≡ used (recordsOf l) (length f / blockBytes))
+  -- a refusal alters nothing, and nothing is altered past the blocks
+  pub made : (long n : ℕ) (rs c : List ℕ) (a : Appending long n rs c) → Unmade long n rs c a ⊎ Made long n rs c a
   -- 'Any pair of outcomes satisfying it is shown identical'
   pub one-appending : (long n : ℕ) (rs c : List ℕ) (a b : Appending long n rs c) → (a .returned ≡ b .returned) × (a .lent ≡ b .lent)
   pub one-asking : (long n : ℕ) (a b : Asking long n) → a .returned ≡ b .returned

@@ -3,15 +3,16 @@ use Prim.Native.Nat.{ℕ, _+_, _*_, _/_, _%_, _≤_, _<_}
 use mathlib.Core.Path.{_≡_}
 use mathlib.Core.Bool.{true, false}
 use mathlib.Core.Logic.{_≢_, _⊎_}
-use mathlib.Core.List.{List, _++_}
-use lib.ListN.{length, getD, set, take, drop}
+use mathlib.Core.List.{List, [], _∷_, _++_}
+use lib.ListN.{length, getD, set, take, drop, replicate}
 use Rattle.words.specs.Lists.{joined, part}
 use Rattle.words.specs.Words.{wordAt, wordsAt, Fit}
-use Rattle.blocks.specs.Format.{blockBytes, blockWords, headerWords, recordWords, recordsHeld, blocksFor, used, recordsIn}
+use Rattle.blocks.specs.Format.{blockBytes, blockWords, headerWords, recordWords, recordsHeld, blocksFor, used, recordsIn, blockOf}
 use Rattle.blocks.specs.Judged.{blockAt, good, lost}
 use Rattle.cards.specs.declared.Written.{Written}
 use Rattle.cards.specs.declared.Found.{Found}
-use Rattle.cards.specs.Writer.{recordsOf, cardBytes, cardOf}
+use Rattle.tangent.specs.Slot.{slotWords}
+use Rattle.cards.specs.Writer.{recordsOf, writable, cardBytes, cardOf}
 use Rattle.cards.specs.Reader.{bytesPast}
 use Rattle.cards.specs.Contract.{Writes, Reads}
 
@@ -53,32 +54,46 @@ pub record Lost (bs : List ℕ) (n k : ℕ) (ws : List ℕ) : Type 0 where
   pub words : ws ≡ lost
   pub mark : getD ws 0 0 ≡ 2
 
--- 'Nothing is altered then'
+-- 'refuses with 1 ..', 'with 2, checked second, ..'; 'Nothing is altered then'
 pub record Unwritten (l c : List ℕ) (w : Writing l c) : Type 0 where
-  pub number : (w .returned .number ≡ 1) ⊎ (w .returned .number ≡ 2)
+  pub number : ((writable l ≡ false) × (w .returned .number ≡ 1)) ⊎ ((writable l ≡ true) × (length c < cardBytes (recordsOf l)) × (w .returned .number ≡ 2))
   pub bytes : w .returned .bytes ≡ 0
   pub card : w .card ≡ c
 
 -- the card's bytes, and nothing else altered
 pub record Done (l c : List ℕ) (w : Writing l c) : Type 0 where
+  pub can : writable l ≡ true
+  pub room : cardBytes (recordsOf l) ≤ length c
   pub number : w .returned .number ≡ 0
   pub bytes : w .returned .bytes ≡ cardBytes (recordsOf l)
   pub card : w .card ≡ cardOf l ++ drop (cardBytes (recordsOf l)) c
 
+-- refused with 2, and nothing altered
 pub record Unread (bs : List ℕ) (n : ℕ) (a : List ℕ) (r : Reading bs n a) : Type 0 where
+  pub short : length a < recordWords * n
   pub number : r .returned .number ≡ 2
   pub past : r .returned .past ≡ 0
   pub answer : r .answer ≡ a
 
+-- n records read, the bytes past the last whole block reported, and nothing else altered
 pub record Got (bs : List ℕ) (n : ℕ) (a : List ℕ) (r : Reading bs n a) : Type 0 where
+  pub room : recordWords * n ≤ length a
   pub number : r .returned .number ≡ 0
   pub past : r .returned .past ≡ bytesPast n bs
   pub rest : drop (recordWords * n) (r .answer) ≡ drop (recordWords * n) a
 
+-- the bytes of a block, written out
+abbrev pub sampleBytes : List ℕ
+sampleBytes = 1 ∷ 0 ∷ 0 ∷ 0 ∷ 2 ∷ 0 ∷ 0 ∷ 0 ∷ 14 ∷ 0 ∷ 0 ∷ 0 ∷ (replicate 16 0 ++ 1 ∷ replicate 479 0 ++ 237 ∷ 255 ∷ 255 ∷ 255 ∷ [])
+
 -- (That each call ends, whatever it is handed, is part of what its contract says.)
 pub record CardsPromised : Type 0 where
-  -- 'What was written reads back the same'
-  pub back : (l c a : List ℕ) (w : Writing l c) (r : Reading (take (w .returned .bytes) (w .card)) (recordsOf l) a) → Fit l → w .returned .number ≡ 0 → r .returned .number ≡ 0 → (r .answer ≡ l ++ drop (length l) a) × (r .returned .past ≡ 0)
+  -- a record is a slot of the answer
+  pub width : recordWords ≡ slotWords
+  -- block 1 of 14 records, the first of its two present: words 1, 2, 14, four zeros, 1, 119 zeros, FFFFFFED
+  pub sample : blockOf 14 1 (1 ∷ replicate 19 0) ≡ sampleBytes
+  -- 'What was written reads back the same', whatever bytes t stand past it
+  pub back : (l c t a : List ℕ) (w : Writing l c) (r : Reading (take (w .returned .bytes) (w .card) ++ t) (recordsOf l) a) → Fit l → w .returned .number ≡ 0 → r .returned .number ≡ 0 → (r .answer ≡ l ++ drop (length l) a) × (r .returned .past ≡ length t)
   -- 'a block in which exactly one word was changed is always noticed': its records read as lost
   pub noticed : (n b i : ℕ) (bs cs a : List ℕ) (r : Reading cs n a) → b < blocksFor n → Bytes bs → Bytes cs → good n b bs ≡ true → OneWord b i bs cs → r .returned .number ≡ 0 → recordsIn n b (r .answer) ≡ joined (used n b) (λ _. lost)
   -- 'The other blocks read as if nothing had happened': a block whose bytes are the same reads the same

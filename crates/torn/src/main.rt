@@ -9,7 +9,7 @@ fn word(i: usize) -> u32 {
     if i % 10 == 0 {
         return (i / 10 % 2) as u32;
     }
-    (i % 1000) as u32 * 4000003 % 4000000007
+    (i % 1000) as u32 * 4000003
 }
 
 fn fill(list: &mut [u32]) {
@@ -40,6 +40,7 @@ fn put(fd: i32, bytes: &[u8], at: usize) {
 fn append_one(fd: i32, list: &[u32], bytes: &mut [u8]) {
     let long = read_file(fd, bytes);
     let next = appends::next_block(long, RECORDS);
+    // the remainders change nothing on a card of three blocks; they bound what is cut out of the list
     let from = next.at % 1537 / 512 * 120;
     let to = from + 10 * (next.records % 13) as usize;
     if list.len() < to {
@@ -68,7 +69,7 @@ fn letter(mark: u32) -> u8 {
 }
 
 fn print_letters(answer: &[u32]) {
-    for r in 0..29 {
+    for r in 0..RECORDS as usize {
         if 10 * r < answer.len() {
             io::write_all(STDOUT_FILENO, &[letter(answer[10 * r])]);
         }
@@ -89,15 +90,19 @@ fn find(bytes: &[u8], n: usize, answer: &mut [u32]) {
     io::write_all(STDOUT_FILENO, b"\n");
 }
 
-// What is in the file.
-fn report(fd: i32, bytes: &mut [u8], answer: &mut [u32]) {
+// What is in the file, and how many bytes.
+fn report(fd: i32, bytes: &mut [u8], answer: &mut [u32]) -> usize {
     let n = read_file(fd, bytes);
     find(bytes, n, answer);
+    n
 }
 
-// Whether the bytes are those of a run without a cut.
-fn same(whole: &[u8], bytes: &[u8]) -> bool {
-    if bytes.len() < whole.len() {
+// Whether the first n bytes are those of a run without a cut.
+fn same(whole: &[u8], bytes: &[u8], n: usize) -> bool {
+    if n != whole.len() {
+        return false;
+    }
+    if bytes.len() < n {
         return false;
     }
     for i in 0..whole.len() {
@@ -113,8 +118,8 @@ fn turn(fd: i32, cut: i64, list: &[u32], whole: &[u8], bytes: &mut [u8], answer:
     libc::ftruncate(fd, cut);
     report(fd, bytes, answer);
     append_all(fd, list, bytes);
-    report(fd, bytes, answer);
-    if same(whole, bytes) {
+    let n = report(fd, bytes, answer);
+    if same(whole, bytes, n) {
         io::write_all(STDOUT_FILENO, b"the bytes of a run without the cut\n");
     } else {
         io::write_all(STDOUT_FILENO, b"OTHER BYTES\n");
@@ -159,7 +164,7 @@ fn all_cuts(fd: i32, list: &[u32], whole: &[u8], bytes: &mut [u8], answer: &mut 
     many_cuts(fd, list, whole, bytes, answer);
 }
 
-// A run without a cut, and then every cut.
+// A run without a cut, and then the cuts.
 fn walk(fd: i32) {
     let mut list = [0u32; 290];
     let mut answer = [0u32; 290];
@@ -167,7 +172,7 @@ fn walk(fd: i32) {
     let mut whole = [0u8; 1536];
     fill(&mut list);
     append_all(fd, &list, &mut bytes);
-    read_file(fd, &mut whole);
+    cards::write(&list, &mut whole);
     report(fd, &mut bytes, &mut answer);
     all_cuts(fd, &list, &whole, &mut bytes, &mut answer);
 }

@@ -26,10 +26,6 @@ pub bytes-one : (w : ℕ) → bytesOf (w ∷ []) ≡ wordBytes w
 unfolding bytesOf flatMap wordBytes
 bytes-one w = refl
 
-pub bytes-none : bytesOf [] ≡ []
-unfolding bytesOf flatMap
-bytes-none = refl
-
 -- four bytes a word
 pub length-bytes : (ws : List ℕ) → length (bytesOf ws) ≡ 4 * length ws
 unfolding bytesOf flatMap wordBytes

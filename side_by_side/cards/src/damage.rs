@@ -32,7 +32,7 @@ fn flip_bit(random: &mut Random, card: &mut [u8]) {
     card[at] ^= 1 << random.below(8);
 }
 
-/// One word changed, the early ones more often; with the sum set right again, so that the other rules are put to the test.
+/// One word changed, the early ones more often; where `mend`, with the sum set right again, so that the other rules are put to the test.
 fn one_word(random: &mut Random, block: &mut [u8], mend: bool) {
     let mut words = words_of(block);
     let (any, record) = (random.below(128), 7 + 10 * random.below(12));

@@ -1,4 +1,4 @@
-//! The proved writer and reader of cards beside plain ones in Rust: every byte, every word.
+//! The proved writer, reader and appender of cards beside plain ones in Rust: every byte, every word.
 mod bench;
 mod compare;
 mod damage;
@@ -18,6 +18,7 @@ use std::env::{args, temp_dir};
 use std::fs;
 use std::path::{Path, PathBuf};
 use std::process::{ExitCode, id};
+use walks::Tally;
 
 /// What is asked for.
 enum Asked {
@@ -74,14 +75,24 @@ fn cases(
     Ok(())
 }
 
-/// Walks in a folder of their own; how often the writing process was killed.
-fn walks(seed: u64, count: u64, folder: &Path) -> Result<u64, String> {
+/// Walks in a folder of their own; some kill must have left a torn block.
+fn walks(seed: u64, count: u64, folder: &Path) -> Result<Tally, String> {
     fs::create_dir_all(folder).map_err(|e| e.to_string())?;
-    let kills = (0..count)
-        .map(|case| walks::walk(&mut Random::of(seed, "walks", case), folder, seed + case))
-        .sum();
+    let mut tally = Tally::default();
+    let done = (0..count).try_for_each(|case| {
+        let random = &mut Random::of(seed, "walks", case);
+        walks::walk(random, folder, seed.wrapping_add(case), &mut tally)
+            .map_err(|what| format!("walks, seed {seed}, case {case}: {what}"))
+    });
     fs::remove_dir_all(folder).map_err(|e| e.to_string())?;
-    kills
+    done?;
+    if count > 0 && tally.torn == 0 {
+        return Err(format!(
+            "walks: {count}, killed {} times, and no kill left a torn block",
+            tally.kills
+        ));
+    }
+    Ok(tally)
 }
 
 /// All runs; each prints what it compared.
@@ -94,16 +105,21 @@ fn run(seed: u64, cards: u64, count: u64) -> Result<(), String> {
     println!("random cards, written, damaged and read: {cards}");
     cases(seed, "appends", cards, walks::random_append)?;
     println!("random records appended to cards of random lengths: {cards}");
-    let kills = walks(seed, count, &temp_dir().join(format!("cards-{}", id())))?;
+    let calls = walks::limits(&mut Random::of(seed, "limits", 0))?;
+    println!("totals and lengths at their limits: {calls} appends");
+    let Tally { kills, torn } = walks(seed, count, &temp_dir().join(format!("cards-{}", id())))?;
     println!(
-        "walks whose writing process was killed: {count}, killed {kills} times; each card read after each, and whole in the end"
+        "walks: {count}; writing processes killed before their end: {kills}; torn cards that they left: {torn}; each card read after each, and whole in the end"
     );
     Ok(())
 }
 
 fn main() -> ExitCode {
     let done = asked().and_then(|asked| match asked {
-        Asked::Bench => Ok(bench::bench(&mut Random::of(1, "bench", 0))),
+        Asked::Bench => {
+            bench::bench(&mut Random::of(1, "bench", 0));
+            Ok(())
+        }
         Asked::Writer(seed, count, file) => {
             writer::write(&file, seed, count).map_err(|e| e.to_string())
         }

@@ -1,18 +1,26 @@
 //! The calls of the proved archive.
 use crate::plain::Said;
 
-/// What either call returns.
+/// What writing and reading return: a number, and the bytes written or past.
 #[repr(C)]
 struct Returned {
     number: u32,
     bytes: usize,
 }
 
-/// What the two calls of appending return: a number, how many records or blocks, and a place.
+/// What comes next: a number, how many records, and a place.
 #[repr(C)]
-struct Placed {
+struct Next {
     number: u32,
-    count: u32,
+    records: u32,
+    at: usize,
+}
+
+/// What appending returns: a number, how many blocks, and a place.
+#[repr(C)]
+struct Appended {
+    number: u32,
+    blocks: u32,
     at: usize,
 }
 
@@ -31,7 +39,7 @@ unsafe extern "C" {
         answer: *mut u32,
         answer_count: usize,
     ) -> Returned;
-    fn dokphalun_card_next(long: usize, total: u32) -> Placed;
+    fn dokphalun_card_next(long: usize, total: u32) -> Next;
     fn dokphalun_card_append(
         long: usize,
         total: u32,
@@ -39,7 +47,7 @@ unsafe extern "C" {
         record_count: usize,
         lent: *mut u8,
         lent_count: usize,
-    ) -> Placed;
+    ) -> Appended;
 }
 
 /// Answer words to a card.
@@ -70,7 +78,7 @@ pub fn read(card: &[u8], total: u32, answer: &mut [u32]) -> Said {
 pub fn next(long: usize, total: u32) -> (u32, u32, usize) {
     // SAFETY: numbers alone are handed over.
     let said = unsafe { dokphalun_card_next(long, total) };
-    (said.number, said.count, said.at)
+    (said.number, said.records, said.at)
 }
 
 /// The blocks of the next records for a card of so many bytes.
@@ -86,5 +94,5 @@ pub fn append(long: usize, total: u32, records: &[u32], lent: &mut [u8]) -> (u32
             lent.len(),
         )
     };
-    (said.number, said.count, said.at)
+    (said.number, said.blocks, said.at)
 }

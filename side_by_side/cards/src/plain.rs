@@ -1,4 +1,4 @@
-//! The card of request E1, written and read plainly, from the request's text alone.
+//! The cards of requests E1 and E14, plainly; the numbers 3 and 4 and their order are those of docs/DECISIONS.md.
 
 /// The bytes of a block.
 pub const BLOCK: usize = 512;
@@ -37,22 +37,25 @@ pub fn put_words(block: &mut [u8], words: &[u32; WORDS]) {
     }
 }
 
+/// Whether a list can be written: whole records, fewer than 2^32, each with 0 or 1 in its word 0.
+fn writable(answer: &[u32]) -> bool {
+    let records = answer.chunks_exact(WIDTH);
+    records.remainder().is_empty()
+        && records.len() <= u32::MAX as usize
+        && records.into_iter().all(|record| record[0] <= 1)
+}
+
 /// Answer words to a card.
 pub fn write(answer: &[u32], card: &mut [u8]) -> Said {
-    let records = answer.chunks_exact(WIDTH);
-    if !records.remainder().is_empty() || records.len() > u32::MAX as usize {
+    if !writable(answer) {
         return (1, 0);
     }
-    let total = records.len() as u32;
-    if records.into_iter().any(|record| record[0] > 1) {
-        return (1, 0);
-    }
-    let parts = answer.chunks(HELD * WIDTH);
-    let bytes = parts.len() * BLOCK;
+    let total = answer.len() / WIDTH;
+    let bytes = total.div_ceil(HELD) * BLOCK;
     let Some(card) = card.get_mut(..bytes) else {
         return (2, 0);
     };
-    put_blocks(card, 0, total, answer);
+    put_blocks(card, 0, total as u32, answer);
     (0, bytes)
 }
 
@@ -86,8 +89,7 @@ pub fn next(long: usize, total: u32) -> (u32, u32, usize) {
 
 /// The blocks of the next records for a card of so many bytes: a number, how many blocks, and where they go.
 pub fn append(long: usize, total: u32, records: &[u32], lent: &mut [u8]) -> (u32, u32, usize) {
-    let marks_fit = records.iter().step_by(WIDTH).all(|mark| *mark <= 1);
-    if records.len() % WIDTH != 0 || !marks_fit {
+    if !writable(records) {
         return (1, 0, 0);
     }
     let count = records.len() / WIDTH;

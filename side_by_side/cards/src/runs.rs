@@ -96,28 +96,72 @@ impl Three {
     }
 }
 
-/// Every change of one word of a card of three blocks: each bit turned, and some other words.
-pub fn single_words(random: &mut Random) -> Result<u64, String> {
-    let mut count = 0;
-    let three = Three::new(random, 29)?;
-    for at in 0..3 * BLOCK / 4 {
-        let (b, i) = (at * 4 / BLOCK, at % (BLOCK / 4));
-        let words = words_of(&three.card[b * BLOCK..(b + 1) * BLOCK]);
-        let bits = (0..32).map(|bit| words[i] ^ 1 << bit);
-        let more: Vec<u32> = (0..32)
-            .map(|_| random.word())
-            .chain([0, 1, !words[i]])
-            .collect();
-        for word in bits.chain(more).filter(|word| *word != words[i]) {
-            let mut card = three.card.clone();
-            let mut changed = words;
-            changed[i] = word;
-            put_words(&mut card[b * BLOCK..(b + 1) * BLOCK], &changed);
-            three.read(&card, |k| k == b, 0)?;
-            count += 1;
-        }
+/// Other words than this one: each bit turned, 32 random ones, 0, 1 and the complement.
+fn others(random: &mut Random, word: u32) -> Vec<u32> {
+    let bits = (0..32).map(|bit| word ^ 1 << bit);
+    let any = (0..32).map(|_| random.word());
+    bits.chain(any)
+        .chain([0, 1, !word])
+        .filter(|other| *other != word)
+        .collect()
+}
+
+/// Word `at` of the card changed to others, one after the other; how many.
+fn single_word(random: &mut Random, three: &Three, at: usize) -> Result<u64, String> {
+    let (b, i) = (at * 4 / BLOCK, at % (BLOCK / 4));
+    let block = b * BLOCK..(b + 1) * BLOCK;
+    let mut words = words_of(&three.card[block.clone()]);
+    let mut card = three.card.clone();
+    let others = others(random, words[i]);
+    for other in &others {
+        words[i] = *other;
+        put_words(&mut card[block.clone()], &words);
+        three.read(&card, |k| k == b, 0)?;
     }
-    Ok(count)
+    Ok(others.len() as u64)
+}
+
+/// Each word of a card of three blocks changed: each bit turned, and some other words.
+pub fn single_words(random: &mut Random) -> Result<u64, String> {
+    let three = Three::new(random, 29)?;
+    (0..3 * BLOCK / 4)
+        .map(|at| single_word(random, &three, at))
+        .sum()
+}
+
+/// Every two blocks exchanged, also a block with itself; how many cards.
+fn exchanged(three: &Three) -> Result<u64, String> {
+    for (a, b) in (0..9).map(|pair| (pair / 3, pair % 3)) {
+        let mut card = three.card.clone();
+        swap(&mut card, a, b);
+        three.read(&card, |k| a != b && (k == a || k == b), 0)?;
+    }
+    Ok(9)
+}
+
+/// Each block doubled, and each dropped; how many cards.
+fn doubled_and_dropped(three: &Three) -> Result<u64, String> {
+    for b in 0..3 {
+        let mut card = three.card.clone();
+        double(&mut card, b);
+        three.read(&card, |k| b < k, BLOCK)?;
+        let mut card = three.card.clone();
+        card.drain(b * BLOCK..(b + 1) * BLOCK);
+        three.read(&card, |k| b <= k, 0)?;
+    }
+    Ok(6)
+}
+
+/// The card cut at every length, and with every number of zero bytes up to a block past it; how many cards.
+fn cut(three: &Three) -> Result<u64, String> {
+    let lengths = 0..4 * BLOCK + 1;
+    for length in lengths.clone() {
+        let mut card = three.card.clone();
+        card.resize(length, 0);
+        let whole = (length / BLOCK).min(3);
+        three.read(&card, |k| whole <= k, length - whole * BLOCK)?;
+    }
+    Ok(lengths.len() as u64)
 }
 
 /// Blocks exchanged, doubled, dropped; the card cut at every length, and every number of bytes up to a block past it.
@@ -125,27 +169,7 @@ pub fn moved_blocks(random: &mut Random) -> Result<u64, String> {
     let mut count = 0;
     for records in [25, 29, 35, 36] {
         let three = Three::new(random, records)?;
-        for a in 0..3 {
-            for b in 0..3 {
-                let mut card = three.card.clone();
-                swap(&mut card, a, b);
-                three.read(&card, |k| a != b && (k == a || k == b), 0)?;
-            }
-            let mut card = three.card.clone();
-            double(&mut card, a);
-            three.read(&card, |k| a < k, BLOCK)?;
-            let mut card = three.card.clone();
-            card.drain(a * BLOCK..(a + 1) * BLOCK);
-            three.read(&card, |k| a <= k, 0)?;
-            count += 5;
-        }
-        for length in 0..=4 * BLOCK {
-            let mut card = three.card.clone();
-            card.resize(length, 0);
-            let whole = (length / BLOCK).min(3);
-            three.read(&card, |k| whole <= k, length - whole * BLOCK)?;
-            count += 1;
-        }
+        count += exchanged(&three)? + doubled_and_dropped(&three)? + cut(&three)?;
     }
     Ok(count)
 }

@@ -1,14 +1,22 @@
-//! Appending: by both on random cards, and by a process that is killed.
+//! Appending: by both on random cards and at the limits, and by a process that is killed.
 use crate::compare;
 use crate::plain::{self, BLOCK, HELD, WIDTH};
 use crate::random::Random;
 use crate::runs::{answer, records, room};
 use crate::{ours, writer};
 use std::fs;
+use std::os::unix::process::ExitStatusExt;
 use std::path::Path;
 use std::process::{Child, Command, Stdio};
 use std::thread::sleep;
 use std::time::Duration;
+
+/// The signal that kills a process.
+const KILL: i32 = 9;
+/// How often the writing process of one walk is killed at most.
+const TURNS: u64 = 50;
+/// The sleep before a kill is set to fewer than so many microseconds.
+const LATEST: usize = 4000;
 
 /// Random records for a card of a random length, the next ones most of the time.
 pub fn random_append(random: &mut Random) -> Result<(), String> {
@@ -28,6 +36,40 @@ pub fn random_append(random: &mut Random) -> Result<(), String> {
     let need = (list.len() / WIDTH).div_ceil(HELD) * BLOCK;
     let lent = room(random, need);
     compare::append(long, total, &list, lent).map(|_| ())
+}
+
+/// The lengths of a card at its limits: the whole card and near it, nothing, and the greatest.
+fn lengths(total: u32) -> impl Iterator<Item = usize> {
+    let whole = (total as usize).div_ceil(HELD) * BLOCK;
+    [0, -1, 1, -511, 511, -512, 512]
+        .into_iter()
+        .filter_map(move |by| whole.checked_add_signed(by))
+        .chain([0, usize::MAX])
+}
+
+/// The records that come next on a card of so many bytes, one more and one fewer, with room for one block and for two; how many calls.
+fn near_next(random: &mut Random, long: usize, total: u32) -> Result<u64, String> {
+    let next = plain::next(long, total).1 as usize;
+    let list = records(random, next + 1);
+    let counts = next.saturating_sub(1)..=next + 1;
+    for count in counts.clone() {
+        let part = &list[..count * WIDTH];
+        compare::append(long, total, part, BLOCK)?;
+        compare::append(long, total, part, 2 * BLOCK)?;
+    }
+    Ok(2 * counts.count() as u64)
+}
+
+/// Totals and lengths at their limits; how many calls.
+pub fn limits(random: &mut Random) -> Result<u64, String> {
+    [0, 1, 12, 13, u32::MAX - 1, u32::MAX]
+        .into_iter()
+        .flat_map(|total| lengths(total).map(move |long| (long, total)))
+        .map(|(long, total)| {
+            near_next(random, long, total)
+                .map_err(|what| format!("limits, {long} bytes, {total} records: {what}"))
+        })
+        .sum()
 }
 
 /// Whether a file holds the beginning of a card, and both readers find that in it.
@@ -59,33 +101,68 @@ fn start(file: &Path, seed: u64, count: usize) -> Result<Child, String> {
     Command::new(own)
         .args(["--writer", &seed.to_string(), &count.to_string()])
         .arg(file)
-        .stdout(Stdio::null())
+        .stdout(Stdio::piped())
         .spawn()
         .map_err(|e| e.to_string())
 }
 
-/// One walk: a writing process is killed again and again, and the card is read after each; how often it was killed.
-pub fn walk(random: &mut Random, folder: &Path, seed: u64) -> Result<u64, String> {
-    let count = random.from_to(1, 700);
+/// What walks count: processes killed before they ended, and cards that they left with a torn block and another length than before.
+#[derive(Default)]
+pub struct Tally {
+    pub kills: u64,
+    pub torn: u64,
+}
+
+/// Waits for a writing process, killed after a random time or left to its end; whether it was killed, else its end must be a good one.
+fn end(random: &mut Random, mut child: Child, kill: bool) -> Result<bool, String> {
+    if kill {
+        sleep(Duration::from_micros(random.below(LATEST) as u64));
+        child.kill().map_err(|e| e.to_string())?;
+    }
+    let output = child.wait_with_output().map_err(|e| e.to_string())?;
+    match output.status.signal() {
+        Some(KILL) if kill => Ok(true),
+        None if output.status.success() => Ok(false),
+        _ => Err(format!(
+            "the writing process ended with {}: {}",
+            output.status,
+            String::from_utf8_lossy(&output.stdout).trim_end()
+        )),
+    }
+}
+
+/// One walk: a writing process is killed again and again, and the card is read after each.
+pub fn walk(
+    random: &mut Random,
+    folder: &Path,
+    seed: u64,
+    tally: &mut Tally,
+) -> Result<(), String> {
+    let count = random.from_to(1, 4000);
     let list = writer::records(seed, count);
     let mut card = vec![0; count.div_ceil(HELD) * BLOCK];
     plain::write(&list, &mut card);
     let file = folder.join(format!("walk-{seed}"));
     fs::write(&file, []).map_err(|e| e.to_string())?;
-    let mut kills = 0;
-    while look(&file, &card, &list)? < card.len() {
-        let mut child = start(&file, seed, count)?;
-        // the first fifty times it is killed, later it may go on to the end
-        if kills < 50 {
-            sleep(Duration::from_micros(random.below(4000) as u64));
-            child.kill().map_err(|e| e.to_string())?;
-            kills += 1;
+    let mut turns = 0;
+    let mut long = look(&file, &card, &list)?;
+    while long < card.len() {
+        let child = start(&file, seed, count)?;
+        let killed = end(random, child, turns < TURNS)?;
+        let before = long;
+        long = look(&file, &card, &list)?;
+        if !killed && long < card.len() {
+            return Err(format!(
+                "the writing process ended with a card of {long} bytes"
+            ));
         }
-        child.wait().map_err(|e| e.to_string())?;
+        turns += 1;
+        tally.kills += u64::from(killed);
+        tally.torn += u64::from(long != before && long % BLOCK != 0);
     }
     fs::remove_file(&file).map_err(|e| e.to_string())?;
     match ours::next(card.len(), count as u32) {
-        (0, 0, at) if at == card.len() => Ok(kills),
+        (0, 0, at) if at == card.len() => Ok(()),
         other => Err(format!("a whole card wants {other:?}")),
     }
 }

@@ -1,28 +1,37 @@
-//! The process that writes a card, and is killed: it appends block by block, a few bytes at a time.
+//! The process that writes a card, and is killed: it appends block by block, byte by byte.
 use crate::plain::{BLOCK, HELD, WIDTH};
 use crate::random::Random;
 use crate::{ours, runs};
-use std::fs::OpenOptions;
+use std::fs::{File, OpenOptions};
 use std::io;
 use std::os::unix::fs::FileExt;
 use std::path::Path;
-
-/// How many bytes go to the file at a time.
-const PIECE: usize = 1;
 
 /// The records of a walk.
 pub fn records(seed: u64, count: usize) -> Vec<u32> {
     runs::records(&mut Random::of(seed, "walk", count as u64), count)
 }
 
+/// Puts a block in its place, byte by byte.
+fn put(card: &File, at: usize, block: &[u8; BLOCK]) -> io::Result<()> {
+    for (i, byte) in block.iter().enumerate() {
+        card.write_all_at(&[*byte], (at + i) as u64)?;
+    }
+    Ok(())
+}
+
 /// Appends to the file until the card is whole.
 pub fn write(file: &Path, seed: u64, count: usize) -> io::Result<()> {
     let list = records(seed, count);
     let card = OpenOptions::new().write(true).open(file)?;
-    loop {
+    // one time more than there are blocks
+    for _ in 0..=count.div_ceil(HELD) {
         let long = card.metadata()?.len() as usize;
         let (number, wanted, at) = ours::next(long, count as u32);
-        if number != 0 || wanted == 0 {
+        if number != 0 {
+            return Err(io::Error::other(format!("next says {number}")));
+        }
+        if wanted == 0 {
             return Ok(());
         }
         let from = at / BLOCK * HELD * WIDTH;
@@ -32,8 +41,7 @@ pub fn write(file: &Path, seed: u64, count: usize) -> io::Result<()> {
         if added != (0, 1, at) {
             return Err(io::Error::other(format!("append says {added:?}")));
         }
-        for (i, piece) in block.chunks(PIECE).enumerate() {
-            card.write_all_at(piece, (at + i * PIECE) as u64)?;
-        }
+        put(&card, at, &block)?;
     }
+    Err(io::Error::other("next always wants more"))
 }

@@ -129,7 +129,7 @@ returns-5 c =
     let e = t .before .before in
     let f = e .before .before .before in
     let a = f .before .before .before .before .before .args in
-    (λ z. record { number = 0; count = f .blocks-for .ensures .0 z; at = 512 * (a .long / 512); lent = p .put-blocks .ensures z })
+    (λ z. record { number = 0; blocks = f .blocks-for .ensures .0 z; at = 512 * (a .long / 512); lent = p .put-blocks .ensures z })
     ∙ sym (added-by (a .total) (a .long) (a .records .now) (a .lent .now) (can (f .before)) (room (e .before .before)) (within e) true (sym (told (t .before)) ∙ not-false _ (t .if4 .left)))
 
 pub append-spec : {M : Type 1} → statement M

@@ -5,7 +5,6 @@ use lib.Dec.{eqb}
 use Rattle.words.specs.Lists.{sumOf}
 use Rattle.blocks.specs.Format.{complement, checkWord}
 use Rattle.blocks.specs.Judged.{checked}
-use mathlib.Core.Path.{sym, _∙_, ap}
 use Rattle.words.proofs.Words.{word-of, words-take}
 use borrow.Author.Needs.{needs}
 use Rattle.blocks.proofs.checked.Statement.{statement}

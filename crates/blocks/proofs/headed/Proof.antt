@@ -8,12 +8,8 @@ use lib.Dec.{eqb}
 use lib.ListN.{getD}
 use Rattle.words.specs.Lists.{everyBelow}
 use Rattle.words.specs.Words.{wordAt}
-use Rattle.words.proofs.Lists.{every-more, every-fails}
-use Prim.Native.Nat.{_+_, _-_, _≤_}
-use mathlib.Core.Path.{_≡_, sym, _∙_, ap}
-use lib.Dec.{eqb}
+use Rattle.words.proofs.Lists.{every-more, every-fails, every-none}
 use borrow.Author.Tests.{eq-eqb, ne-eqb}
-use Rattle.words.proofs.Lists.{every-none, every-more, every-fails}
 use Rattle.blocks.proofs.headed.Statement.{statement}
 use Rattle.blocks.proofs.headed.Tie as tie
 use borrow.Author.Needs.{needs}

@@ -2,7 +2,6 @@
 use borrow.Author.Needs.{needs}
 use Rattle.definition.specs.Step7Sums.{finish}
 use Rattle.sums.specs.Sums.{perAngle}
-use borrow.Author.Needs.{needs}
 use Rattle.sums.proofs.finish.Statement.{statement}
 use Rattle.sums.proofs.finish.Tie as tie
 

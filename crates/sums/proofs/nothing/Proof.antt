@@ -1,6 +1,5 @@
 -- `sums::nothing` meets its contract. Assumes nothing.
 use borrow.Author.Needs.{needs}
-use borrow.Author.Needs.{needs}
 use Rattle.sums.proofs.nothing.Statement.{statement}
 use Rattle.sums.proofs.nothing.Tie as tie
 

@@ -1,7 +1,6 @@
 -- `sums::opening` meets its contract. Assumes nothing.
 use borrow.Author.Needs.{needs}
 use Rattle.sums.specs.Sums.{openingAt}
-use borrow.Author.Needs.{needs}
 use Rattle.sums.proofs.opening.Statement.{statement}
 use Rattle.sums.proofs.opening.Tie as tie
 

@@ -1,7 +1,6 @@
 -- `sums::project` meets its contract. Assumes nothing.
 use borrow.Author.Needs.{needs}
 use Rattle.definition.specs.Step7Sums.{projected}
-use borrow.Author.Needs.{needs}
 use Rattle.sums.proofs.project.Statement.{statement}
 use Rattle.sums.proofs.project.Tie as tie
 

@@ -1,7 +1,6 @@
 -- `sums::weigh` meets its contract. Assumes nothing.
 use borrow.Author.Needs.{needs}
 use Rattle.sums.specs.Sums.{weighedBy}
-use borrow.Author.Needs.{needs}
 use Rattle.sums.proofs.weigh.Statement.{statement}
 use Rattle.sums.proofs.weigh.Tie as tie
 

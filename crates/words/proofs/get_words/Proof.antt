@@ -1,13 +1,12 @@
 -- `words::get_words` meets its contract. Assumes nothing.
 use native.Mathlib.Omega.{arith}
-use Prim.Native.Nat.{_-_, _≤_}
+use Prim.Native.Nat.{_-_, _≤_, _+_}
 use native.Mathlib.Nat.{le-antisymm}
 use mathlib.Core.Path.{_≡_, refl, _∙_, ap}
 use lib.ListN.{length, set, length-set}
 use lib.Seq.{sets}
 use Rattle.words.specs.Words.{wordsAt}
 use Rattle.words.proofs.Words.{get-none, get-more}
-use Prim.Native.Nat.{_+_, _-_, _≤_}
 use Rattle.words.proofs.get_words.Statement.{statement}
 use Rattle.words.proofs.get_words.Tie as tie
 use borrow.Author.Needs.{needs}

@@ -7,7 +7,6 @@ use lib.ListN.{length, replicate}
 use lib.Seq.{sets}
 use Rattle.words.specs.Words.{bytesOf}
 use Rattle.words.proofs.Words.{zeros-none, zeros-more}
-use Prim.Native.Nat.{_*_, _-_, _≤_}
 use Rattle.words.proofs.put_zeros.Statement.{statement}
 use Rattle.words.proofs.put_zeros.Tie as tie
 use borrow.Author.Needs.{needs}

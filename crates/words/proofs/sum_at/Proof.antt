@@ -1,12 +1,11 @@
 -- `words::sum_at` meets its contract. Assumes nothing.
 use native.Mathlib.Omega.{arith}
-use Prim.Native.Nat.{_*_, _-_, _≤_}
+use Prim.Native.Nat.{_*_, _-_, _≤_, _+_}
 use native.Mathlib.Nat.{le-antisymm}
 use mathlib.Core.Path.{_≡_, _∙_, ap}
 use Rattle.words.specs.Lists.{sumOf}
 use Rattle.words.specs.Words.{wordsAt}
 use Rattle.words.proofs.Words.{sums-none, sums-more}
-use Prim.Native.Nat.{_+_, _*_, _-_, _≤_}
 use Rattle.words.proofs.sum_at.Statement.{statement}
 use Rattle.words.proofs.sum_at.Tie as tie
 use borrow.Author.Needs.{needs}

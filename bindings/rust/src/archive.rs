@@ -1,0 +1,69 @@
+//! The calls of the archive: the only place that is not checked by Rust. Each list passes as a pointer and a number of elements.
+use crate::Mesh;
+
+/// What `dokphalun_frames` says: the number of a refusal and its place, or 0 and 0; and how many slots were written.
+#[repr(C)]
+pub struct Outcome {
+    pub number: u32,
+    pub place: u32,
+    pub slots: u32,
+}
+
+/// What the calls of cards say: the number of a refusal and 0, or 0 and a number of bytes.
+#[repr(C)]
+pub struct Said {
+    pub number: u32,
+    pub bytes: usize,
+}
+
+#[rustfmt::skip]
+unsafe extern "C" {
+    fn dokphalun_frames(
+        sizes: *const u8, faces: usize,
+        positions: *const f32, position_numbers: usize,
+        normals: *const f32, normal_numbers: usize,
+        texture: *const f32, texture_numbers: usize,
+        threshold: f32,
+        answer: *mut u32, answer_words: usize,
+        work: *mut u32, work_words: usize,
+    ) -> Outcome;
+    fn dokphalun_card_write(answer: *const u32, answer_words: usize, card: *mut u8, card_bytes: usize) -> Said;
+    fn dokphalun_card_read(card: *const u8, card_bytes: usize, total: u32, answer: *mut u32, answer_words: usize) -> Said;
+}
+
+/// The frames of a mesh into lent lists.
+pub fn frames(mesh: Mesh, threshold: f32, answer: &mut [u32], work: &mut [u32]) -> Outcome {
+    let (positions, normals) = (mesh.positions.as_flattened(), mesh.normals.as_flattened());
+    let texture = mesh.texture.as_flattened();
+    // SAFETY: each list is handed over with its own length; the two that are altered are borrowed for that alone.
+    unsafe {
+        dokphalun_frames(
+            mesh.sizes.as_ptr(),
+            mesh.sizes.len(),
+            positions.as_ptr(),
+            positions.len(),
+            normals.as_ptr(),
+            normals.len(),
+            texture.as_ptr(),
+            texture.len(),
+            threshold,
+            answer.as_mut_ptr(),
+            answer.len(),
+            work.as_mut_ptr(),
+            work.len(),
+        )
+    }
+}
+
+/// Answer words to the bytes of a card.
+pub fn card_write(answer: &[u32], card: &mut [u8]) -> Said {
+    // SAFETY: as above.
+    unsafe { dokphalun_card_write(answer.as_ptr(), answer.len(), card.as_mut_ptr(), card.len()) }
+}
+
+/// The records of a card to answer words.
+pub fn card_read(card: &[u8], total: u32, answer: &mut [u32]) -> Said {
+    let (words, count) = (answer.as_mut_ptr(), answer.len());
+    // SAFETY: as above.
+    unsafe { dokphalun_card_read(card.as_ptr(), card.len(), total, words, count) }
+}

@@ -1,0 +1,99 @@
+//! The lists that are lent to the archive, kept from call to call.
+use crate::archive;
+use crate::card::{Card, write_card};
+use crate::mesh::{MOST_FACES, Mesh, Place, slots, takes_slots};
+use crate::reading::{Reading, SLOT_WORDS};
+use crate::refusal::{CardRefusal, Refusal};
+
+/// The words of work that a face needs.
+const WORK_WORDS: usize = 128;
+
+/// The lists that are lent to the archive. They grow to what the largest call needed, and are used again.
+#[derive(Debug, Default)]
+pub struct Buffers {
+    answer: Vec<u32>,
+    work: Vec<u32>,
+}
+
+impl Buffers {
+    /// No lists yet.
+    pub fn new() -> Buffers {
+        Buffers::default()
+    }
+
+    /// The frames of a mesh. The threshold is the cosine of the angle up to which tangents are joined; -1 sets no limit.
+    pub fn frames<'a>(&'a mut self, mesh: Mesh<'a>, threshold: f32) -> Result<Answer<'a>, Refusal> {
+        self.lend(mesh.sizes);
+        let outcome = archive::frames(mesh, threshold, &mut self.answer, &mut self.work);
+        match Refusal::of(&outcome, mesh.sizes) {
+            Some(refusal) => Err(refusal),
+            None => Ok(Answer {
+                sizes: mesh.sizes,
+                words: &self.answer,
+            }),
+        }
+    }
+
+    /// The records of a card that was written with so many.
+    pub fn read_card(&mut self, card: &[u8], total: u32) -> Result<Card<'_>, CardRefusal> {
+        let records = total as usize;
+        let no_memory = CardRefusal::NoMemory { records };
+        let words = records.checked_mul(SLOT_WORDS).ok_or(no_memory)?;
+        self.answer.clear();
+        self.answer
+            .try_reserve_exact(words)
+            .map_err(|_| no_memory)?;
+        self.answer.resize(words, 0);
+        let said = archive::card_read(card, total, &mut self.answer);
+        CardRefusal::of(said.number)?;
+        Ok(Card::of(&self.answer, said.bytes))
+    }
+
+    /// Makes both lists as long as faces of these sizes need; past the limit, where all is refused, no longer than at it.
+    fn lend(&mut self, sizes: &[u8]) {
+        let sizes = &sizes[..sizes.len().min(MOST_FACES)];
+        let with_slots = sizes.iter().filter(|&&size| takes_slots(size));
+        let slots: usize = with_slots.map(|&size| usize::from(size)).sum();
+        self.answer.resize(slots * SLOT_WORDS, 0);
+        if self.work.len() < sizes.len() * WORK_WORDS {
+            self.work.resize(sizes.len() * WORK_WORDS, 0);
+        }
+    }
+}
+
+/// The readings of a mesh.
+#[derive(Clone, Copy, Debug)]
+pub struct Answer<'a> {
+    sizes: &'a [u8],
+    words: &'a [u32],
+}
+
+impl<'a> Answer<'a> {
+    /// Each slot: its face and corner, and what is known of it.
+    pub fn readings(&self) -> impl Iterator<Item = (Place, Reading)> + Clone + use<'a> {
+        let slots_words = self.words.as_chunks().0.iter();
+        slots(self.sizes).zip(slots_words.map(Reading::of))
+    }
+
+    /// The corners that have no frame.
+    pub fn absent(&self) -> impl Iterator<Item = Place> + Clone + use<'a> {
+        self.readings()
+            .filter(|(_, reading)| *reading == Reading::Absent)
+            .map(|(place, _)| place)
+    }
+
+    /// How many slots there are. A reader of the card has to be told this number.
+    pub fn total(&self) -> u32 {
+        (self.words.len() / SLOT_WORDS) as u32
+    }
+
+    /// The ten words of each slot, as the archive wrote them. An absent slot is ten zeros: ask word 0 first.
+    pub fn words(&self) -> &'a [u32] {
+        self.words
+    }
+
+    /// The bytes of a card with these readings.
+    pub fn write_card(&self, card: &mut Vec<u8>) -> Result<(), CardRefusal> {
+        write_card(self.words, card)
+    }
+}

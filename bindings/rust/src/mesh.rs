@@ -1,0 +1,49 @@
+//! What is handed in, and where its corners are.
+use std::fmt;
+
+/// The greatest number of faces that is accepted.
+pub const MOST_FACES: usize = 4096;
+
+/// A mesh: lists that stand corner by corner in face order. Nothing is checked here; the archive checks all of it, once.
+#[derive(Clone, Copy, Debug)]
+pub struct Mesh<'a> {
+    /// How many corners each face has. Faces of 3 or 4 get frames; others take no slot.
+    pub sizes: &'a [u8],
+    /// A position for each corner.
+    pub positions: &'a [[f32; 3]],
+    /// A normal for each corner.
+    pub normals: &'a [[f32; 3]],
+    /// Texture coordinates for each corner.
+    pub texture: &'a [[f32; 2]],
+}
+
+/// A corner of a mesh; both are counted from 0.
+#[derive(Clone, Copy, Debug, PartialEq, Eq)]
+pub struct Place {
+    pub face: usize,
+    pub corner: usize,
+}
+
+impl fmt::Display for Place {
+    fn fmt(&self, f: &mut fmt::Formatter) -> fmt::Result {
+        write!(f, "face {}, corner {}", self.face, self.corner)
+    }
+}
+
+/// Whether a face of this size gets frames.
+pub fn takes_slots(size: u8) -> bool {
+    size == 3 || size == 4
+}
+
+/// The corners of all faces of these sizes, in order.
+pub fn corners(sizes: &[u8]) -> impl Iterator<Item = Place> + Clone {
+    sizes.iter().enumerate().flat_map(|(face, &size)| {
+        let size = usize::from(size);
+        (0..size).map(move |corner| Place { face, corner })
+    })
+}
+
+/// The corners that take a slot, in the order of the slots.
+pub fn slots(sizes: &[u8]) -> impl Iterator<Item = Place> + Clone {
+    corners(sizes).filter(|place| takes_slots(sizes[place.face]))
+}

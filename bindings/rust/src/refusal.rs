@@ -1,0 +1,147 @@
+//! Why a call was not done.
+use crate::archive::Outcome;
+use crate::mesh::{MOST_FACES, Place, corners};
+use std::error::Error;
+use std::fmt;
+
+/// Why a mesh was refused. Nothing was altered, and no corner of it has a reading.
+#[derive(Clone, Copy, Debug, PartialEq, Eq)]
+#[non_exhaustive]
+pub enum Refusal {
+    /// 1: more faces than are accepted.
+    TooManyFaces { faces: usize },
+    /// 2: positions, normals and texture coordinates are not one for each corner.
+    UnequalLists,
+    /// 3: the threshold is NaN or infinite.
+    Threshold,
+    /// 4: a corner of a face of 3 or 4 holds a NaN or infinity.
+    NotFinite(Place),
+    /// 5: the answer list is too short.
+    AnswerTooShort,
+    /// 6: the work list is too short.
+    WorkTooShort,
+    /// A number that this crate does not know: the archive is newer.
+    Unknown { number: u32, place: u32 },
+}
+
+impl Refusal {
+    /// The refusal of a mesh with faces of these sizes, if it was one.
+    pub(crate) fn of(outcome: &Outcome, sizes: &[u8]) -> Option<Refusal> {
+        let (number, place) = (outcome.number, outcome.place);
+        let unknown = Refusal::Unknown { number, place };
+        Some(match number {
+            0 => return None,
+            1 => Refusal::TooManyFaces { faces: sizes.len() },
+            2 => Refusal::UnequalLists,
+            3 => Refusal::Threshold,
+            4 => corners(sizes)
+                .nth(place as usize)
+                .map_or(unknown, Refusal::NotFinite),
+            5 => Refusal::AnswerTooShort,
+            6 => Refusal::WorkTooShort,
+            _ => unknown,
+        })
+    }
+
+    /// The number that document 01 gives it.
+    pub fn number(&self) -> u32 {
+        match self {
+            Refusal::TooManyFaces { .. } => 1,
+            Refusal::UnequalLists => 2,
+            Refusal::Threshold => 3,
+            Refusal::NotFinite(_) => 4,
+            Refusal::AnswerTooShort => 5,
+            Refusal::WorkTooShort => 6,
+            Refusal::Unknown { number, .. } => *number,
+        }
+    }
+
+    /// The corner that it is about, if it is about one.
+    pub fn place(&self) -> Option<Place> {
+        match self {
+            Refusal::NotFinite(place) => Some(*place),
+            _ => None,
+        }
+    }
+
+    /// What to do about it.
+    pub fn remedy(&self) -> &'static str {
+        match self {
+            Refusal::TooManyFaces { .. } => {
+                "cut the mesh along the seams of its texture into parts that share no corner, and hand them in one by one"
+            }
+            Refusal::UnequalLists => {
+                "hand in one position, one normal and one pair of texture coordinates for each corner of each face"
+            }
+            Refusal::Threshold => "take a cosine from -1 (180 degrees: no limit) to 1",
+            Refusal::NotFinite(_) => {
+                "scan that place again, or leave the face out and treat it as absent; never put a zero there"
+            }
+            Refusal::AnswerTooShort => "lend ten words for each corner of a face of 3 or 4",
+            Refusal::WorkTooShort => "lend 128 words for each face",
+            Refusal::Unknown { .. } => "use the bindings that came with this archive",
+        }
+    }
+}
+
+impl fmt::Display for Refusal {
+    fn fmt(&self, f: &mut fmt::Formatter) -> fmt::Result {
+        write!(f, "refusal {}: ", self.number())?;
+        match self {
+            Refusal::TooManyFaces { faces } => {
+                write!(f, "{faces} faces; at most {MOST_FACES} are accepted")
+            }
+            Refusal::UnequalLists => f.write_str(
+                "positions, normals and texture coordinates are not one for each corner",
+            ),
+            Refusal::Threshold => f.write_str("the threshold is not a finite number"),
+            Refusal::NotFinite(place) => write!(f, "{place} holds a NaN or an infinity"),
+            Refusal::AnswerTooShort => f.write_str("the answer list is too short"),
+            Refusal::WorkTooShort => f.write_str("the work list is too short"),
+            Refusal::Unknown { place, .. } => write!(f, "not known here (place {place})"),
+        }
+    }
+}
+
+impl Error for Refusal {}
+
+/// Why a card was not written or read.
+#[derive(Clone, Copy, Debug, PartialEq, Eq)]
+#[non_exhaustive]
+pub enum CardRefusal {
+    /// 1: the words are not whole records of ten, each with 0 or 1 in word 0.
+    NotRecords,
+    /// 2: the lent list is too short.
+    TooShort,
+    /// There is no memory for so many records.
+    NoMemory { records: usize },
+    /// A number that this crate does not know: the archive is newer.
+    Unknown { number: u32 },
+}
+
+impl CardRefusal {
+    /// What a number of the archive says.
+    pub(crate) fn of(number: u32) -> Result<(), CardRefusal> {
+        match number {
+            0 => Ok(()),
+            1 => Err(CardRefusal::NotRecords),
+            2 => Err(CardRefusal::TooShort),
+            _ => Err(CardRefusal::Unknown { number }),
+        }
+    }
+}
+
+impl fmt::Display for CardRefusal {
+    fn fmt(&self, f: &mut fmt::Formatter) -> fmt::Result {
+        match self {
+            CardRefusal::NotRecords => f.write_str(
+                "card refusal 1: the words are not whole records of ten, each with 0 or 1 in word 0",
+            ),
+            CardRefusal::TooShort => f.write_str("card refusal 2: the lent list is too short"),
+            CardRefusal::NoMemory { records } => write!(f, "no memory for {records} records"),
+            CardRefusal::Unknown { number } => write!(f, "card refusal {number}: not known here"),
+        }
+    }
+}
+
+impl Error for CardRefusal {}

@@ -1,0 +1,105 @@
+//! Frames, refusals and buffers through the archive.
+use dokphalun::{Buffers, Frame, MOST_FACES, Mesh, Place, Reading, Refusal};
+
+/// Document 01's sample 1, in numbers: one triangle.
+const POSITIONS: [[f32; 3]; 3] = [[0.0, 0.0, 0.0], [1.0, 0.0, 0.0], [0.0, 1.0, 0.0]];
+const NORMALS: [[f32; 3]; 3] = [[0.0, 0.0, 1.0]; 3];
+const TEXTURE: [[f32; 2]; 3] = [[0.0, 0.0], [1.0, 0.0], [0.0, 1.0]];
+const SAMPLE: Mesh = Mesh {
+    sizes: &[3],
+    positions: &POSITIONS,
+    normals: &NORMALS,
+    texture: &TEXTURE,
+};
+
+/// What sample 1 says of each corner.
+const FRAME: Frame = Frame {
+    tangent: [1.0, 0.0, 0.0],
+    bitangent: [0.0, 1.0, 0.0],
+    mag_s: 1.0,
+    mag_t: 1.0,
+    preserving: true,
+};
+
+/// The readings of a mesh, without their places.
+fn readings(buffers: &mut Buffers, mesh: Mesh) -> Vec<Reading> {
+    let answer = buffers.frames(mesh, -1.0).expect("it is refused");
+    answer.readings().map(|(_, reading)| reading).collect()
+}
+
+#[test]
+fn samples_1_to_3() {
+    let mut buffers = Buffers::new();
+    assert_eq!(readings(&mut buffers, SAMPLE), [Reading::Present(FRAME); 3]);
+    let texture = &[[0.0, 0.0], [-1.0, 0.0], [0.0, 1.0]];
+    let mirrored = Frame {
+        tangent: [-1.0, 0.0, 0.0],
+        preserving: false,
+        ..FRAME
+    };
+    let second = Mesh { texture, ..SAMPLE };
+    assert_eq!(
+        readings(&mut buffers, second),
+        [Reading::Present(mirrored); 3]
+    );
+    let texture = &[[0.0, 0.0]; 3];
+    let third = Mesh { texture, ..SAMPLE };
+    assert_eq!(readings(&mut buffers, third), [Reading::Absent; 3]);
+    assert_eq!(readings(&mut buffers, SAMPLE), [Reading::Present(FRAME); 3]);
+}
+
+#[test]
+fn faces_without_a_slot_are_passed_over() {
+    let sizes = [2, 3, 0];
+    let (mut positions, mut normals, mut texture) = (vec![[9.0; 3]; 2], vec![], vec![]);
+    positions.extend(POSITIONS);
+    normals.extend([[9.0; 3]; 2].into_iter().chain(NORMALS));
+    texture.extend([[9.0; 2]; 2].into_iter().chain(TEXTURE));
+    let mesh = Mesh {
+        sizes: &sizes,
+        positions: &positions,
+        normals: &normals,
+        texture: &texture,
+    };
+    let mut buffers = Buffers::new();
+    let answer = buffers.frames(mesh, -1.0).unwrap();
+    let places: Vec<Place> = answer.readings().map(|(place, _)| place).collect();
+    assert_eq!(places, [0, 1, 2].map(|corner| Place { face: 1, corner }));
+    assert_eq!((answer.total(), answer.absent().count()), (3, 0));
+}
+
+#[test]
+fn refusals_say_number_place_and_why() {
+    let refused = |mesh, threshold| Buffers::new().frames(mesh, threshold).unwrap_err();
+    let sizes = vec![0; MOST_FACES + 1];
+    let many = Mesh {
+        sizes: &sizes,
+        positions: &[],
+        normals: &[],
+        texture: &[],
+    };
+    assert_eq!(refused(many, -1.0), Refusal::TooManyFaces { faces: 4097 });
+    let normals = &NORMALS[1..];
+    assert_eq!(
+        refused(Mesh { normals, ..SAMPLE }, -1.0),
+        Refusal::UnequalLists
+    );
+    assert_eq!(refused(SAMPLE, f32::NAN), Refusal::Threshold);
+    let texture = &[[0.0, 0.0], [1.0, 0.0], [0.0, f32::INFINITY]];
+    let refusal = refused(Mesh { texture, ..SAMPLE }, -1.0);
+    assert_eq!(refusal, Refusal::NotFinite(Place { face: 0, corner: 2 }));
+    assert_eq!(refusal.number(), 4);
+    assert_eq!(
+        refusal.to_string(),
+        "refusal 4: face 0, corner 2 holds a NaN or an infinity"
+    );
+}
+
+#[test]
+fn no_direction_is_told() {
+    assert!(FRAME.directed());
+    for tangent in [[0.0, -0.0, 0.0], [1.0, f32::NAN, 0.0]] {
+        let frame = Frame { tangent, ..FRAME };
+        assert!(!frame.directed());
+    }
+}

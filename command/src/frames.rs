@@ -1,0 +1,88 @@
+//! `dokphalun frames`: a mesh file to a card, a report and a picture.
+use crate::meshfile::load;
+use crate::papers::Papers;
+use crate::say;
+use crate::state::{Known, State, Tally};
+use crate::stop::{Status, Stop};
+use crate::surface::Surface;
+use dokphalun::{BLOCK_BYTES, Buffers, Record, Refusal};
+use std::path::PathBuf;
+
+/// What is asked for.
+pub struct AskedFrames {
+    pub mesh: PathBuf,
+    pub card: PathBuf,
+    pub threshold: f32,
+    pub papers: Papers,
+}
+
+/// Reads, makes frames, writes and prints. Nothing is written where the mesh cannot be read or is refused.
+pub fn run(asked: &AskedFrames) -> Result<Status, Stop> {
+    let surface = load(&asked.mesh)?;
+    let mut buffers = Buffers::new();
+    let answer = buffers
+        .frames(surface.mesh(), asked.threshold)
+        .map_err(|refusal| refused(asked, &surface, refusal))?;
+    let mut card = Vec::new();
+    answer.write_card(&mut card).map_err(|refusal| Stop {
+        status: Status::Unwritten,
+        what: format!("{} is not written: {refusal}", asked.card.display()),
+    })?;
+    let records: Vec<Record> = answer
+        .readings()
+        .map(|(_, reading)| reading.into())
+        .collect();
+    let (surface, records) = (&surface, &records[..]);
+    let known = Known { surface, records };
+    asked
+        .papers
+        .write(&known, &asked.mesh, Some((&asked.card, &card)))?;
+    Ok(summary(asked, &known, card.len() / BLOCK_BYTES))
+}
+
+/// Prints what came out; the result is the exit status.
+fn summary(asked: &AskedFrames, known: &Known, blocks: usize) -> Status {
+    let tally = Tally::of(known.records);
+    let surface = known.surface;
+    let total = tally.all();
+    say::line("mesh", asked.mesh.display());
+    say::line("faces", surface.sizes.len());
+    say::line("corners", surface.positions.len());
+    say::line("slots", total);
+    say::tally(&tally, &[State::Absent, State::NoDirection]);
+    say::faces(known);
+    let (records, blocks) = (say::counted(total, "record"), say::counted(blocks, "block"));
+    let written = format!("{records} in {blocks}. Keep that number");
+    say::line("card", format!("{}: {written}", asked.card.display()));
+    let (card, mesh) = (say::quoted(&asked.card), say::quoted(&asked.mesh));
+    let again = format!("dokphalun read {card} --total {total} --mesh {mesh}");
+    say::line("to read it", again);
+    asked.papers.say();
+    let without_slots = known.without_slots().count();
+    let status = tally.status(without_slots);
+    say::verdict(&say::sum(&tally, without_slots), status);
+    status
+}
+
+/// What is said of a refused mesh: number, place, what stands there, and what to do.
+fn refused(asked: &AskedFrames, surface: &Surface, refusal: Refusal) -> Stop {
+    let mut what = format!("{}: {refusal}", asked.mesh.display());
+    if let Some(place) = refusal.place() {
+        if let Some(spot) = surface.spots.get(place.face) {
+            what.push_str(&format!(" (the face is at {spot} of the file)"));
+        }
+        if let Some(corner) = surface.numbers(place) {
+            let (p, n, t) = (corner.position, corner.normal, corner.texture);
+            what.push_str(&format!(
+                ". Its position is {p:?}, its normal {n:?}, its texture {t:?}"
+            ));
+        }
+    }
+    let card = asked.card.display();
+    what.push_str(&format!(
+        ".\nWhat to do: {}.\nNothing was written: {card} is as it was, and no corner has a reading",
+        refusal.remedy()
+    ));
+    let status = Status::Refused;
+    Stop { status, what }
+}

@@ -1,0 +1,134 @@
+//! What is printed: counts, and each corner that is not good, loudly.
+use crate::cause::cause;
+use crate::state::{BAD, Known, State, Tally};
+use crate::stop::Status;
+use std::fmt::Display;
+use std::io::{IsTerminal, Write, stderr, stdout};
+use std::path::Path;
+
+/// A line of the summary. Where nobody reads any more the exit status still tells.
+pub fn line(name: &str, what: impl Display) {
+    let _ = writeln!(stdout(), "{name:<13} {what}");
+}
+
+/// An empty line.
+pub fn gap() {
+    let _ = writeln!(stdout());
+}
+
+/// A line that nobody should overlook; in colour on a terminal.
+pub fn loud(name: &str, what: impl Display) {
+    let _ = match stdout().is_terminal() {
+        true => writeln!(stdout(), "\x1b[1;97;45m{name:<13} {what}\x1b[0m"),
+        false => writeln!(stdout(), "{name:<13} {what}"),
+    };
+}
+
+/// The counts of records; those that are not good are loud where there are any.
+pub fn tally(tally: &Tally, states: &[State]) {
+    line("present", tally.present);
+    for state in states {
+        match tally.count(*state) {
+            0 => line(&state.word().to_lowercase(), 0),
+            count => loud(state.word(), count),
+        }
+    }
+}
+
+/// How many there are of something.
+pub fn counted(count: usize, what: &str) -> String {
+    match count {
+        1 => format!("1 {what}"),
+        _ => format!("{count} {what}s"),
+    }
+}
+
+/// A path as a word of a shell.
+pub fn quoted(path: &Path) -> String {
+    let text = path.display().to_string();
+    let plain = |sign: char| sign.is_ascii_alphanumeric() || "/._-+,=:@%".contains(sign);
+    match !text.is_empty() && text.chars().all(plain) {
+        true => text,
+        false => format!("'{}'", text.replace('\'', r"'\''")),
+    }
+}
+
+/// Each face with a corner that is not good: which corners, where the face stands in its file, and the likely cause.
+/// Faces and corners are counted from 0.
+pub fn faces(known: &Known) {
+    if BAD.iter().any(|state| !known.faces(*state).is_empty()) {
+        line("", "(faces and corners are counted from 0)");
+    }
+    let starts = known.surface.starts();
+    let spot = |face: usize| format!("{} of the mesh", known.surface.spots[face]);
+    for state in BAD {
+        for (face, corners) in known.faces(state) {
+            let corners: Vec<String> = corners.iter().map(usize::to_string).collect();
+            let why = match state {
+                State::Absent => cause(known.surface, face, starts[face]),
+                State::NoDirection => "a direction is zero or no finite number",
+                _ => "not on the card: nothing is known",
+            };
+            let which = format!("face {face}, corner {}", corners.join(" "));
+            loud(state.word(), format!("{which}: {why} ({})", spot(face)));
+        }
+    }
+    for face in known.without_slots() {
+        let size = known.surface.sizes[face];
+        let why = format!("{size} corners, and only faces of 3 or 4 are read");
+        loud("NO SLOT", format!("face {face}: {why} ({})", spot(face)));
+    }
+}
+
+/// What holds of everything that is not good.
+pub const NOT_GOOD: &str = "An absent reading is not a good reading.";
+
+/// What all records come to, in one line; so many faces take no slot.
+pub fn sum(tally: &Tally, without_slots: usize) -> String {
+    let all = tally.all();
+    let bad = BAD.iter().filter(|state| tally.count(**state) > 0);
+    let mut parts: Vec<String> = bad
+        .map(|state| format!("{} {}", tally.count(*state), state.word()))
+        .collect();
+    if without_slots > 0 {
+        parts.push(format!("{} WITHOUT SLOTS", counted(without_slots, "face")));
+    }
+    match (all, parts.is_empty()) {
+        (0, _) => "no slot at all: NOTHING WAS READ".into(),
+        (_, true) => format!("all {all} slots are present"),
+        (_, false) => format!(
+            "{}; {} of {all} slots present",
+            parts.join(", "),
+            tally.present
+        ),
+    }
+}
+
+/// The last line: what it comes to, and the exit status. What is not good is said on the terminal even where the rest goes to a file.
+pub fn verdict(sum: &str, status: Status) {
+    let code = status as u8;
+    if status == Status::Good {
+        return line("verdict", format!("{sum} (exit status {code})"));
+    }
+    let what = format!("{sum}. {NOT_GOOD} See docs/ABSENT.md (exit status {code})");
+    loud("NOT GOOD", &what);
+    if stderr().is_terminal() && !stdout().is_terminal() {
+        let _ = writeln!(stderr(), "dokphalun: NOT GOOD: {what}");
+    }
+}
+
+/// Whole numbers in rising order as ranges: "1 to 4, 7".
+pub fn ranges(numbers: impl Iterator<Item = usize>) -> String {
+    let mut ranges: Vec<(usize, usize)> = Vec::new();
+    for number in numbers {
+        match ranges.last_mut() {
+            Some((_, last)) if *last + 1 == number => *last = number,
+            _ => ranges.push((number, number)),
+        }
+    }
+    let text = |&(first, last): &(usize, usize)| match first == last {
+        true => first.to_string(),
+        false => format!("{first} to {last}"),
+    };
+    ranges.iter().map(text).collect::<Vec<_>>().join(", ")
+}

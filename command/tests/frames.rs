@@ -1,0 +1,169 @@
+//! `dokphalun frames` as its user runs it.
+#[allow(dead_code)]
+mod room;
+#[allow(dead_code)]
+mod shapes;
+
+use room::Room;
+use shapes::{FACES, FIVE};
+
+/// A triangle and one whose texture has no area.
+const ABSENT: &str = "ply\nformat ascii 1.0\nelement vertex 6\nproperty float x\nproperty float y\nproperty float z\n\
+property float nx\nproperty float ny\nproperty float nz\nproperty float s\nproperty float t\n\
+element face 2\nproperty list uchar int vertex_indices\nend_header\n\
+0 0 0 0 0 1 0 0\n1 0 0 0 0 1 1 0\n0 1 0 0 0 1 0 1\n5 0 0 0 0 1 .5 .5\n6 0 0 0 0 1 .5 .5\n5 1 0 0 0 1 .5 .5\n3 0 1 2\n3 3 4 5\n";
+
+#[test]
+fn every_form_gives_the_same_card() {
+    let room = Room::new("forms");
+    room.put("text.ply", shapes::ply_text(&FACES));
+    room.put("bytes.ply", shapes::ply_bytes(&FACES));
+    room.put("wedges.ply", shapes::ply_wedges(&FACES));
+    room.put("sheet.OBJ", shapes::obj(&FACES));
+    room.put("windows.obj", shapes::obj(&FACES).replace('\n', "\r\n"));
+    for mesh in [
+        "text.ply",
+        "bytes.ply",
+        "wedges.ply",
+        "sheet.OBJ",
+        "windows.obj",
+    ] {
+        let ran = room.run(&format!("frames {mesh} -o {mesh}.card"));
+        ran.ends(0, "all 11 slots are present (exit status 0)");
+        ran.ends(
+            0,
+            &format!("dokphalun read {mesh}.card --total 11 --mesh {mesh}"),
+        );
+        assert_eq!(room.get(&format!("{mesh}.card")), room.get("text.ply.card"));
+    }
+}
+
+#[test]
+fn an_absent_corner_is_loud_everywhere() {
+    let room = Room::new("absent");
+    room.put("a.ply", ABSENT);
+    let ran = room.run("frames a.ply -o a.card --report a.csv --picture a.svg");
+    ran.ends(3, "ABSENT        3\n");
+    ran.ends(3, "ABSENT        face 1, corner 0 1 2: its texture coordinates enclose no area (line 22 of the mesh)");
+    ran.ends(3, "An absent reading is not a good reading.");
+    let report = room.text("a.csv");
+    assert!(
+        report.contains("\n0,0,0,present,1,0,0,0,1,0,1,1,1\n"),
+        "{report}"
+    );
+    assert!(report.contains("\n1,0,3,ABSENT,,,,,,,,,\n"), "{report}");
+    assert!(
+        room.text("a.svg")
+            .contains("<title>ABSENT: 3 of the corners of face 1</title>")
+    );
+    assert_eq!(room.names(), ["a.card", "a.csv", "a.ply", "a.svg"]);
+    room.run("read a.card --total 6 --mesh a.ply")
+        .ends(3, "ABSENT        face 1, corner 0 1 2");
+}
+
+#[test]
+fn a_frame_without_a_direction_is_not_good() {
+    let room = Room::new("undirected");
+    let normals_along = shapes::ply_text(&FACES[..1]).replace("0 0 1 ", "1 0 0 ");
+    room.put("a.ply", normals_along);
+    let ran = room.run("frames a.ply -o a.card --report a.csv --picture a.svg");
+    ran.ends(
+        3,
+        "NO DIRECTION  face 0, corner 0 1 2 3: a direction is zero or no finite number",
+    );
+    assert!(
+        room.text("a.csv")
+            .contains("\n0,0,0,NO DIRECTION,0,0,0,0,1,0,1,1,1\n")
+    );
+    assert!(
+        room.text("a.svg")
+            .contains("4 NO DIRECTION; 0 of 4 slots present")
+    );
+}
+
+#[test]
+fn a_face_without_slots_is_not_good() {
+    let room = Room::new("five");
+    let faces: Vec<&[usize]> = FACES.into_iter().chain([FIVE]).collect();
+    room.put("five.ply", shapes::ply_bytes(&faces));
+    let ran = room.run("frames five.ply -o five.card --report five.csv");
+    ran.ends(3, "NO SLOT       face 3: 5 corners");
+    assert!(room.text("five.csv").contains("\n3,4,,NO SLOT,,,,,,,,,\n"));
+    room.put("only.ply", shapes::ply_text(&[FIVE]));
+    room.run("frames only.ply -o only.card")
+        .ends(3, "NOTHING WAS READ");
+    room.put("none.ply", shapes::ply_text(&[]));
+    room.run("frames none.ply -o none.card --picture none.svg")
+        .ends(3, "NOTHING WAS READ");
+}
+
+#[test]
+fn a_refused_mesh_writes_nothing() {
+    let room = Room::new("refused");
+    room.put(
+        "nan.ply",
+        ABSENT.replace("1 0 0 0 0 1 1 0", "1 nan 0 0 0 1 1 0"),
+    );
+    room.put("old.card", "as it was");
+    let ran = room.run("frames nan.ply -o old.card --report r.csv --picture p.svg");
+    ran.ends(4, "refusal 4: face 0, corner 1 holds a NaN or an infinity (the face is at line 21 of the file)");
+    ran.ends(4, "Its position is [1.0, NaN, 0.0]");
+    ran.ends(4, "What to do: scan that place again");
+    assert_eq!(room.names(), ["nan.ply", "old.card"]);
+    assert_eq!(room.text("old.card"), "as it was");
+    let many: Vec<&[usize]> = vec![FACES[2]; 4097];
+    room.put("many.ply", shapes::ply_bytes(&many));
+    room.run("frames many.ply -o m.card")
+        .ends(4, "refusal 1: 4097 faces; at most 4096");
+    room.run("read old.card --total 12291 --mesh many.ply")
+        .ends(4, "refusal 1: 4097 faces");
+    room.put("full.ply", shapes::ply_bytes(&many[1..]));
+    room.run("frames full.ply -o f.card")
+        .ends(0, "all 12288 slots are present");
+    room.run("frames full.ply -o g.card --threshold nan")
+        .ends(4, "refusal 3");
+    assert_eq!(
+        room.names(),
+        ["f.card", "full.ply", "many.ply", "nan.ply", "old.card"]
+    );
+}
+
+#[test]
+fn the_threshold_is_a_cosine_or_an_angle() {
+    let room = Room::new("threshold");
+    room.put("a.ply", shapes::ply_text(&FACES));
+    let all = [
+        "-o usual",
+        "-o angle --angle 180",
+        "-o cosine --threshold -1",
+        "-o none --angle 0",
+    ];
+    for words in all {
+        room.run(&format!("frames a.ply {words}"))
+            .ends(0, "present");
+    }
+    assert_eq!(room.get("usual"), room.get("angle"));
+    assert_eq!(room.get("usual"), room.get("cosine"));
+    assert_ne!(room.get("usual"), room.get("none"));
+    room.runs(include_str!("tables/thresholds.txt"));
+    assert_eq!(room.get("x"), None);
+}
+
+#[test]
+fn a_command_line_that_is_not_understood() {
+    let room = Room::new("usage");
+    room.put("a.ply", shapes::ply_text(&FACES));
+    room.runs(include_str!("tables/words.txt"));
+    assert_eq!(room.names(), ["a.ply"]);
+}
+
+#[test]
+fn what_cannot_be_written_leaves_nothing() {
+    let room = Room::new("unwritten");
+    room.put("a.ply", shapes::ply_text(&FACES));
+    let ran = room.run("frames a.ply -o a.card --report not/there.csv");
+    ran.ends(7, "not/there.csv is not written");
+    room.run("frames a.ply -o a.card --report .")
+        .ends(7, ". is not written");
+    assert_eq!(room.names(), ["a.ply"]);
+}

@@ -1,0 +1,129 @@
+/* Tangent frames for scanned steel: the calls of libdokphalun.a, for C and C++.
+ *
+ * An absent reading is not a good reading. A slot without a frame is ten zero words, which as numbers would look like
+ * smooth steel: so ask every slot with dokphalun_slot, and never take its words for numbers yourself.
+ *
+ * A list is a pointer to its first element and a number of elements. The pointer is not null, not even for a list of no
+ * elements. A lent list (answer, work, card) stands apart from every other list of the call. Any numbers whatever may be
+ * handed in; each call ends, and a refusal alters no list. A call needs up to 1 MiB of stack.
+ */
+#ifndef DOKPHALUN_H
+#define DOKPHALUN_H
+
+#include <math.h>
+#include <stddef.h>
+#include <stdint.h>
+#include <string.h>
+
+#ifdef __cplusplus
+extern "C" {
+#endif
+
+/* The greatest number of faces that is accepted. */
+#define DOKPHALUN_MOST_FACES 4096
+/* The words of a slot, and of a card's record. */
+#define DOKPHALUN_SLOT_WORDS 10
+/* The words of work that a face needs. */
+#define DOKPHALUN_WORK_WORDS 128
+/* The bytes of a card of so many records: 12 to a block of 512. */
+#define DOKPHALUN_CARD_BYTES(records) (((size_t)(records) + 11) / 12 * 512)
+
+#if defined(__GNUC__)
+#define DOKPHALUN_ASK __attribute__((warn_unused_result))
+#else
+#define DOKPHALUN_ASK
+#endif
+
+/* What dokphalun_frames says: number 0, place 0 and how many slots it wrote; or a refusal's number, its place and 0.
+ *   1  more than 4,096 faces
+ *   2  positions or normals are not three numbers a corner, or texture coordinates not two
+ *   3  the threshold is NaN or infinite
+ *   4  a corner of a face of 3 or 4 holds a NaN or infinity; place is the corner, counted from 0 over all faces
+ *   5  the answer list is shorter than ten words a slot
+ *   6  the work list is shorter than 128 words a face
+ */
+struct dokphalun_outcome {
+    uint32_t number;
+    uint32_t place;
+    uint32_t slots;
+};
+
+/* What dokphalun_card_write says: number 0 and how many bytes it wrote; or a refusal's number and 0.
+ *   1  the words are not whole records, or word 0 of one is neither 0 nor 1
+ *   2  the card's list is too short
+ */
+struct dokphalun_written {
+    uint32_t number;
+    size_t bytes;
+};
+
+/* What dokphalun_card_read says: number 0 and how many bytes stand past the last whole block that the total calls for;
+ * or refusal 2, the answer list is shorter than ten words a record, and 0. */
+struct dokphalun_found {
+    uint32_t number;
+    size_t past;
+};
+
+/* Frames of a mesh: corners stand in face order, three numbers each for positions and normals and two for texture.
+ * The threshold is the cosine of the angle up to which tangents are joined; -1 sets no limit. Each corner of a face of
+ * 3 or 4 takes a slot, by face and then by corner; other faces take none. */
+DOKPHALUN_ASK struct dokphalun_outcome dokphalun_frames(
+    const uint8_t *sizes, size_t faces,
+    const float *positions, size_t position_numbers,
+    const float *normals, size_t normal_numbers,
+    const float *texture, size_t texture_numbers,
+    float threshold,
+    uint32_t *answer, size_t answer_words,
+    uint32_t *work, size_t work_words);
+
+/* Answer words to the bytes of a card. */
+DOKPHALUN_ASK struct dokphalun_written dokphalun_card_write(
+    const uint32_t *answer, size_t answer_words,
+    uint8_t *card, size_t card_bytes);
+
+/* The records of a card that was written with so many, lost ones told apart. */
+DOKPHALUN_ASK struct dokphalun_found dokphalun_card_read(
+    const uint8_t *card, size_t card_bytes, uint32_t total,
+    uint32_t *answer, size_t answer_words);
+
+/* What is known of a slot. Only DOKPHALUN_PRESENT has a frame. */
+enum dokphalun_reading {
+    DOKPHALUN_ABSENT = 0, /* the corner has no frame */
+    DOKPHALUN_PRESENT = 1,
+    DOKPHALUN_LOST = 2 /* a card's block is not there, or not as it was written: nothing is known */
+};
+
+/* The frame of a corner. */
+struct dokphalun_frame {
+    float tangent[3];
+    float bitangent[3];
+    float mag_s;
+    float mag_t;
+    uint32_t preserving; /* 1 where the texture runs round the face as the corners do; 0 where it is mirrored */
+};
+
+/* What is known of slot k of an answer list. The frame is filled in where it is present; else all its numbers become NaN,
+ * so that an answer that was not asked for does not look like zeros. */
+DOKPHALUN_ASK static inline enum dokphalun_reading dokphalun_slot(
+    const uint32_t *answer, size_t k, struct dokphalun_frame *frame)
+{
+    const uint32_t *slot = answer + DOKPHALUN_SLOT_WORDS * k;
+    float numbers[8];
+    size_t i;
+    memcpy(numbers, slot + 1, sizeof numbers);
+    if (slot[0] != 1)
+        for (i = 0; i < 8; i++)
+            numbers[i] = NAN;
+    memcpy(frame->tangent, numbers, sizeof frame->tangent);
+    memcpy(frame->bitangent, numbers + 3, sizeof frame->bitangent);
+    frame->mag_s = numbers[6];
+    frame->mag_t = numbers[7];
+    frame->preserving = slot[9];
+    return slot[0] == 1 ? DOKPHALUN_PRESENT : slot[0] == 0 ? DOKPHALUN_ABSENT : DOKPHALUN_LOST;
+}
+
+#ifdef __cplusplus
+}
+#endif
+
+#endif
