@@ -52,17 +52,6 @@ pub find-spec : {M : Type 1} → statement M
 find-spec =
     tie.close
     (tie.spec
-    returns
-    slice-aggregate-read
-    read-requires
-    print-decimal-requires
-    slice-aggregate-write-all
-    write-all-requires
-    print-letters-requires
-    slice-aggregate-write-all-2
-    write-all-requires-2
-    print-decimal-requires-2
-    slice-aggregate-write-all-3
-    write-all-requires-3
-    same-length
-    returns-2)
+    returns slice-aggregate-read read-requires print-decimal-requires slice-aggregate-write-all write-all-requires
+    print-letters-requires slice-aggregate-write-all-2 write-all-requires-2 print-decimal-requires-2
+    slice-aggregate-write-all-3 write-all-requires-3 same-length returns-2)

@@ -50,17 +50,5 @@ pub print-letters-spec : {M : Type 1} → statement M
 print-letters-spec =
     tie.close
     (tie.spec
-    Inv-loop
-    μ-loop
-    loop-holds
-    mul-if1
-    mul-letter
-    mul-letter-2
-    shared-slice-read-letter
-    letter-requires
-    slice-aggregate-write-all
-    write-all-requires
-    add-r
-    loop-less
-    loop-again
-    returns)
+    Inv-loop μ-loop loop-holds mul-if1 mul-letter mul-letter-2 shared-slice-read-letter letter-requires
+    slice-aggregate-write-all write-all-requires add-r loop-less loop-again returns)

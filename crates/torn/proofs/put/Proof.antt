@@ -27,4 +27,5 @@ returns-3 c = search needs
 pub put-spec : {M : Type 1} → statement M
 put-spec =
     tie.close
-    (tie.spec returns returns-2 slice-aggregate-pwrite cast-pwrite pwrite-requires returns-3)
+    (tie.spec
+    returns returns-2 slice-aggregate-pwrite cast-pwrite pwrite-requires returns-3)

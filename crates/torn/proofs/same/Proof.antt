@@ -46,15 +46,5 @@ pub same-spec : {M : Type 1} → statement M
 same-spec =
     tie.close
     (tie.spec
-    Inv-loop
-    μ-loop
-    returns
-    returns-2
-    loop-holds
-    shared-slice-read-if3
-    shared-slice-read-if3-2
-    returns-3
-    add-i
-    loop-less
-    loop-again
-    returns-4)
+    Inv-loop μ-loop returns returns-2 loop-holds shared-slice-read-if3 shared-slice-read-if3-2 returns-3 add-i
+    loop-less loop-again returns-4)
