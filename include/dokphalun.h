@@ -49,7 +49,7 @@ struct dokphalun_outcome {
 };
 
 /* What dokphalun_card_write says: number 0 and how many bytes it wrote; or a refusal's number and 0.
- *   1  the words are not whole records, or word 0 of one is neither 0 nor 1
+ *   1  the words are not whole records, are 2^32 records or more, or word 0 of one is neither 0 nor 1
  *   2  the card's list is too short
  */
 struct dokphalun_written {
@@ -62,6 +62,46 @@ struct dokphalun_written {
 struct dokphalun_found {
     uint32_t number;
     size_t past;
+};
+
+/* What dokphalun_card_next says: number 0, how many records the next block takes (none where the card is whole) and the byte
+ * of the file at which it goes; or refusal 3, the card holds more than the total calls for, and zeros. */
+struct dokphalun_next {
+    uint32_t number;
+    uint32_t records;
+    size_t at;
+};
+
+/* What dokphalun_card_append says: number 0, how many blocks of 512 bytes it made and the byte of the file at which they
+ * go; or a refusal's number and zeros.
+ *   1  as dokphalun_card_write
+ *   2  the list for the blocks is too short
+ *   3  the card holds more than the total calls for
+ *   4  the records are not those of the next blocks by count
+ */
+struct dokphalun_appended {
+    uint32_t number;
+    uint32_t blocks;
+    size_t at;
+};
+
+/* What dokphalun_pack says: number 0 and how many numbers it wrote; or a refusal's number and 0.
+ *   1  the words are not whole slots
+ *   2  the list for the numbers is too short
+ */
+struct dokphalun_packed {
+    uint32_t number;
+    size_t count;
+};
+
+/* What dokphalun_unpack says: number 0 and 0; or a refusal's number and a place.
+ *   1  the numbers are not whole sevens
+ *   2  the answer list is shorter than eight words a slot
+ *   3  seven numbers that dokphalun_pack cannot write; place is the slot
+ */
+struct dokphalun_unpacked {
+    uint32_t number;
+    size_t place;
 };
 
 /* Frames of a mesh: corners stand in face order, three numbers each for positions and normals and two for texture.
@@ -84,6 +124,26 @@ DOKPHALUN_ASK struct dokphalun_written dokphalun_card_write(
 /* The records of a card that was written with so many, lost ones told apart. */
 DOKPHALUN_ASK struct dokphalun_found dokphalun_card_read(
     const uint8_t *card, size_t card_bytes, uint32_t total,
+    uint32_t *answer, size_t answer_words);
+
+/* What comes next on a card of so many bytes, torn or whole. */
+DOKPHALUN_ASK struct dokphalun_next dokphalun_card_next(size_t card_bytes, uint32_t total);
+
+/* The bytes of the next block or blocks of a card of so many bytes, from their records. */
+DOKPHALUN_ASK struct dokphalun_appended dokphalun_card_append(
+    size_t card_bytes, uint32_t total,
+    const uint32_t *records, size_t record_words,
+    uint8_t *blocks, size_t block_bytes);
+
+/* Frames packed for a viewer: seven numbers a slot, six directions times 32,767 and 1 or -1 for the orientation; a slot
+ * without a frame is seven times -32,768. */
+DOKPHALUN_ASK struct dokphalun_packed dokphalun_pack(
+    const uint32_t *answer, size_t answer_words,
+    int16_t *packed, size_t packed_numbers);
+
+/* Packed frames read: eight words a slot, 1, six numbers and the orientation; an absent one is 0 and seven times -32,768. */
+DOKPHALUN_ASK struct dokphalun_unpacked dokphalun_unpack(
+    const int16_t *packed, size_t packed_numbers,
     uint32_t *answer, size_t answer_words);
 
 /* What is known of a slot. Only DOKPHALUN_PRESENT has a frame. */

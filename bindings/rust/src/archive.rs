@@ -9,11 +9,19 @@ pub struct Outcome {
     pub slots: u32,
 }
 
-/// What the calls of cards say: the number of a refusal and 0, or 0 and a number of bytes.
+/// What the calls of cards and of packed frames say: a refusal's number, or 0; and a number of bytes, of numbers, or a place.
 #[repr(C)]
 pub struct Said {
     pub number: u32,
     pub bytes: usize,
+}
+
+/// What the calls of appending say: a refusal's number, or 0; how many records or blocks; and a place in the file.
+#[repr(C)]
+pub struct Placed {
+    pub number: u32,
+    pub count: u32,
+    pub at: usize,
 }
 
 #[rustfmt::skip]
@@ -29,6 +37,10 @@ unsafe extern "C" {
     ) -> Outcome;
     fn dokphalun_card_write(answer: *const u32, answer_words: usize, card: *mut u8, card_bytes: usize) -> Said;
     fn dokphalun_card_read(card: *const u8, card_bytes: usize, total: u32, answer: *mut u32, answer_words: usize) -> Said;
+    fn dokphalun_card_next(long: usize, total: u32) -> Placed;
+    fn dokphalun_card_append(long: usize, total: u32, records: *const u32, record_words: usize, blocks: *mut u8, block_bytes: usize) -> Placed;
+    fn dokphalun_pack(answer: *const u32, answer_words: usize, packed: *mut i16, packed_numbers: usize) -> Said;
+    fn dokphalun_unpack(packed: *const i16, packed_numbers: usize, answer: *mut u32, answer_words: usize) -> Said;
 }
 
 /// The frames of a mesh into lent lists.
@@ -66,4 +78,31 @@ pub fn card_read(card: &[u8], total: u32, answer: &mut [u32]) -> Said {
     let (words, count) = (answer.as_mut_ptr(), answer.len());
     // SAFETY: as above.
     unsafe { dokphalun_card_read(card.as_ptr(), card.len(), total, words, count) }
+}
+
+/// What comes next on a card of so many bytes.
+pub fn card_next(long: usize, total: u32) -> Placed {
+    // SAFETY: numbers alone are handed over.
+    unsafe { dokphalun_card_next(long, total) }
+}
+
+/// The blocks of the next records of a card of so many bytes.
+pub fn card_append(long: usize, total: u32, records: &[u32], blocks: &mut [u8]) -> Placed {
+    let (bytes, count) = (blocks.as_mut_ptr(), blocks.len());
+    // SAFETY: as above.
+    unsafe { dokphalun_card_append(long, total, records.as_ptr(), records.len(), bytes, count) }
+}
+
+/// Answer words packed.
+pub fn pack(answer: &[u32], packed: &mut [i16]) -> Said {
+    let (numbers, count) = (packed.as_mut_ptr(), packed.len());
+    // SAFETY: as above.
+    unsafe { dokphalun_pack(answer.as_ptr(), answer.len(), numbers, count) }
+}
+
+/// Packed numbers read.
+pub fn unpack(packed: &[i16], answer: &mut [u32]) -> Said {
+    let (words, count) = (answer.as_mut_ptr(), answer.len());
+    // SAFETY: as above.
+    unsafe { dokphalun_unpack(packed.as_ptr(), packed.len(), words, count) }
 }

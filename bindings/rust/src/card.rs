@@ -8,12 +8,49 @@ pub const BLOCK_BYTES: usize = 512;
 /// The records that a block holds.
 pub const BLOCK_RECORDS: usize = 12;
 
+/// Makes a list of bytes as long as the blocks of these words.
+fn make_room(words: &[u32], bytes: &mut Vec<u8>) {
+    let records = words.len() / SLOT_WORDS;
+    bytes.clear();
+    bytes.resize(records.div_ceil(BLOCK_RECORDS) * BLOCK_BYTES, 0);
+}
+
 /// Answer words to the bytes of a card. A refusal leaves the list of bytes empty.
 pub fn write_card(words: &[u32], card: &mut Vec<u8>) -> Result<(), CardRefusal> {
-    let records = words.len() / SLOT_WORDS;
-    card.clear();
-    card.resize(records.div_ceil(BLOCK_RECORDS) * BLOCK_BYTES, 0);
+    make_room(words, card);
     CardRefusal::of(archive::card_write(words, card).number).inspect_err(|_| card.clear())
+}
+
+/// What comes next on a card that is appended to.
+#[derive(Clone, Copy, Debug, PartialEq, Eq)]
+pub struct Next {
+    /// How many records the next block takes; none where the card is whole.
+    pub records: usize,
+    /// The byte of the file at which the block goes: a torn block is written over.
+    pub at: usize,
+}
+
+/// What comes next on a card of so many bytes, torn or whole.
+pub fn next_block(long: usize, total: u32) -> Result<Next, CardRefusal> {
+    let said = archive::card_next(long, total);
+    CardRefusal::of(said.number)?;
+    Ok(Next {
+        records: said.count as usize,
+        at: said.at,
+    })
+}
+
+/// The bytes of the next block or blocks of a card of so many bytes, and where they go. A refusal leaves the list of bytes empty.
+pub fn append_blocks(
+    long: usize,
+    total: u32,
+    words: &[u32],
+    blocks: &mut Vec<u8>,
+) -> Result<usize, CardRefusal> {
+    make_room(words, blocks);
+    let said = archive::card_append(long, total, words, blocks);
+    CardRefusal::of(said.number).inspect_err(|_| blocks.clear())?;
+    Ok(said.at)
 }
 
 /// What was read from a card.

@@ -7,14 +7,16 @@ mod archive;
 mod buffers;
 mod card;
 mod mesh;
+mod packed;
 mod reading;
 mod refusal;
 
 pub use buffers::{Answer, Buffers};
-pub use card::{BLOCK_BYTES, BLOCK_RECORDS, Card, write_card};
+pub use card::{BLOCK_BYTES, BLOCK_RECORDS, Card, Next, append_blocks, next_block, write_card};
 pub use mesh::{MOST_FACES, Mesh, Place, corners, slots, takes_slots};
+pub use packed::{PACKED_NUMBERS, Packed, pack, unpack};
 pub use reading::{Frame, Reading, Record};
-pub use refusal::{CardRefusal, Refusal};
+pub use refusal::{CardRefusal, PackRefusal, Refusal};
 
 /// The programs of docs/PROGRAMMERS.md, compiled and run.
 #[cfg(doctest)]

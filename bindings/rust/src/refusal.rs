@@ -105,14 +105,18 @@ impl fmt::Display for Refusal {
 
 impl Error for Refusal {}
 
-/// Why a card was not written or read.
+/// Why a card was not written, read or appended to.
 #[derive(Clone, Copy, Debug, PartialEq, Eq)]
 #[non_exhaustive]
 pub enum CardRefusal {
-    /// 1: the words are not whole records of ten, each with 0 or 1 in word 0.
+    /// 1: the words are not whole records of ten, fewer than 2^32, each with 0 or 1 in word 0.
     NotRecords,
     /// 2: the lent list is too short.
     TooShort,
+    /// 3: the card holds more than the total calls for.
+    BeyondTotal,
+    /// 4: the records are not those of the next blocks by count.
+    NotTheNext,
     /// There is no memory for so many records.
     NoMemory { records: usize },
     /// A number that this crate does not know: the archive is newer.
@@ -126,6 +130,8 @@ impl CardRefusal {
             0 => Ok(()),
             1 => Err(CardRefusal::NotRecords),
             2 => Err(CardRefusal::TooShort),
+            3 => Err(CardRefusal::BeyondTotal),
+            4 => Err(CardRefusal::NotTheNext),
             _ => Err(CardRefusal::Unknown { number }),
         }
     }
@@ -138,6 +144,12 @@ impl fmt::Display for CardRefusal {
                 "card refusal 1: the words are not whole records of ten, each with 0 or 1 in word 0",
             ),
             CardRefusal::TooShort => f.write_str("card refusal 2: the lent list is too short"),
+            CardRefusal::BeyondTotal => {
+                f.write_str("card refusal 3: the card holds more than the total calls for")
+            }
+            CardRefusal::NotTheNext => f.write_str(
+                "card refusal 4: the records are not those of the next blocks by count",
+            ),
             CardRefusal::NoMemory { records } => write!(f, "no memory for {records} records"),
             CardRefusal::Unknown { number } => write!(f, "card refusal {number}: not known here"),
         }
@@ -145,3 +157,48 @@ impl fmt::Display for CardRefusal {
 }
 
 impl Error for CardRefusal {}
+
+/// Why frames were not packed or read back.
+#[derive(Clone, Copy, Debug, PartialEq, Eq)]
+#[non_exhaustive]
+pub enum PackRefusal {
+    /// 1: the list is not in whole slots.
+    NotSlots,
+    /// 2: the lent list is too short.
+    TooShort,
+    /// 3: seven numbers that the packer cannot have written, of this slot.
+    NotPacked { slot: usize },
+    /// A number that this crate does not know: the archive is newer.
+    Unknown { number: u32 },
+}
+
+impl PackRefusal {
+    /// What a number of the archive, and a place, say.
+    pub(crate) fn of(number: u32, place: usize) -> Result<(), PackRefusal> {
+        match number {
+            0 => Ok(()),
+            1 => Err(PackRefusal::NotSlots),
+            2 => Err(PackRefusal::TooShort),
+            3 => Err(PackRefusal::NotPacked { slot: place }),
+            _ => Err(PackRefusal::Unknown { number }),
+        }
+    }
+}
+
+impl fmt::Display for PackRefusal {
+    fn fmt(&self, f: &mut fmt::Formatter) -> fmt::Result {
+        match self {
+            PackRefusal::NotSlots => f.write_str("pack refusal 1: the list is not in whole slots"),
+            PackRefusal::TooShort => f.write_str("pack refusal 2: the lent list is too short"),
+            PackRefusal::NotPacked { slot } => {
+                write!(
+                    f,
+                    "pack refusal 3: slot {slot} is not what the packer writes"
+                )
+            }
+            PackRefusal::Unknown { number } => write!(f, "pack refusal {number}: not known here"),
+        }
+    }
+}
+
+impl Error for PackRefusal {}

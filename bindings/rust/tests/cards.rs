@@ -1,5 +1,7 @@
 //! Cards through the archive: written, read, damaged.
-use dokphalun::{BLOCK_BYTES, Buffers, CardRefusal, Record, write_card};
+use dokphalun::{
+    BLOCK_BYTES, Buffers, CardRefusal, Next, Record, append_blocks, next_block, write_card,
+};
 
 /// So many records, each third one absent.
 fn words(records: u32) -> Vec<u32> {
@@ -59,4 +61,46 @@ fn refusals_leave_no_card() {
         write_card(&words(3)[1..], &mut card),
         Err(CardRefusal::NotRecords)
     );
+}
+
+/// Appends the next block to a card that was cut.
+fn append(card: &mut Vec<u8>, words: &[u32]) {
+    let next = next_block(card.len(), 30).unwrap();
+    let from = next.at / BLOCK_BYTES * 120;
+    let mut blocks = Vec::new();
+    let part = &words[from..from + 10 * next.records];
+    assert_eq!(
+        append_blocks(card.len(), 30, part, &mut blocks),
+        Ok(next.at)
+    );
+    card.truncate(next.at);
+    card.extend(blocks);
+}
+
+#[test]
+fn a_torn_card_is_appended_to() {
+    for cut in [0, 1, 511, 512, 1022, 1535] {
+        let mut torn = card();
+        torn.truncate(cut);
+        while torn.len() < 3 * BLOCK_BYTES {
+            append(&mut torn, &words(30));
+        }
+        assert_eq!(torn, card());
+    }
+    let whole = Next {
+        records: 0,
+        at: 1536,
+    };
+    assert_eq!(next_block(1536, 30), Ok(whole));
+}
+
+#[test]
+fn appending_refuses() {
+    let mut blocks = vec![7];
+    assert_eq!(next_block(1537, 30), Err(CardRefusal::BeyondTotal));
+    assert_eq!(
+        append_blocks(512, 30, &words(11), &mut blocks),
+        Err(CardRefusal::NotTheNext)
+    );
+    assert!(blocks.is_empty());
 }

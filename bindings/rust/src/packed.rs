@@ -1,0 +1,52 @@
+//! Frames packed to 16 bits for a viewer, and back.
+use crate::archive;
+use crate::reading::SLOT_WORDS;
+use crate::refusal::PackRefusal;
+
+/// The numbers of a packed slot.
+pub const PACKED_NUMBERS: usize = 7;
+/// The words that the archive writes for a packed slot.
+const READ_WORDS: usize = 8;
+
+/// What seven packed numbers hold. Absent is no number here either.
+#[derive(Clone, Copy, Debug, PartialEq, Eq)]
+#[must_use]
+pub enum Packed {
+    /// The corner has no frame.
+    Absent,
+    /// Tangent and bi-tangent, each component times 32,767; and whether the texture runs round the face as the corners do.
+    Present {
+        directions: [i16; 6],
+        preserving: bool,
+    },
+}
+
+impl Packed {
+    /// The eight words of a slot as the archive reads them.
+    fn of(words: &[u32; READ_WORDS]) -> Packed {
+        let [mark, numbers @ .., orientation] = *words;
+        match mark {
+            1 => Packed::Present {
+                directions: numbers.map(|number| number as i16),
+                preserving: orientation == 1,
+            },
+            _ => Packed::Absent,
+        }
+    }
+}
+
+/// Answer words to packed numbers, seven a slot. A refusal leaves the list empty.
+pub fn pack(words: &[u32], packed: &mut Vec<i16>) -> Result<(), PackRefusal> {
+    packed.clear();
+    packed.resize(words.len() / SLOT_WORDS * PACKED_NUMBERS, 0);
+    let said = archive::pack(words, packed);
+    PackRefusal::of(said.number, said.bytes).inspect_err(|_| packed.clear())
+}
+
+/// Packed numbers to what they hold, slot by slot.
+pub fn unpack(packed: &[i16]) -> Result<Vec<Packed>, PackRefusal> {
+    let mut words = vec![0; packed.len() / PACKED_NUMBERS * READ_WORDS];
+    let said = archive::unpack(packed, &mut words);
+    PackRefusal::of(said.number, said.bytes)?;
+    Ok(words.as_chunks().0.iter().map(Packed::of).collect())
+}
