@@ -1,7 +1,7 @@
 -- What request E5 asks of packed frames holds. Assumes nothing.
 use Prim.Native.Nat.{ℕ, _*_, _≤_, _<_}
 use native.Mathlib.Omega.{arith}
-use mathlib.Core.Path.{_≡_, sym, ap, _∙_, subst}
+use mathlib.Core.Path.{_≡_, refl, sym, ap, _∙_, subst}
 use mathlib.Core.List.{List, _++_}
 use lib.ListN.{length, drop}
 use Rattle.words.specs.Lists.{joined}
@@ -83,6 +83,7 @@ one-reading l a b t r s e f = let g = e ∙ sym f in (λ i. record { number = g 
 pub packed-promised : PackedPromised
 packed-promised =
     record {
+      width = refl;
       value = value;
       rounded = rounded;
       told = told;

@@ -11,7 +11,8 @@ use lib.Ieee.Exact.{HasValue}
 use Rattle.words.specs.Lists.{joined}
 use Rattle.packed.specs.Rounding.{Nearest}
 use Rattle.packed.specs.Component.{size, negative, within, cut, digits, scaled, parts, signed, component, amount}
-use Rattle.packed.specs.Packer.{packedWords, nothing, packedSlot, slotAt, slotsIn, packedSlots, wrote}
+use Rattle.tangent.specs.Slot as answer
+use Rattle.packed.specs.Packer.{slotWords, packedWords, nothing, packedSlot, slotAt, slotsIn, packedSlots, wrote}
 use Rattle.packed.specs.Reader.{readWords, accepted, wide, absentWords, readSeven, sevenAt, sevensIn, firstRefused, Got, got, First}
 use Rattle.packed.specs.Contract.{Packs, Unpacks}
 use Rattle.packed.specs.declared.Packed.{Packed}
@@ -71,6 +72,8 @@ listBack n l a =
     }
 
 pub record PackedPromised : Type 0 where
+  -- what is packed is a slot of the answer
+  pub width : slotWords ≡ answer.slotWords
   -- digits and parts are the value of the float of bits w, with its sign: what is rounded is 32,767 times that, exactly
   pub value : (w : ℕ) → within w ≡ true → HasValue (ofBits binary32 w) (negative w) (digits (size w)) (parts (size w))
   -- the rounding and the range, once for all

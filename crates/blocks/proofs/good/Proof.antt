@@ -1,5 +1,6 @@
 -- `blocks::good` meets its contract. Assumes nothing.
 use Prim.Native.Nat.{ℕ, _+_, _-_, _*_}
+use native.Mathlib.Omega.{arith}
 use mathlib.Core.Path.{_≡_, sym, _∙_, ap}
 use mathlib.Core.List.{List}
 use lib.Dec.{eqb, leb}
@@ -39,7 +40,7 @@ emptied-is c =
 returns : tie.Need-returns
 returns c =
     let a = c .before .before .args in
-    good-none (a .total) (a .b) (a .card .now) (c .if1 .taken)
+    good-none (a .total) (a .b) (a .card .now) (omega (arith, c .if1 .taken))
 
 mul-p : tie.Need-mul-p
 mul-p c = search needs

@@ -37,7 +37,7 @@ returns : tie.Need-returns Inv-loop μ-loop
 returns c =
     let l = c .before .before .before .loop in
     let a = c .before .before .before .before .before .args in
-    sym (every-fails (a .used) (l .r) (λ k. leb (wordAt (a .card .now) (a .p + 10 * k)) 1) (omega arith) (ap (λ w. leb w 1) (sym (c .before .word-at .ensures)) ∙ lt-leb _ _ (c .if1 .taken)))
+    sym (every-fails (a .used) (l .r) (λ k. leb (wordAt (a .card .now) (a .p + 10 * k)) 1) (omega arith) (ap (λ w. leb w 1) (sym (c .before .word-at .ensures)) ∙ lt-leb (c .before .word-at .result) 1 (omega (arith, c .if1 .taken))))
 
 add-r : tie.Need-add-r Inv-loop μ-loop
 add-r c = search needs
@@ -49,7 +49,7 @@ loop-again : tie.Need-loop-again Inv-loop μ-loop
 loop-again c =
     let l = c .before .before .before .loop in
     let a = c .before .before .before .before .before .args in
-    (omega arith, every-more (l .r) (λ k. leb (wordAt (a .card .now) (a .p + 10 * k)) 1) (l .inv .1) (ap (λ w. leb w 1) (sym (c .before .word-at .ensures)) ∙ le-leb _ _ (c .if1 .left)))
+    (omega arith, every-more (l .r) (λ k. leb (wordAt (a .card .now) (a .p + 10 * k)) 1) (l .inv .1) (ap (λ w. leb w 1) (sym (c .before .word-at .ensures)) ∙ le-leb (c .before .word-at .result) 1 (omega (arith, c .if1 .left))))
 
 returns-2 : tie.Need-returns-2 Inv-loop μ-loop
 returns-2 c =

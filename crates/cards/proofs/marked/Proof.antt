@@ -35,7 +35,7 @@ returns : tie.Need-returns Inv-loop μ-loop
 returns c =
     let l = c .before .before .before .loop in
     let a = c .before .before .before .before .args in
-    sym (every-fails (a .count) (l .r) (λ k. leb (getD (a .answer .now) (10 * k) 0) 1) (omega arith) (lt-leb _ _ (c .if1 .taken)))
+    sym (every-fails (a .count) (l .r) (λ k. leb (getD (a .answer .now) (10 * k) 0) 1) (omega arith) (lt-leb (getD (a .answer .now) (10 * l .r) 0) 1 (omega (arith, c .if1 .taken))))
 
 add-r : tie.Need-add-r Inv-loop μ-loop
 add-r c = search needs
@@ -47,7 +47,7 @@ loop-again : tie.Need-loop-again Inv-loop μ-loop
 loop-again c =
     let l = c .before .before .before .loop in
     let a = c .before .before .before .before .args in
-    (omega arith, every-more (l .r) (λ k. leb (getD (a .answer .now) (10 * k) 0) 1) (l .inv .1) (le-leb _ _ (c .if1 .left)))
+    (omega arith, every-more (l .r) (λ k. leb (getD (a .answer .now) (10 * k) 0) 1) (l .inv .1) (le-leb (getD (a .answer .now) (10 * l .r) 0) 1 (omega (arith, c .if1 .left))))
 
 returns-2 : tie.Need-returns-2 Inv-loop μ-loop
 returns-2 c =

@@ -1,5 +1,6 @@
 -- `cards::writable` meets its contract. Assumes nothing.
 use Prim.Native.Nat.{_*_, _/_, _%_}
+use native.Mathlib.Omega.{arith}
 use mathlib.Core.Path.{sym, _∙_, ap}
 use mathlib.Core.Bool.{Bool, _&&_}
 use lib.Dec.{leb, ltb}
@@ -15,13 +16,13 @@ returns : tie.Need-returns
 unfolding writable recordsOf
 returns c =
     let l = c .before .before .args .answer .now in
-    sym (ap (λ (x : Bool). x && ltb (length l / 10) 4294967296 && everyBelow (length l / 10) (λ r. leb (getD l (10 * r) 0) 1)) (ne-eqb (length l % 10) 0 (c .if1 .taken)))
+    sym (ap (λ (x : Bool). x && ltb (length l / 10) 4294967296 && everyBelow (length l / 10) (λ r. leb (getD l (10 * r) 0) 1)) (ne-eqb (length l % 10) 0 (λ e. omega (arith, e, c .if1 .taken))))
 
 returns-2 : tie.Need-returns-2
 unfolding writable recordsOf
 returns-2 c =
     let l = c .before .before .before .args .answer .now in
-    sym (λ z. eq-eqb (length l % 10) 0 (c .before .if1 .left) z && le-ltb (length l / 10) 4294967296 (c .if2 .taken) z && everyBelow (length l / 10) (λ r. leb (getD l (10 * r) 0) 1))
+    sym (λ z. eq-eqb (length l % 10) 0 (omega (arith, c .before .if1 .left)) z && le-ltb (length l / 10) 4294967296 (omega (arith, c .if2 .taken)) z && everyBelow (length l / 10) (λ r. leb (getD l (10 * r) 0) 1))
 
 marked-requires : tie.Need-marked-requires
 marked-requires c κs = search needs
@@ -32,7 +33,7 @@ returns-3 c =
     let e = c .before in
     let l = e .before .before .before .args .answer .now in
     c .marked .ensures
-    ∙ sym (λ z. eq-eqb (length l % 10) 0 (e .before .if1 .left) z && lt-ltb (length l / 10) 4294967296 (e .if2 .left) z && everyBelow (length l / 10) (λ r. leb (getD l (10 * r) 0) 1))
+    ∙ sym (λ z. eq-eqb (length l % 10) 0 (omega (arith, e .before .if1 .left)) z && lt-ltb (length l / 10) 4294967296 (omega (arith, e .if2 .left)) z && everyBelow (length l / 10) (λ r. leb (getD l (10 * r) 0) 1))
 
 pub writable-spec : {M : Type 1} → statement M
 writable-spec = tie.close (tie.spec
