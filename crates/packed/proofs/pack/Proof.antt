@@ -1,5 +1,6 @@
 -- `packed::pack` meets its contract. Assumes nothing.
 use Prim.Native.Nat.{_*_}
+use native.Mathlib.Omega.{arith}
 use mathlib.Core.Path.{_∙_}
 use Rattle.packed.specs.Packer.{slotsIn, allPacked, notPacked}
 use Rattle.packed.specs.Contract.{afterPack}
@@ -12,7 +13,7 @@ returns : tie.Need-returns
 unfolding afterPack notPacked
 returns c =
     let a = c .before .before .before .args in
-    pack-broken (a .answer .now) (a .packed .now) (c .if1 .taken)
+    pack-broken (a .answer .now) (a .packed .now) (λ e. omega (arith, e, c .if1 .taken))
 
 mul-if2 : tie.Need-mul-if2
 mul-if2 c = search needs
@@ -21,7 +22,7 @@ returns-2 : tie.Need-returns-2
 unfolding afterPack notPacked slotsIn
 returns-2 c =
     let a = c .before .before .before .before .args in
-    pack-short (a .answer .now) (a .packed .now) (c .before .if1 .left) (c .if2 .taken)
+    pack-short (a .answer .now) (a .packed .now) (omega (arith, c .before .if1 .left)) (c .if2 .taken)
 
 pack-slots-requires : tie.Need-pack-slots-requires
 pack-slots-requires c κs = search needs
@@ -38,7 +39,7 @@ returns-3 c =
     let p = c .before .before in
     let t = p .before .before in
     let a = t .before .before .before .before .args in
-    (λ i. record { number = 0; count = 7 * slotsIn (a .answer .now); packed = p .pack-slots .ensures i }) ∙ pack-done (a .answer .now) (a .packed .now) (t .before .if1 .left) (t .if2 .left)
+    (λ i. record { number = 0; count = 7 * slotsIn (a .answer .now); packed = p .pack-slots .ensures i }) ∙ pack-done (a .answer .now) (a .packed .now) (omega (arith, t .before .if1 .left)) (t .if2 .left)
 
 pub pack-spec : {M : Type 1} → statement M
 pack-spec =
