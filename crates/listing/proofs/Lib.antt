@@ -2,3 +2,4 @@ mod Laws
 mod Faces
 mod Passes
 mod Whole
+mod Pieces

@@ -36,7 +36,7 @@ pub pick-broken : (xs : List Triangle) → pick true xs ≡ broken xs
 unfolding pick broken
 pick-broken xs = keep-same _ _ (every-mem _ xs (λ x m. beq-true (x .degenerate)))
 
-split-length : (xs : List Triangle) → length (pick false xs) + length (pick true xs) ≡ length xs
+pub split-length : (xs : List Triangle) → length (pick false xs) + length (pick true xs) ≡ length xs
 unfolding pick keep
 split-length [] = refl
 split-length (x ∷ xs) = go (x .degenerate) (split-length xs)

@@ -1,9 +1,9 @@
 -- What is stored of a triangle, and what the list of triangles is in columns. Definitions only.
 use Prim.Native.Nat.{ℕ, _+_, _*_, _≤_, _<_}
 use mathlib.Core.Path.{_≡_}
-use mathlib.Core.Bool.{Bool, Bool·beq}
+use mathlib.Core.Bool.{Bool, Bool·beq, cond}
 use mathlib.Core.List.{List, [], _∷_, _++_}
-use lib.Dec.{T}
+use lib.Dec.{T, eqb}
 use lib.ListN.{length, take}
 use lib.Ieee.{Float, binary32, fits}
 use Rattle.tangent.specs.declared.RawTangentSpace.{RawTangentSpace}
@@ -90,3 +90,12 @@ pub record Listed (sizes : List ℕ) (ps ns ts : List Float) (xs : List Triangle
   pub fits : 3 * length (sound xs ++ broken xs) ≤ rowsOf (length sizes)
   pub only : Only recordColumns (rowsOf (length sizes)) w u
   pub held : (d : Triangle) → Held (rowsOf (length sizes)) sizes ps ns ts (sound xs ++ broken xs) d u
+
+-- how many triangles a face of size n has
+unfoldable pub piecesOf : ℕ → ℕ
+piecesOf n = cond (eqb n 3) 1 (cond (eqb n 4) 2 0)
+
+-- how many triangles there are
+unfoldable pub pieceCount : List ℕ → ℕ
+pieceCount [] = 0
+pieceCount (n ∷ sizes) = piecesOf n + pieceCount sizes

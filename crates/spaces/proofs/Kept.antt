@@ -14,12 +14,15 @@ use Rattle.table.specs.Columns.{slotColumn, orientationColumn, metColumn, order
 use Rattle.table.proofs.Loops.{upTo-same}
 use Rattle.view.specs.Frame.{Only}
 use Rattle.view.proofs.Frame.{cell-kept}
+use Rattle.tangent.specs.declared.RawTangentSpace.{RawTangentSpace}
 use Rattle.slots.specs.Slots.{reachedAt}
 use Rattle.members.specs.Members.{beginOf}
 use Rattle.members.proofs.Ordering.{begin-kept}
 use Rattle.subgroups.specs.Subgroups.{Ranged}
+use Rattle.subgroups.specs.Spans.{Whole, summed}
 use Rattle.subgroups.proofs.Laws.{value-kept}
-use Rattle.spaces.specs.Spaces.{reachRow, reachGroup}
+use Rattle.subgroups.proofs.Spans.{whole-value}
+use Rattle.spaces.specs.Spaces.{reachRow, reachGroup, reachWith, reachWhole}
 
 -- a group of none reaches nothing
 pub reach-none : (rows : ℕ) (h : Float) (from to : ℕ) (w a : List ℕ) → to ≤ from → a ≡ reachGroup rows h from to w a
@@ -27,6 +30,12 @@ unfolding reachGroup upTo
 reach-none rows h from to w a l = let z : 0 ≡ to - from = omega arith in ap (λ n. upTo n (λ k. reachRow rows h from (to - from) w (cell rows metColumn (from + k) w)) a) z
 
 module _ (rows : ℕ) (w u : List ℕ) (O : Only (joinedColumn ∷ []) rows w u) where
+  pub with-kept : (g : RawTangentSpace) (r : ℕ) (a : List ℕ) → r < rows → reachWith rows u g r a ≡ reachWith rows w g r a
+  unfolding reachWith
+  with-kept g r a l =
+      let k : r / 3 < rows = omega (arith, div-add-mod r 3) in
+      λ z. reachedAt (cell-kept (joinedColumn ∷ []) rows w u O slotColumn r refl l z) g (eqb (cell-kept (joinedColumn ∷ []) rows w u O orientationColumn (r / 3) refl k z) 1) a
+
   row-kept : (h : Float) (from n r : ℕ) (a : List ℕ) → r < rows → from + n ≤ rows → ((p : ℕ) → p < from + n → cell rows orderColumn p w < rows) → reachRow rows h from n u r a ≡ reachRow rows h from n w r a
   unfolding reachRow
   row-kept h from n r a l f R =
@@ -84,3 +93,9 @@ one-group rows h groups count w u a b c q few small R O e g =
     g
     ∙ ((λ z. reachGroup rows h (k q z) (k (q + 1) z) u b)
     ∙ (part-kept rows w u O h from to b (omega (arith, begin-le rows groups count w (q + 1))) (ranged-less rows to count w (begin-le rows groups count w (q + 1)) R) ∙ ((λ z. reachGroup rows h from (beginOf rows groups count w (s z)) w (e z)) ∙ sym (ap (reachFirst rows h groups count w a) s))))
+
+-- where all members join one another, each brings the one sum
+pub whole-group : (rows : ℕ) (h : Float) (from to : ℕ) (w a : List ℕ) → Whole rows h from (to - from) w → reachWhole rows from to w a ≡ reachGroup rows h from to w a
+unfolding reachWhole reachGroup reachRow reachWith
+whole-group rows h from to w a W =
+    upTo-same (to - from) _ _ a (λ k y l. ap (λ g. reachedAt (cell rows slotColumn (cell rows metColumn (from + k) w) w) g (eqb (cell rows orientationColumn (cell rows metColumn (from + k) w / 3) w) 1) y) (sym (whole-value rows w h from (to - from) k l W)))

@@ -8,7 +8,9 @@ use Rattle.table.specs.Table.{cell}
 use Rattle.table.specs.Columns.{slotColumn, orientationColumn, metColumn}
 use Rattle.slots.specs.Slots.{reachedAt}
 use Rattle.members.specs.Members.{beginOf}
+use Rattle.tangent.specs.declared.RawTangentSpace.{RawTangentSpace}
 use Rattle.subgroups.specs.Subgroups.{valueOf}
+use Rattle.subgroups.specs.Spans.{summed}
 
 -- the slot of the corner at row r is reached by what that corner brings, as a member of the group of n that stands from a place on; with its triangle's orientation
 unfoldable pub reachRow : ℕ → Float → ℕ → ℕ → List ℕ → ℕ → List ℕ → List ℕ
@@ -21,3 +23,11 @@ reachGroup rows h from to w a = upTo (to - from) (λ k. reachRow rows h from (to
 -- all groups in the order they started
 unfoldable pub reachAll : ℕ → Float → ℕ → ℕ → List ℕ → List ℕ → List ℕ
 reachAll rows h groups count w a = upTo groups (λ q. reachGroup rows h (beginOf rows groups count w q) (beginOf rows groups count w (suc q)) w) a
+
+-- the slot of the corner at row r is reached by g
+unfoldable pub reachWith : ℕ → List ℕ → RawTangentSpace → ℕ → List ℕ → List ℕ
+reachWith rows w g r a = reachedAt (cell rows slotColumn r w) g (eqb (cell rows orientationColumn (r / 3) w) 1) a
+
+-- the members of a group as they were met, all with its one sum
+unfoldable pub reachWhole : ℕ → ℕ → ℕ → List ℕ → List ℕ → List ℕ
+reachWhole rows from to w a = upTo (to - from) (λ k. reachWith rows w (summed rows from (to - from) w) (cell rows metColumn (from + k) w)) a

@@ -12,6 +12,16 @@ ghost use Rattle.spaces.specs.Spaces as spec;
 use groups::Counts;
 use tangent::RawTangentSpace;
 
+// The slot of the member at row r is reached by g.
+fn reach_one(work: &[u32], rows: usize, answer: &mut [u32], r: usize, g: RawTangentSpace)
+    requires { ⌜ (r < rows) × (columns * rows ≤ length (now work)) ⌝ }
+    ensures { λ _. ⌜ now (answer .exit) ≡ spec.reachWith rows (now (work .entry)) g r (now (answer .entry)) ⌝ }
+{
+    let slot = work[table::SLOT * rows + r] as usize;
+    let orientation = work[table::ORIENTATION * rows + r / 3] == 1;
+    slots::reach(answer, slot, g, orientation);
+}
+
 // The member at row r of the group whose members stand from one place to another. `before` is the sum of the marked, and so is the result.
 fn reach_member(
     work: &mut [u32],
@@ -26,15 +36,13 @@ fn reach_member(
     requires { ⌜ (r < rows) × (from ≤ to) × (to ≤ rows) × (columns * rows ≤ length (now work)) × Ranged rows to (now work) × (before ≡ evaluated rows from (to - from) (now work)) ⌝ }
     ensures { λ g. ⌜ (now (answer .exit) ≡ spec.reachRow rows threshold from (to - from) (now (work .entry)) r (now (answer .entry))) × (g ≡ evaluated rows from (to - from) (now (work .exit))) × Only (joinedColumn ∷ []) rows (now (work .entry)) (now (work .exit)) ⌝ }
 {
-    let slot = work[table::SLOT * rows + r] as usize;
-    let orientation = work[table::ORIENTATION * rows + r / 3] == 1;
     let g = subgroups::space_of(work, rows, threshold, r, from, to, before);
-    slots::reach(answer, slot, g, orientation);
+    reach_one(work, rows, answer, r, g);
     g
 }
 
-// Its members, one after the other.
-fn reach_group(
+// Its members, one after the other, each with a subgroup of its own.
+fn reach_each(
     work: &mut [u32],
     rows: usize,
     threshold: f32,
@@ -50,6 +58,36 @@ fn reach_group(
         let r = work[table::MET * rows + j] as usize;
         sum = reach_member(work, rows, threshold, answer, r, from, to, sum);
     }
+}
+
+// Its members, one after the other, all with the one sum.
+fn reach_whole(work: &[u32], rows: usize, answer: &mut [u32], from: usize, to: usize)
+    requires { ⌜ (from ≤ to) × (to ≤ rows) × (columns * rows ≤ length (now work)) × Ranged rows to (now work) ⌝ }
+    ensures { λ _. ⌜ now (answer .exit) ≡ spec.reachWhole rows from to (now (work .entry)) (now (answer .entry)) ⌝ }
+{
+    let g = subgroups::sum_of_all(work, rows, from, to);
+    for j in from..to {
+        reach_one(work, rows, answer, work[table::MET * rows + j] as usize, g);
+    }
+}
+
+// A group: where every member joins every other, one sum serves all.
+fn reach_group(
+    work: &mut [u32],
+    rows: usize,
+    threshold: f32,
+    answer: &mut [u32],
+    from: usize,
+    to: usize,
+)
+    requires { ⌜ (from ≤ to) × (to ≤ rows) × (columns * rows ≤ length (now work)) × Ranged rows to (now work) ⌝ }
+    ensures { λ _. ⌜ (now (answer .exit) ≡ spec.reachGroup rows threshold from to (now (work .entry)) (now (answer .entry))) × Only (joinedColumn ∷ []) rows (now (work .entry)) (now (work .exit)) ⌝ }
+{
+    if subgroups::whole(work, rows, threshold, from, to) {
+        reach_whole(work, rows, answer, from, to);
+        return;
+    }
+    reach_each(work, rows, threshold, answer, from, to);
 }
 
 // Group number q + 1.

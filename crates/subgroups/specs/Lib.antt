@@ -1,1 +1,2 @@
 pub mod Subgroups
+pub mod Spans

@@ -6,11 +6,13 @@ ghost use mathlib.Core.Bool.{true};
 ghost use mathlib.Core.List.{[], _∷_};
 ghost use Prim.Native.Nat.{_-_, _*_, _<_, _≤_};
 ghost use lib.ListN.{length};
-ghost use Rattle.table.specs.Columns.{columns, orderColumn, joinedColumn};
+ghost use Rattle.table.specs.Columns.{columns, metColumn, orderColumn, joinedColumn};
 ghost use Rattle.table.specs.Table.{cell, put};
 ghost use Rattle.view.specs.Frame.{Only};
 ghost use Rattle.subgroups.specs.Subgroups as spec;
+ghost use Rattle.subgroups.specs.Spans as spans;
 use definition::Sum;
+use hulls::Hull;
 use math::Vec3;
 use tangent::RawTangentSpace;
 
@@ -96,7 +98,7 @@ fn add_row(work: &[u32], rows: usize, r: usize, z: Sum) -> Sum
     requires { ⌜ (r < rows) × (columns * rows ≤ length (now work)) ⌝ }
     ensures { λ y. ⌜ y ≡ spec.addRow rows (now (work .entry)) r z ⌝ }
 {
-    if work[table::ANY * rows + r / 3] == 1 {
+    if work[table::ANY * rows + r / 3] == 1 { // it brings nothing
         return z;
     }
     let s = contributions::s_at(work, rows, r);
@@ -130,6 +132,83 @@ pub fn evaluate_tangent_space(work: &[u32], rows: usize, from: usize, to: usize)
     let mut z = sums::nothing();
     for p in from..to {
         z = add_marked(work, rows, p, z);
+    }
+    sums::finish(z)
+}
+
+// ---- a whole group
+
+// The hulls of the projected directions of some corners.
+pub struct Span {
+    pub s: Hull,
+    pub t: Hull,
+}
+
+// The corner at row r taken in; a corner of a `group_with_any` triangle joins all, and is left out.
+fn absorb(work: &[u32], rows: usize, r: usize, b: Span) -> Span
+    requires { ⌜ (r < rows) × (columns * rows ≤ length (now work)) ⌝ }
+    ensures { λ y. ⌜ y ≡ spans.absorbed rows (now (work .entry)) r b ⌝ }
+{
+    if work[table::ANY * rows + r / 3] == 1 {
+        return b;
+    }
+    let p = b.s;
+    let q = b.t;
+    let s = hulls::widen(p, contributions::s_at(work, rows, r));
+    let t = hulls::widen(q, contributions::t_at(work, rows, r));
+    Span { s, t }
+}
+
+// The p-th as met and the p-th in triangle order taken in.
+fn absorb_at(work: &[u32], rows: usize, p: usize, b: Span) -> Span
+    requires { ⌜ (p < rows) × (cell rows metColumn p (now work) < rows) × (cell rows orderColumn p (now work) < rows) × (columns * rows ≤ length (now work)) ⌝ }
+    ensures { λ y. ⌜ y ≡ spans.absorbedAt rows (now (work .entry)) p b ⌝ }
+{
+    let c = absorb(work, rows, work[table::MET * rows + p] as usize, b);
+    absorb(work, rows, work[table::ORDER * rows + p] as usize, c)
+}
+
+// The hulls of the group whose members stand from one place to another.
+fn span_of(work: &[u32], rows: usize, from: usize, to: usize) -> Span
+    requires { ⌜ (from ≤ to) × (to ≤ rows) × (columns * rows ≤ length (now work)) × spec.Ranged rows to (now work) ⌝ }
+    ensures { λ b. ⌜ b ≡ spans.spanOf rows from (to - from) (now (work .entry)) ⌝ }
+{
+    let s = hulls::nothing();
+    let t = hulls::nothing();
+    let mut b = Span { s, t };
+    for p in from..to {
+        b = absorb_at(work, rows, p, b);
+    }
+    b
+}
+
+// Whether each member of the group joins each other, by the hulls' bound; false says nothing.
+pub fn whole(work: &[u32], rows: usize, threshold: f32, from: usize, to: usize) -> bool
+    requires { ⌜ (from ≤ to) × (to ≤ rows) × (columns * rows ≤ length (now work)) × spec.Ranged rows to (now work) ⌝ }
+    ensures { λ r. ⌜ (r ≡ true → spans.Whole rows threshold from (to - from) (now (work .entry))) ⌝ }
+{
+    let b = span_of(work, rows, from, to);
+    let s = b.s;
+    let t = b.t;
+    hulls::above(s, threshold) & hulls::above(t, threshold)
+}
+
+// The contribution of the p-th in triangle order.
+fn add_at(work: &[u32], rows: usize, p: usize, z: Sum) -> Sum
+    requires { ⌜ (p < rows) × (cell rows orderColumn p (now work) < rows) × (columns * rows ≤ length (now work)) ⌝ }
+    ensures { λ y. ⌜ y ≡ spec.addRow rows (now (work .entry)) (cell rows orderColumn p (now (work .entry))) z ⌝ }
+{
+    add_row(work, rows, work[table::ORDER * rows + p] as usize, z)
+}
+
+// The sum of the whole group, made a tangent space.
+pub fn sum_of_all(work: &[u32], rows: usize, from: usize, to: usize) -> RawTangentSpace
+    requires { ⌜ (from ≤ to) × (to ≤ rows) × (columns * rows ≤ length (now work)) × spec.Ranged rows to (now work) ⌝ }
+    ensures { λ g. ⌜ g ≡ spans.summed rows from (to - from) (now (work .entry)) ⌝ }
+{
+    let mut z = sums::nothing();
+    for p in from..to {
+        z = add_at(work, rows, p, z);
     }
     sums::finish(z)
 }

@@ -2,6 +2,7 @@
 use native.Mathlib.Omega.{arith}
 use denote.Ref.{now}
 use Rattle.listing.proofs.Whole.{room-first, room-second, listed}
+use Rattle.listing.proofs.Pieces.{none-broken}
 use borrow.Author.Needs.{needs}
 use Rattle.listing.proofs.list_triangles.Statement.{statement}
 use Rattle.listing.proofs.list_triangles.Tie as tie
@@ -15,24 +16,47 @@ pass-requires c κs =
     let a = s .args in
     (s .pre .0, s .pre .1, room-first (now (a .sizes)) (now (a .positions)) (now (a .normals)) (now (a .texture)))
 
-pass-requires-2 : tie.Need-pass-requires-2
-pass-requires-2 c κs =
-    let one = c .before .before .before in
-    let s = one .before .before .before .before .before .before .before in
-    let a = s .args in
-    (s .pre .0, omega (arith, s .pre .1, one .pass .ensures .only .size), room-second (now (a .sizes)) (now (a .positions)) (now (a .normals)) (now (a .texture)) (one .pass .result) (one .pass .ensures .count))
+pieces-in-requires : tie.Need-pieces-in-requires
+pieces-in-requires c κs = search needs
 
 same-length : tie.Need-same-length
 same-length c = search needs
 
 returns : tie.Need-returns
 returns c =
+    let one = c .before .before .before .before in
+    let s = one .before .before .before .before .before .before .before in
+    let a = s .args in
+    let none = none-broken (now (a .sizes)) (now (a .positions)) (now (a .normals)) (now (a .texture)) (one .pass .result) (c .before .pieces-in .result) _ (c .before .pieces-in .ensures) (omega (arith, c .if1 .taken)) (one .pass .ensures .count) in
+    listed (now (a .sizes)) (now (a .positions)) (now (a .normals)) (now (a .texture)) (one .pass .result) (one .pass .result) (now (a .work)) _ _ (one .pass .ensures) none
+
+pass-requires-2 : tie.Need-pass-requires-2
+pass-requires-2 c κs =
+    let one = c .before .before .before .before .before in
+    let s = one .before .before .before .before .before .before .before in
+    let a = s .args in
+    (s .pre .0, omega (arith, s .pre .1, one .pass .ensures .only .size), room-second (now (a .sizes)) (now (a .positions)) (now (a .normals)) (now (a .texture)) (one .pass .result) (one .pass .ensures .count))
+
+same-length-2 : tie.Need-same-length-2
+same-length-2 c = search needs
+
+returns-2 : tie.Need-returns-2
+returns-2 c =
     let two = c .before .before in
-    let one = two .before .before .before .before in
+    let one = two .before .before .before .before .before .before in
     let s = one .before .before .before .before .before .before .before in
     let a = s .args in
     listed (now (a .sizes)) (now (a .positions)) (now (a .normals)) (now (a .texture)) (one .pass .result) (two .pass2 .result) (now (a .work)) _ _ (one .pass .ensures) (two .pass2 .ensures)
 
 pub list-triangles-spec : {M : Type 1} → statement M
 list-triangles-spec =
-    tie.close (tie.spec mul-rows pass-requires pass-requires-2 same-length returns)
+    tie.close
+    (tie.spec
+    mul-rows
+    pass-requires
+    pieces-in-requires
+    same-length
+    returns
+    pass-requires-2
+    same-length-2
+    returns-2)

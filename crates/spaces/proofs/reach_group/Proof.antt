@@ -1,103 +1,55 @@
 -- `spaces::reach_group` meets its contract. Assumes nothing.
-use Rattle.view.proofs.Frame.{only-none, only-trans, cell-kept}
-use Rattle.table.proofs.Loops.{upTo-more}
-use Rattle.subgroups.proofs.Laws.{ranged-kept}
-use Rattle.spaces.proofs.Kept.{member-kept}
-use Prim.Native.Nat.{ℕ, _+_, _-_, _*_, _≤_, _<_}
-use native.Mathlib.Nat.{le-antisymm}
-use native.Mathlib.Omega.{arith}
-use mathlib.Core.Path.{_≡_, refl, sym, ap, _∙_, subst}
-use mathlib.Core.List.{List, [], _∷_}
-use lib.ListN.{length}
-use Rattle.table.specs.Loop.{upTo}
-use Rattle.table.specs.Table.{cell}
-use Rattle.table.specs.Columns.{columns, metColumn, joinedColumn}
-use Rattle.view.specs.Frame.{Only}
-use Rattle.subgroups.specs.Subgroups.{evaluated}
-use Rattle.spaces.specs.Spaces.{reachRow, reachGroup}
+use mathlib.Core.Path.{_∙_}
+use mathlib.Core.List.{[], _∷_}
+use Rattle.table.specs.Columns.{joinedColumn}
+use Rattle.view.proofs.Frame.{only-none}
+use Rattle.spaces.proofs.Kept.{whole-group}
 use borrow.Author.Needs.{needs}
 use Rattle.spaces.proofs.reach_group.Statement.{statement}
 use Rattle.spaces.proofs.reach_group.Tie as tie
 
-abbrev Inv-loop : tie.InvT-loop
-Inv-loop work₀ rows threshold answer₀ from to sum₀ j₀ work answer sum j = (answer ≡ upTo (j - from) (λ k. reachRow rows threshold from (to - from) work₀ (cell rows metColumn (from + k) work₀)) answer₀) × (sum ≡ evaluated rows from (to - from) work) × Only (joinedColumn ∷ []) rows work₀ work × (from ≤ j) × (j ≤ to) × (length answer ≡ length answer₀) × (columns * rows ≤ length work)
+whole-requires : tie.Need-whole-requires
+whole-requires c κs = search needs
 
-abbrev μ-loop : tie.MeasureT-loop
-μ-loop work₀ rows threshold answer₀ from to sum₀ j₀ work answer sum j = to - j
+reach-whole-requires : tie.Need-reach-whole-requires
+reach-whole-requires c κs = search needs
 
-evaluate-tangent-space-requires : tie.Need-evaluate-tangent-space-requires Inv-loop μ-loop
-evaluate-tangent-space-requires c κs = search needs
-
-loop-holds : tie.Need-loop-holds Inv-loop μ-loop
-unfolding upTo
-loop-holds c =
-    let s = c .before .before .before .before in
-    let a = s .args in
-    let z : 0 ≡ a .from - a .from = omega arith in
-    (ap (λ n. upTo n (λ k. reachRow (a .rows) (a .threshold) (a .from) (a .to - a .from) (a .work .now) (cell (a .rows) metColumn (a .from + k) (a .work .now))) (a .answer .now)) z, c .evaluate-tangent-space .ensures, only-none (joinedColumn ∷ []) (a .rows) (a .work .now), omega arith, s .pre .0, refl, s .pre .2)
-
-mul-r : tie.Need-mul-r Inv-loop μ-loop
-mul-r c = search needs
-
-add-r : tie.Need-add-r Inv-loop μ-loop
-add-r c = search needs
-
-mul-r-2 : tie.Need-mul-r-2 Inv-loop μ-loop
-mul-r-2 c = search needs
-
-slice-read-r : tie.Need-slice-read-r Inv-loop μ-loop
-slice-read-r c = search needs
-
-cast-r : tie.Need-cast-r Inv-loop μ-loop
-cast-r c = let l = c .before .before .loop in omega (arith, c .slice-known3 .given (metColumn * c .before .before .before .before .before .before .before .args .rows + l .j))
-
-reach-member-requires : tie.Need-reach-member-requires Inv-loop μ-loop
-reach-member-requires c κs =
-    let i = c .before .before .before in
-    let l = i .before .loop in
-    let s = i .before .before .before .before .before .before in
-    let a = s .args in
-    let b = i .loop-test .taken in
-    (subst (λ x. x < a .rows) (sym (cell-kept (joinedColumn ∷ []) (a .rows) (a .work .now) _ (l .inv .2) metColumn (l .j) refl (omega (arith, b, s .pre .1)))) (s .pre .3 .met (l .j) b), s .pre .0, s .pre .1, l .inv .6, ranged-kept (a .rows) (a .work .now) _ (l .inv .2) (a .to) (s .pre .1) (s .pre .3), l .inv .1)
-
-add-j : tie.Need-add-j Inv-loop μ-loop
-add-j c = search needs
-
-loop-less : tie.Need-loop-less Inv-loop μ-loop
-loop-less c = search needs
-
-loop-again : tie.Need-loop-again Inv-loop μ-loop
-loop-again c =
-    let m = c .before .before .before .before in
-    let i = m .before .before .before .before in
-    let l = i .before .loop in
-    let s = i .before .before .before .before .before .before in
-    let a = s .args in
-    let b = i .loop-test .taken in
-    let e = m .reach-member .ensures in
-    let f : ℕ → List ℕ → List ℕ = λ k. reachRow (a .rows) (a .threshold) (a .from) (a .to - a .from) (a .work .now) (cell (a .rows) metColumn (a .from + k) (a .work .now)) in
-    let at : l .j ≡ a .from + (l .j - a .from) = omega (arith, l .inv .3) in
-    let more : (l .j - a .from) + 1 ≡ l .j + 1 - a .from = omega (arith, l .inv .3) in
-    (e .0 ∙ (member-kept (a .rows) (a .work .now) _ (l .inv .2) (a .threshold) (a .from) (a .to) (l .j) _ (s .pre .0) (s .pre .1) b (s .pre .3) ∙ ((λ z. reachRow (a .rows) (a .threshold) (a .from) (a .to - a .from) (a .work .now) (cell (a .rows) metColumn (at z) (a .work .now)) (l .inv .0 z)) ∙ (upTo-more (l .j - a .from) f (a .answer .now) ∙ ap (λ n. upTo n f (a .answer .now)) more))), e .1, only-trans (joinedColumn ∷ []) (a .rows) (a .work .now) _ _ (l .inv .2) (e .2), omega (arith, l .inv .3), omega (arith, b), m .reach-member .kept .1 .1 .1 .0 ∙ l .inv .5, omega (arith, l .inv .6, e .2 .size))
-
-same-length : tie.Need-same-length Inv-loop μ-loop
+same-length : tie.Need-same-length
 same-length c = search needs
 
-same-length-2 : tie.Need-same-length-2 Inv-loop μ-loop
+same-length-2 : tie.Need-same-length-2
 same-length-2 c = search needs
 
-returns : tie.Need-returns Inv-loop μ-loop
-unfolding reachGroup
+returns : tie.Need-returns
 returns c =
-    let l = c .before .loop in
-    let s = c .before .before .before .before .before .before in
-    let a = s .args in
-    let f : ℕ → List ℕ → List ℕ = λ k. reachRow (a .rows) (a .threshold) (a .from) (a .to - a .from) (a .work .now) (cell (a .rows) metColumn (a .from + k) (a .work .now)) in
-    (l .inv .0 ∙ ap (λ q. upTo (q - a .from) f (a .answer .now)) (le-antisymm (l .inv .4) (c .loop-test .left)), l .inv .2)
+    let r = c .before .before in
+    let t = r .before .before .before in
+    let w = t .before in
+    let a = w .before .before .before .before .args in
+    (r .reach-whole .ensures ∙ whole-group (a .rows) (a .threshold) (a .from) (a .to) (a .work .now) (a .answer .now) (w .whole .ensures (t .if1 .taken)), only-none (joinedColumn ∷ []) (a .rows) (a .work .now))
+
+reach-each-requires : tie.Need-reach-each-requires
+reach-each-requires c κs = search needs
+
+same-length-3 : tie.Need-same-length-3
+same-length-3 c = search needs
+
+same-length-4 : tie.Need-same-length-4
+same-length-4 c = search needs
+
+returns-2 : tie.Need-returns-2
+returns-2 c = search needs
 
 pub reach-group-spec : {M : Type 1} → statement M
 reach-group-spec =
     tie.close
     (tie.spec
-    Inv-loop μ-loop evaluate-tangent-space-requires loop-holds mul-r add-r mul-r-2 slice-read-r cast-r
-    reach-member-requires add-j loop-less loop-again same-length same-length-2 returns)
+    whole-requires
+    reach-whole-requires
+    same-length
+    same-length-2
+    returns
+    reach-each-requires
+    same-length-3
+    same-length-4
+    returns-2)

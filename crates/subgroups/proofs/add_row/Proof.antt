@@ -1,5 +1,9 @@
 -- `subgroups::add_row` meets its contract. Assumes nothing.
+use Prim.Native.Nat.{_/_}
+use native.Mathlib.Omega.{arith}
 use mathlib.Core.Path.{_∙_}
+use Rattle.table.specs.Table.{cell}
+use Rattle.table.specs.Columns.{anyColumn}
 use borrow.Author.Tests.{eq-eqb, ne-eqb}
 use Rattle.sums.specs.Sums.{weighedBy}
 use Rattle.subgroups.specs.Subgroups.{spaceAt, addRow}
@@ -21,7 +25,9 @@ shared-slice-read-if1 c = search needs
 
 returns : tie.Need-returns
 unfolding addRow
-returns c = simp (eq-eqb _ _ (c .if1 .taken))
+returns c =
+    let a = c .before .before .before .args in
+    simp (eq-eqb (cell (a .rows) anyColumn (a .r / 3) (a .work .now)) 1 (omega (arith, c .if1 .taken)))
 
 s-at-requires : tie.Need-s-at-requires
 s-at-requires c κs = search needs
@@ -90,8 +96,9 @@ returns-2 : tie.Need-returns-2
 unfolding addRow spaceAt
 returns-2 c =
     let e = c .before .before .before .before .before .before .before .before .before in
-    let z = c .before .before .before .before .before .before .before .before .before .before .before .before .args .z in
-    simp (ne-eqb _ _ (e .if1 .left))
+    let a = e .before .before .before .args in
+    let z = a .z in
+    simp (ne-eqb (cell (a .rows) anyColumn (a .r / 3) (a .work .now)) 1 (omega (arith, e .if1 .left)))
     (c .weigh .ensures
     ∙ (λ i. weighedBy z (c .before .number3 .ensures i)
     (record { s = c .before .before .before .before .before .before .before .before .s-at .ensures i; t = c .before .before .before .before .before .before .before .t-at .ensures i; «s_magnitude» = c .before .before .before .before .before .number .ensures i; «t_magnitude» = c .before .before .before .number2 .ensures i })))

@@ -1,0 +1,5 @@
+pub mod Signed
+pub mod Rounding
+pub mod Sums
+pub mod Products
+pub mod Covers
