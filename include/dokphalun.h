@@ -5,7 +5,7 @@
  *
  * A list is a pointer to its first element and a number of elements. The pointer is not null, not even for a list of no
  * elements. A lent list (answer, work, card) stands apart from every other list of the call. Any numbers whatever may be
- * handed in; each call ends, and a refusal alters no list. A call needs up to 1 MiB of stack.
+ * handed in; each call ends, and a refusal alters no list. A call needs some 8 KiB of stack.
  */
 #ifndef DOKPHALUN_H
 #define DOKPHALUN_H
@@ -20,7 +20,7 @@ extern "C" {
 #endif
 
 /* The greatest number of faces that is accepted. */
-#define DOKPHALUN_MOST_FACES 4096
+#define DOKPHALUN_MOST_FACES 65536
 /* The words of a slot, and of a card's record. */
 #define DOKPHALUN_SLOT_WORDS 10
 /* The words of work that a face needs. */
@@ -35,7 +35,7 @@ extern "C" {
 #endif
 
 /* What dokphalun_frames says: number 0, place 0 and how many slots it wrote; or a refusal's number, its place and 0.
- *   1  more than 4,096 faces
+ *   1  more than DOKPHALUN_MOST_FACES faces
  *   2  positions or normals are not three numbers a corner, or texture coordinates not two
  *   3  the threshold is NaN or infinite
  *   4  a corner of a face of 3 or 4 holds a NaN or infinity; place is the corner, counted from 0 over all faces

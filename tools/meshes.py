@@ -5,7 +5,7 @@ import math
 import random
 import struct
 
-from plain import GROUPS, Mesh
+from plain import GROUPS, MOST_FACES, Mesh
 
 UP, EAST = (0, 0, 1), (1, 0, 0)
 NAN, INF, MINUS_INF, MINUS_0, LEAST, MOST = "7FC00000", "7F800000", "FF800000", "80000000", "00000001", "7F7FFFFF"
@@ -61,17 +61,18 @@ def nth(k):
 def refusals():
     """Each refusal alone, its borders, its place, and which comes first."""
     many = lambda n, **lent: Mesh([0] * n, [], [], [], word(-1), **lent)
-    yield "4,097 faces of size 0: 1", many(4097, work=40)
-    yield "4,096 faces of size 0 and a short work list: 6 and not 1", many(4096, work=40)
-    m = many(4097, work=40)
+    most, more = f"{MOST_FACES:,}", f"{MOST_FACES + 1:,}"
+    yield f"{more} faces of size 0: 1", many(MOST_FACES + 1, work=40)
+    yield f"{most} faces of size 0 and a short work list: 6 and not 1", many(MOST_FACES, work=40)
+    m = many(MOST_FACES + 1, work=40)
     m.positions = [word(1.0)]
-    yield "4,097 faces and a position too many: 1 comes before 2", m
-    m = many(4096, work=8)
+    yield f"{more} faces and a position too many: 1 comes before 2", m
+    m = many(MOST_FACES, work=8)
     m.normals = [0]
-    yield "4,096 faces and a normal too many: 2", m
-    m = many(4097, work=3)
+    yield f"{most} faces and a normal too many: 2", m
+    m = many(MOST_FACES + 1, work=3)
     m.threshold, m.texture = word(NAN), [0]
-    yield "4,097 faces, a texture coordinate too many, threshold NaN: 1", m
+    yield f"{more} faces, a texture coordinate too many, threshold NaN: 1", m
     yield "no face, empty lists: accepted", mesh([])
     yield "no face, lists lent: accepted, nothing is altered", mesh([], answer=5, work=6)
     m = mesh([], answer=2)

@@ -10,6 +10,8 @@ MIN_NORMAL, LARGEST = 2.0**-126, 2.0**128 - 2.0**104
 TURN = struct.unpack("<f", struct.pack("<I", 0x31490FDB))[0]
 COSINES = [round(2**30 * math.cos(math.pi * k / 1024)) for k in range(1025)]
 ANSWER_BASE, WORK_BASE = 0xA5A50000, 0x5A5A0000
+MOST_FACES = 65536
+LIMIT_REFUSED, LIMIT_EXCEEDED = f"{MOST_FACES:,} faces are too many", f"{MOST_FACES + 1:,} faces are not too many"
 
 # Each slip with the group of rules that it breaks; the group's number is the one in the data of `replay`.
 GROUPS = [
@@ -29,7 +31,7 @@ GROUPS = [
 ]
 SLIPS = {
     "refusals": [
-        "4,096 faces are too many", "4,097 faces are not too many", "no faces are refused", "positions may have any length",
+        LIMIT_REFUSED, LIMIT_EXCEEDED, "no faces are refused", "positions may have any length",
         "normals may have any length", "texture may have any length", "longer lists pass", "a NaN threshold passes",
         "an infinite threshold passes", "a NaN passes", "an infinity passes", "positions are not looked at",
         "normals are not looked at", "texture is not looked at", "faces of every size are looked at", "the last bad corner",
@@ -604,7 +606,7 @@ def bad_corner(mesh, slip):
 def verdict(mesh, slip):
     """The refusal, as its number and place, or None."""
     f, c, s = len(mesh.sizes), mesh.corners(), mesh.slots()
-    limit = {"4,096 faces are too many": 4095, "4,097 faces are not too many": 4097}.get(slip, 4096)
+    limit = MOST_FACES + {LIMIT_REFUSED: -1, LIMIT_EXCEEDED: 1}.get(slip, 0)
     wrong = (lambda k, n: k < n) if slip == "longer lists pass" else (lambda k, n: k != n)
     lengths = {"positions may have any length": (0, 1, 1), "normals may have any length": (1, 0, 1), "texture may have any length": (1, 1, 0)}.get(slip, (1, 1, 1))
     two = any(on and wrong(len(l), n) for on, l, n in zip(lengths, (mesh.positions, mesh.normals, mesh.texture), (3 * c, 3 * c, 2 * c)))

@@ -5,6 +5,7 @@
 The meshes are tools/meshes.py's and, for slips that fewer than three of them show, random ones that show them. tools/plain.py says which slips a
 mesh shows: those with which the call would answer otherwise. It is held to the oracle on every mesh first. Nothing here is left to chance: a second
 run writes the same bytes."""
+import itertools
 import random
 import re
 import struct
@@ -42,7 +43,7 @@ def ask(oracle, meshes):
                 f.write(struct.pack("<7I", len(m.sizes), *(len(l) for l in lists), m.answer, m.work, m.threshold) + bytes(m.sizes))
                 for l in lists:
                     f.write(struct.pack(f"<{len(l)}I", *l))
-        subprocess.run([oracle, "--ext", f"{room}/meshes", "--bin", f"{room}/answers"], check=True, stderr=subprocess.DEVNULL)
+        subprocess.run([oracle, "--ext", f"{room}/meshes", "--rules", "e8", "--bin", f"{room}/answers"], check=True, stderr=subprocess.DEVNULL)
         data = open(f"{room}/answers", "rb").read()
     answers, at = [], 0
     for _ in meshes:
@@ -136,8 +137,8 @@ def record(m, answer):
     number, place, slots = answer[:3]
     lists = (m.positions, m.normals, m.texture)
     out = line([len(m.sizes), *(len(l) for l in lists), m.answer, m.work, m.threshold, number, place, slots])
-    for k in range(0, len(m.sizes), 64):
-        out += line(m.sizes[k : k + 64])
+    runs = [(len(list(faces)), size) for size, faces in itertools.groupby(m.sizes)]
+    out += line([n for run in runs for n in run]) if runs else ""
     for l, n in zip(lists, (3, 3, 2)):
         at = 0
         for size in m.sizes:

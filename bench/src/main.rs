@@ -4,12 +4,14 @@
 //! angle, which is slow) and prints how many differed (exit status 1 if any);
 //! `bench desk MESHES ANSWERS` compares the desk with the oracle's answers (tools/desk makes both files);
 //! `bench steps MESHES` compares the columns that steps 1 to 6 leave with a plain model's (tools/steps makes the file);
-//! `bench deep KIB` does the same with the deepest walk of 4,096 faces in a thread of so many KiB;
+//! `bench walks COUNT` compares the two walks of step 6 on random tables;
+//! `bench deep KIB` does the same with the deepest walk of 65,536 faces in a thread of so many KiB;
 //! `bench time` prints nanoseconds a call and the ratio to the processor's, all measured in one run.
 mod desk;
 mod files;
 mod plain;
 mod steps;
+mod walks;
 
 use std::hint::black_box;
 use std::time::Instant;
@@ -200,6 +202,7 @@ fn main() {
         ["check", step] => check(step.parse().expect("STEP is a number above 0")),
         ["desk", meshes, answers] => desk::check(meshes, answers),
         ["steps", meshes] => steps::check(meshes),
+        ["walks", count] => walks::compare(count.parse().expect("COUNT is a number")) == 0,
         ["deep", kib] => steps::deep(kib.parse().expect("KIB is a number")),
         ["time"] => {
             time();
@@ -207,7 +210,7 @@ fn main() {
             true
         }
         _ => {
-            eprintln!("usage: bench check STEP | bench desk MESHES ANSWERS | bench steps MESHES | bench deep KIB | bench time");
+            eprintln!("usage: bench check STEP | bench desk MESHES ANSWERS | bench steps MESHES | bench walks COUNT | bench deep KIB | bench time");
             std::process::exit(2);
         }
     };

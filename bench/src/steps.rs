@@ -2,8 +2,10 @@
 use crate::desk::judged;
 use crate::files::{Call, Words};
 use crate::word;
+use std::collections::HashMap;
 use std::fs::read;
 use std::hint::black_box;
+use std::thread::{Builder, scope};
 use std::time::Instant;
 
 unsafe extern "C" {
@@ -19,8 +21,20 @@ unsafe extern "C" {
         texture_count: usize,
         work: *mut u32,
         work_count: usize,
-    ) -> u64;
+    ) -> Four;
 }
+
+/// How many triangles are sound and there are, how many groups and members.
+#[repr(C)]
+struct Four {
+    sound: u32,
+    all: u32,
+    groups: u32,
+    members: u32,
+}
+
+/// The greatest number of faces that is accepted.
+const MOST_FACES: usize = 65_536;
 
 /// The columns of crate `table`, by name.
 const CORNER: usize = 2;
@@ -186,7 +200,8 @@ fn model(call: &Call) -> Model {
     let sound = triangles.len();
     triangles.extend(broken);
     let bits: Vec<[u32; 8]> = triangles.iter().flat_map(|t| t.corners.iter().map(Corner::bits)).collect();
-    let vertices: Vec<usize> = bits.iter().map(|b| bits.iter().position(|c| c == b).unwrap()).collect();
+    let mut first = HashMap::new();
+    let vertices: Vec<usize> = bits.iter().enumerate().map(|(r, b)| *first.entry(b).or_insert(r)).collect();
     let end = |r: usize| r - r % 3 + (r + 1) % 3;
     let key = |r: usize| {
         let (a, b) = (vertices[r], vertices[end(r)]);
@@ -197,8 +212,10 @@ fn model(call: &Call) -> Model {
     let mut links = vec![0u32; 3 * sound];
     for (i, &r) in sides.iter().enumerate() {
         let opposite = |&&u: &&usize| links[u] == 0 && vertices[u] == vertices[end(r)] && vertices[end(u)] == vertices[r];
+        let ends = |r: usize| (key(r).0, key(r).1);
+        let mut later = sides[i + 1..].iter().take_while(|&&u| ends(u) == ends(r));
         if links[r] == 0
-            && let Some(&u) = sides[i + 1..].iter().find(opposite)
+            && let Some(&u) = later.find(opposite)
         {
             links[r] = u as u32 + 1;
             links[u] = r as u32 + 1;
@@ -258,7 +275,7 @@ fn columns(call: &Call) -> (Vec<u32>, [usize; 4]) {
             work.len(),
         )
     };
-    (work, [48, 32, 16, 0].map(|shift| (counts >> shift) as u16 as usize))
+    (work, [counts.sound, counts.all, counts.groups, counts.members].map(|count| count as usize))
 }
 
 /// The words that the model asks for: column, row, word.
@@ -304,8 +321,9 @@ fn tally(m: &Model) -> [usize; 4] {
 fn wrong(call: &Call, m: &Model) -> Option<String> {
     let (work, found) = columns(call);
     let rows = 6 * call.sizes.len();
-    if found != tally(m) {
-        return Some(format!("counts {found:?}, expected {:?}", tally(m)));
+    let counts = tally(m);
+    if found != counts {
+        return Some(format!("counts {found:?}, expected {counts:?}"));
     }
     if (126 * call.sizes.len()..work.len()).any(|i| work[i] != 0x5A5A_0000 + i as u32) {
         return Some("a word past the columns".into());
@@ -314,8 +332,15 @@ fn wrong(call: &Call, m: &Model) -> Option<String> {
     Some(format!("expected (column, row, word) {word:?}"))
 }
 
+/// The stack of the model's walk, which calls itself, in KiB.
+const MODEL_KIB: usize = 1 << 20;
+
 /// Compares the columns with the model on every accepted mesh of an ext file.
 pub fn check(meshes: &str) -> bool {
+    within(MODEL_KIB, || check_all(meshes))
+}
+
+fn check_all(meshes: &str) -> bool {
     let meshes = read(meshes).expect("the meshes");
     let mut meshes = Words(&meshes);
     let (mut compared, mut differed, mut linked) = (0u64, 0u64, 0usize);
@@ -360,14 +385,19 @@ fn deepest(faces: usize) -> Call {
     call
 }
 
-/// Runs the deepest walk of 4,096 faces in a thread of so many KiB, and compares it with the model: its largest group has 8,192 corners.
+/// Runs something in a thread with a stack of so many KiB.
+fn within<T: Send>(kib: usize, run: impl FnOnce() -> T + Send) -> T {
+    scope(|s| Builder::new().stack_size(kib << 10).spawn_scoped(s, run).unwrap().join().unwrap())
+}
+
+/// Runs the deepest walk of as many faces as are accepted in a thread of so many KiB, and compares it with the model, whose walk calls itself: the largest group has two corners a face.
 pub fn deep(kib: usize) -> bool {
-    let call = deepest(4096);
-    let m = std::thread::scope(|s| std::thread::Builder::new().stack_size(256 << 20).spawn_scoped(s, || model(&call)).unwrap().join().unwrap());
+    let call = deepest(MOST_FACES);
+    let m = within(MODEL_KIB, || model(&call));
     let largest = m.members.iter().map(Vec::len).max().unwrap();
-    let what = std::thread::scope(|s| std::thread::Builder::new().stack_size(kib << 10).spawn_scoped(s, || wrong(&call, &m)).unwrap().join().unwrap());
-    println!("the deepest walk of 4,096 faces in a thread of {kib} KiB: a group of {largest} corners; {}", what.as_deref().unwrap_or("as the model has it"));
-    what.is_none() && largest == 8192
+    let what = within(kib, || wrong(&call, &m));
+    println!("the deepest walk of {MOST_FACES} faces in a thread of {kib} KiB: a group of {largest} corners; {}", what.as_deref().unwrap_or("as the model has it"));
+    what.is_none() && largest == 2 * MOST_FACES
 }
 
 /// A mesh of so many triangles: between two corners, each with a third of its own, all run the same way, or every other one the opposite way.
@@ -398,9 +428,9 @@ fn sheet(side: usize) -> Call {
     Call { sizes: vec![4; side * side], lists, threshold: 0, answer: usize::MAX, work: usize::MAX }
 }
 
-/// The least time of five runs of steps 1 to 6, in milliseconds, on meshes of a quarter, a half and the whole of 4,096 faces.
+/// The least time of five runs of steps 1 to 6, in milliseconds, on meshes of 1,024 faces to as many as are accepted.
 pub fn time() {
-    println!("steps 1 to 6, milliseconds, and the ratio to half as many faces:");
+    println!("steps 1 to 6, milliseconds, and the ratio to a quarter as many faces:");
     for (name, make) in [
         ("sheet of quads", (|f: usize| sheet((f as f64).sqrt() as usize)) as fn(usize) -> Call),
         ("book, all one way", |f| book(f, false)),
@@ -408,7 +438,7 @@ pub fn time() {
         ("the deepest walk", deepest),
     ] {
         let mut last = f64::NAN;
-        for faces in [1024, 2048, 4096] {
+        for faces in [1024, 4096, 16_384, MOST_FACES] {
             let call = make(faces);
             let least = (0..5)
                 .map(|_| {

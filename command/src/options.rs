@@ -3,16 +3,17 @@ use crate::frames::AskedFrames;
 use crate::papers::Papers;
 use crate::read::AskedRead;
 use crate::stop::{Status, Stop};
+use dokphalun::MOST_FACES;
 use std::ffi::OsString;
 use std::io::{Write, stdout};
 use std::path::PathBuf;
 use std::str::FromStr;
 
-/// What `dokphalun help` prints.
+/// What `dokphalun help` prints; MOST_FACES stands for the number.
 const HELP: &str = "dokphalun: tangent frames of a scanned mesh. An absent reading is not a good reading.
 
   dokphalun frames MESH -o CARD [--threshold COS | --angle DEGREES] [--report CSV] [--picture SVG]
-      MESH is a PLY or OBJ file with normals and texture coordinates, of at most 4,096 faces.
+      MESH is a PLY or OBJ file with normals and texture coordinates, of at most MOST_FACES faces.
       Frames of all corners of faces of 3 or 4 are written to CARD, and each corner without one is named.
       Tangents of one corner are joined up to an angle; by default there is no limit (180 degrees, cosine -1).
   dokphalun read CARD --total N [--mesh MESH] [--report CSV] [--picture SVG]
@@ -34,7 +35,8 @@ pub enum Task {
 
 /// Prints the help.
 pub fn help() -> Status {
-    let _ = stdout().write_all(HELP.as_bytes());
+    let text = HELP.replace("MOST_FACES", &MOST_FACES.to_string());
+    let _ = stdout().write_all(text.as_bytes());
     Status::Good
 }
 

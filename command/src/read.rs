@@ -5,11 +5,12 @@ use crate::say;
 use crate::state::{BAD, Known, State, Tally};
 use crate::stop::{Status, Stop};
 use crate::surface::Surface;
-use dokphalun::{BLOCK_BYTES, BLOCK_RECORDS, Buffers, MOST_FACES, Record, Refusal};
+use dokphalun::{BLOCK_BYTES, BLOCK_RECORDS, Buffers, MOST_FACES, MOST_SLOTS, Record, Refusal};
 use std::path::{Path, PathBuf};
 
-/// The greatest total that is read here. A mesh has at most 16,384 slots.
+/// The greatest total that is read here: the slots of every mesh, and a mistyped total does not take all memory.
 const MOST_RECORDS: u32 = 1_000_000;
+const _: () = assert!(MOST_SLOTS <= MOST_RECORDS as usize);
 
 /// What is asked for.
 pub struct AskedRead {

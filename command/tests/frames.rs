@@ -111,15 +111,15 @@ fn a_refused_mesh_writes_nothing() {
     ran.ends(4, "What to do: scan that place again");
     assert_eq!(room.names(), ["nan.ply", "old.card"]);
     assert_eq!(room.text("old.card"), "as it was");
-    let many: Vec<&[usize]> = vec![FACES[2]; 4097];
+    let many: Vec<&[usize]> = vec![FACES[2]; 65_537];
     room.put("many.ply", shapes::ply_bytes(&many));
     room.run("frames many.ply -o m.card")
-        .ends(4, "refusal 1: 4097 faces; at most 4096");
-    room.run("read old.card --total 12291 --mesh many.ply")
-        .ends(4, "refusal 1: 4097 faces");
+        .ends(4, "refusal 1: 65537 faces; at most 65536");
+    room.run("read old.card --total 196611 --mesh many.ply")
+        .ends(4, "refusal 1: 65537 faces");
     room.put("full.ply", shapes::ply_bytes(&many[1..]));
     room.run("frames full.ply -o f.card")
-        .ends(0, "all 12288 slots are present");
+        .ends(0, "all 196608 slots are present");
     room.run("frames full.ply -o g.card --threshold nan")
         .ends(4, "refusal 3");
     assert_eq!(

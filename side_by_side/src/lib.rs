@@ -13,6 +13,7 @@ pub mod runner;
 pub mod shapes;
 pub mod shrink;
 pub mod spoil;
+pub mod stack;
 pub mod svg;
 pub mod tally;
 pub mod text;

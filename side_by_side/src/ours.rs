@@ -1,5 +1,6 @@
 //! The call of the proved archive.
 use crate::mesh::Mesh;
+use crate::stack;
 
 /// What a call says: the number of a refusal and its place, or 0 and 0; and how many slots were written.
 #[repr(C)]
@@ -38,6 +39,9 @@ unsafe extern "C" {
 
 /// How many words stand on each side of a lent list, to show that nothing outside it is altered.
 const GUARD: usize = 16;
+
+/// From so many faces on ours is called in a thread of little stack.
+const LARGE: usize = 4096;
 
 /// The words of an answer list before a call: word i is A5A50000 + i.
 pub fn fresh_answer(count: usize) -> Vec<u32> {
@@ -104,7 +108,12 @@ pub fn left(mesh: &Mesh) -> Result<Left, String> {
     let handed = mesh.clone();
     let mut answer = Guarded::new(fresh_answer(mesh.answer));
     let mut work = Guarded::new(fresh_work(mesh.work));
-    let outcome = call(&handed, answer.list(), work.list());
+    let mut run = || call(&handed, answer.list(), work.list());
+    let outcome = if mesh.sizes.len() < LARGE {
+        run()
+    } else {
+        stack::within(stack::OURS, run)
+    };
     let ((answer, answer_stands), (work, work_stands)) = (answer.taken(), work.taken());
     if handed != *mesh {
         return Err("ours altered what was handed in".into());

@@ -2,14 +2,12 @@
 use crate::compare::examine;
 use crate::kinds::Kind;
 use crate::spoil::Spoil;
+use crate::stack;
 use crate::tally::Tally;
 use std::sync::atomic::{AtomicU64, Ordering::Relaxed};
 use std::sync::mpsc::{RecvTimeoutError, Sender, channel};
 use std::thread::{Builder, available_parallelism, scope};
 use std::time::Duration;
-
-/// The stack of a thread that compares: the crate's walk calls itself for every face of a fan.
-const STACK: usize = 256 << 20;
 
 /// How often a line says how far a run has come.
 const PROGRESS: Duration = Duration::from_secs(10);
@@ -48,7 +46,7 @@ pub fn run(plan: Plan) -> Ran {
         for _ in 0..threads {
             let (sender, progress) = (sender.clone(), &progress);
             Builder::new()
-                .stack_size(STACK)
+                .stack_size(stack::CRATE)
                 .spawn_scoped(scope, move || work(plan, progress, sender))
                 .expect("no thread");
         }
@@ -62,18 +60,6 @@ pub fn run(plan: Plan) -> Ran {
         }
     });
     ran
-}
-
-/// Runs something in a thread with a stack that is large enough for the crate.
-pub fn with_stack<T: Send>(run: impl FnOnce() -> T + Send) -> T {
-    scope(|scope| {
-        Builder::new()
-            .stack_size(STACK)
-            .spawn_scoped(scope, run)
-            .expect("no thread")
-            .join()
-            .expect("it panicked")
-    })
 }
 
 /// Takes one case after the other until all are taken.

@@ -1,5 +1,6 @@
 //! The shapes that times are measured on.
 use crate::mesh::{Corner, Mesh, corner};
+use crate::theirs::MOST_FACES;
 use std::f64::consts::TAU;
 
 /// A shape.
@@ -41,6 +42,15 @@ impl Shape {
     /// True where one group has a member in every face.
     pub fn is_fan(self) -> bool {
         !matches!(self, Shape::Tube | Shape::Sheet)
+    }
+
+    /// The most faces on which ours, and then the crate, is measured: minutes a call are not waited for.
+    pub fn measured_to(self) -> [usize; 2] {
+        match self {
+            Shape::Tube | Shape::Sheet => [MOST_FACES; 2],
+            Shape::Fan | Shape::QuadFan => [MOST_FACES, 16_384],
+            Shape::TurningFan => [4096; 2],
+        }
     }
 
     /// The shape in at most so many faces; a tube or a sheet of 2^k faces has just that many.

@@ -12,7 +12,7 @@ const GAP: f64 = 36.0;
 const ROW_GAP: f64 = 46.0;
 
 /// Ends of both scales: faces, and powers of ten of milliseconds.
-const FACES: [f64; 2] = [64.0, 4096.0];
+const FACES: [f64; 2] = [64.0, 65_536.0];
 
 /// The colours of the three, and how their lines are dashed.
 const STROKES: [(&str, &str); 3] = [("#c2410c", "6 3"), ("#78716c", "2 3"), ("#1d4ed8", "")];
@@ -72,8 +72,8 @@ pub fn picture(all: &[Measured]) -> String {
 /// The powers of ten around all times.
 fn decades(all: &[Measured]) -> Decades {
     let times = || {
-        all.iter()
-            .flat_map(|one| one.times.map(|time| time.best.log10()))
+        let measured = all.iter().flat_map(|one| one.times);
+        measured.flatten().map(|time| time.best.log10())
     };
     let (low, high) = (
         times().fold(f64::MAX, f64::min),
@@ -150,7 +150,7 @@ fn frame(svg: &mut String, decades: Decades, named: bool) {
             .unwrap();
         }
     }
-    for faces in [64, 256, 1024, 4096] {
+    for faces in [64, 512, 4096, 65_536] {
         let (x, text) = (across(f64::from(faces)), HIGH + 16.0);
         writeln!(
             svg,
@@ -177,8 +177,11 @@ fn time_name(decade: i32) -> String {
 /// The times of one of the three, as a line with dots.
 fn line(svg: &mut String, decades: Decades, who: usize, all: &[&Measured]) {
     let (colour, dash) = STROKES[who];
-    let place = |one: &&Measured| (across(one.faces as f64), down(one.times[who].best, decades));
-    let places: Vec<(f64, f64)> = all.iter().map(place).collect();
+    let place = |one: &&Measured| {
+        let time = one.times[who]?;
+        Some((across(one.faces as f64), down(time.best, decades)))
+    };
+    let places: Vec<(f64, f64)> = all.iter().filter_map(place).collect();
     let path: Vec<String> = places
         .iter()
         .map(|(x, y)| format!("{x:.1},{y:.1}"))

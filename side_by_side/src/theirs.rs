@@ -4,6 +4,9 @@ use crate::ours::{Left, Outcome, fresh_answer, fresh_work};
 use bevy_mikktspace::{Geometry, Ops, TangentSpace, generate_tangents_with_threshold};
 use std::panic::{AssertUnwindSafe, catch_unwind};
 
+/// The greatest number of faces that is accepted.
+pub const MOST_FACES: usize = 65_536;
+
 /// A mesh as the crate asks for it, and the list that takes its frames.
 pub struct Asked<'a> {
     mesh: &'a Mesh,
@@ -110,7 +113,7 @@ fn unfit_corner(mesh: &Mesh) -> Option<usize> {
 pub fn refusal(mesh: &Mesh) -> Option<(u32, u32)> {
     let corners = mesh.corners();
     let lengths = [mesh.positions.len(), mesh.normals.len(), mesh.texture.len()];
-    if mesh.sizes.len() > 4096 {
+    if mesh.sizes.len() > MOST_FACES {
         return Some((1, 0));
     }
     if lengths != [3 * corners, 3 * corners, 2 * corners] {

@@ -33,34 +33,40 @@ pub struct Measured {
     pub threshold: f32,
     pub faces: usize,
     pub runs: usize,
-    /// In the order of the names.
-    pub times: [Time; 3],
+    /// In the order of the names; none of the crate where it is not measured.
+    pub times: [Option<Time>; 3],
 }
 
 /// A mesh that is measured, the lists that are lent, and the times so far.
 pub struct Course {
     shape: Shape,
     mesh: Mesh,
+    /// Whether the crate is measured too.
+    both: bool,
     answers: [Vec<u32>; 3],
     work: Vec<u32>,
-    rounds: Vec<[f64; 3]>,
+    rounds: Vec<[Option<f64>; 3]>,
 }
 
 impl Course {
     /// A shape in so many faces, run once without counting: ours and the crate have to give the same words.
     pub fn new(shape: Shape, threshold: f32, faces: usize) -> Course {
         let mesh = shape.mesh(faces, threshold);
-        let mut answers = [0; 3].map(|_| vec![0; mesh.answer]);
-        let mut work = vec![0; mesh.work];
-        round(&mesh, &mut answers, &mut work);
-        assert!(answers[0] == answers[2], "ours differs from the crate");
-        Course {
+        let mut course = Course {
             shape,
-            mesh,
-            answers,
-            work,
+            both: faces <= shape.measured_to()[1],
+            answers: [0; 3].map(|_| vec![0; mesh.answer]),
+            work: vec![0; mesh.work],
             rounds: vec![],
-        }
+            mesh,
+        };
+        course.round();
+        let [document, _, own] = &course.answers;
+        assert!(
+            !course.both || document == own,
+            "ours differs from the crate"
+        );
+        course
     }
 
     /// How many faces there are.
@@ -71,14 +77,27 @@ impl Course {
     /// Measures so many rounds more.
     pub fn run(&mut self, rounds: usize) {
         for _ in 0..rounds {
-            let times = round(&self.mesh, &mut self.answers, &mut self.work);
+            let times = self.round();
             self.rounds.push(times);
         }
     }
 
+    /// One run of each, one after the other, so that what else the machine does falls on all of them; in milliseconds.
+    fn round(&mut self) -> [Option<f64>; 3] {
+        let (mesh, work) = (&self.mesh, &mut self.work);
+        let [document, processor, own] = &mut self.answers;
+        [
+            self.both.then(|| timed_crate::<Document>(mesh, document)),
+            self.both.then(|| timed_crate::<StdOps>(mesh, processor)),
+            Some(timed(|| {
+                assert!(ours::call(mesh, own, work).number == 0, "ours refuses")
+            })),
+        ]
+    }
+
     /// The times of all rounds.
     pub fn measured(&self) -> Measured {
-        let of = |who: usize| self.rounds.iter().map(|round| round[who]).collect();
+        let of = |who: usize| self.rounds.iter().filter_map(|round| round[who]).collect();
         Measured {
             shape: self.shape,
             threshold: f32::from_bits(self.mesh.threshold),
@@ -87,16 +106,6 @@ impl Course {
             times: [0, 1, 2].map(|who| summary(of(who))),
         }
     }
-}
-
-/// One run of each, one after the other, so that what else the machine does falls on all of them; in milliseconds.
-fn round(mesh: &Mesh, answers: &mut [Vec<u32>; 3], work: &mut [u32]) -> [f64; 3] {
-    let [document, processor, own] = answers;
-    [
-        timed_crate::<Document>(mesh, document),
-        timed_crate::<StdOps>(mesh, processor),
-        timed(|| assert!(ours::call(mesh, own, work).number == 0, "ours refuses")),
-    ]
 }
 
 /// The time that the crate takes.
@@ -112,18 +121,18 @@ fn timed(run: impl FnOnce()) -> f64 {
     start.elapsed().as_secs_f64() * 1e3
 }
 
-/// The best and the median.
-fn summary(mut times: Vec<f64>) -> Time {
+/// The best and the median, if there was a run.
+fn summary(mut times: Vec<f64>) -> Option<Time> {
     times.sort_by(f64::total_cmp);
-    Time {
-        best: times[0],
+    Some(Time {
+        best: *times.first()?,
         median: times[times.len() / 2],
-    }
+    })
 }
 
 impl Measured {
     /// How many times as long as another ours took, best against best.
-    pub fn ratio(&self, other: usize) -> f64 {
-        self.times[2].best / self.times[other].best
+    pub fn ratio(&self, other: usize) -> Option<f64> {
+        Some(self.times[2]?.best / self.times[other]?.best)
     }
 }

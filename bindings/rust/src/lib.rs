@@ -1,8 +1,8 @@
 //! Tangent frames for scanned steel: safe calls of the proved archive libdokphalun.a.
 //!
 //! A mesh goes in, and for each corner of a face of 3 or 4 comes out a [`Reading`]: a frame, or the plain word that there
-//! is none. An absent reading is not a good reading, so it is a case of its own and never a row of zeros. Calls of the
-//! archive need up to 1 MiB of stack. docs/PROGRAMMERS.md has whole programs.
+//! is none. An absent reading is not a good reading, so it is a case of its own and never a row of zeros.
+//! docs/PROGRAMMERS.md has whole programs.
 mod archive;
 mod buffers;
 mod card;
@@ -13,7 +13,7 @@ mod refusal;
 
 pub use buffers::{Answer, Buffers};
 pub use card::{BLOCK_BYTES, BLOCK_RECORDS, Card, Next, append_blocks, next_block, write_card};
-pub use mesh::{MOST_FACES, Mesh, Place, corners, slots, takes_slots};
+pub use mesh::{MOST_FACES, MOST_SLOTS, Mesh, Place, corners, slots, takes_slots};
 pub use packed::{PACKED_NUMBERS, Packed, pack, unpack};
 pub use reading::{Frame, Reading, Record};
 pub use refusal::{CardRefusal, PackRefusal, Refusal};

@@ -2,7 +2,10 @@
 use std::fmt;
 
 /// The greatest number of faces that is accepted.
-pub const MOST_FACES: usize = 4096;
+pub const MOST_FACES: usize = 65_536;
+
+/// The greatest number of slots that a mesh can have: four a face.
+pub const MOST_SLOTS: usize = 4 * MOST_FACES;
 
 /// A mesh: lists that stand corner by corner in face order. Nothing is checked here; the archive checks all of it, once.
 #[derive(Clone, Copy, Debug)]

@@ -1,5 +1,5 @@
 //! Frames, refusals and buffers through the archive.
-use dokphalun::{Buffers, Frame, MOST_FACES, Mesh, Place, Reading, Refusal};
+use dokphalun::{Buffers, Frame, Mesh, Place, Reading, Refusal};
 
 /// Document 01's sample 1, in numbers: one triangle.
 const POSITIONS: [[f32; 3]; 3] = [[0.0, 0.0, 0.0], [1.0, 0.0, 0.0], [0.0, 1.0, 0.0]];
@@ -71,14 +71,6 @@ fn faces_without_a_slot_are_passed_over() {
 #[test]
 fn refusals_say_number_place_and_why() {
     let refused = |mesh, threshold| Buffers::new().frames(mesh, threshold).unwrap_err();
-    let sizes = vec![0; MOST_FACES + 1];
-    let many = Mesh {
-        sizes: &sizes,
-        positions: &[],
-        normals: &[],
-        texture: &[],
-    };
-    assert_eq!(refused(many, -1.0), Refusal::TooManyFaces { faces: 4097 });
     let normals = &NORMALS[1..];
     assert_eq!(
         refused(Mesh { normals, ..SAMPLE }, -1.0),

@@ -72,8 +72,9 @@ starred =
     (sameWhole (Angle′.wholeOf (number 0xbf35_04f3)) (negℤ (pos 759250112))) ∷
     (sameWhole (Angle′.wholeOf (number 0x3000_0000)) (pos 0)) ∷
     (sameWhole (Angle′.wholeOf (number 0x8000_0000)) (pos 0)) ∷
-    (eqb (Outcome′.outcome (replicate 4097 3) [] [] [] nan [] [] .number) 1) ∷
-    (eqb (Outcome′.outcome (replicate 4096 3) [] [] [] nan [] [] .number) 2) ∷
+    (eqb (Outcome′.outcome (replicate 65537 3) [] [] [] nan [] [] .number) 1) ∷
+    (eqb (Outcome′.outcome (replicate 65536 3) [] [] [] nan [] [] .number) 2) ∷
+    (not (Lists′.has (λ r. r .applies) (Desk′.table (replicate 65536 0) [] [] [] (number 0xbf80_0000) 0 8388608))) ∷
     (eqb (Handed′.slotCount (5 ∷ 2 ∷ 0 ∷ [])) 0) ∷
     (eqb (Outcome′.outcome (5 ∷ []) (numbers (0 ∷ 0 ∷ 0 ∷ 0 ∷ 0 ∷ 0 ∷ 0 ∷ 0 ∷ 0 ∷ 0 ∷ 0 ∷ 0 ∷ 0 ∷ 0 ∷ 0x7fc0_0000 ∷ [])) (numbers (0 ∷ 0 ∷ 0 ∷ 0 ∷ 0 ∷ 0 ∷ 0 ∷ 0 ∷ 0 ∷ 0 ∷ 0 ∷ 0 ∷ 0 ∷ 0 ∷ 0 ∷ [])) (numbers (0 ∷ 0 ∷ 0 ∷ 0 ∷ 0 ∷ 0 ∷ 0 ∷ 0 ∷ 0 ∷ 0 ∷ [])) (number 0xbf80_0000) [] (replicate 256 9) .number) 0) ∷
     (eqb (Outcome′.outcome (3 ∷ []) (numbers (0 ∷ 0 ∷ 0 ∷ 0 ∷ 0 ∷ 0 ∷ 0 ∷ 0 ∷ 0x7fc0_0000 ∷ [])) (numbers (0 ∷ 0 ∷ 0 ∷ 0 ∷ 0 ∷ 0 ∷ 0 ∷ 0 ∷ 0 ∷ [])) (numbers (0 ∷ 0 ∷ 0 ∷ 0 ∷ 0 ∷ 0 ∷ [])) (number 0xbf80_0000) [] (replicate 256 9) .number) 4) ∷

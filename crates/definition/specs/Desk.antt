@@ -47,7 +47,7 @@ unfoldable pub orZero : Option ℕ → ℕ
 orZero none = 0
 orZero (some i) = i
 
--- 1: 'F is above 4,096'
+-- 1: 'F is above 65,536'
 unfoldable pub tooMany : List ℕ → Bool
 tooMany sizes = ltb faceLimit (length sizes)
 

@@ -1,9 +1,9 @@
 -- The numbers of document 01 that later requests may move, each in one place. (The words of a slot are `slotWords` of crate `tangent`.) Definitions only.
 use Prim.Native.Nat.{ℕ}
 
--- refusal 1: 'F is above 4,096'
+-- refusal 1: 'F is above 65,536'
 abbrev pub faceLimit : ℕ
-faceLimit = 4096
+faceLimit = 65536
 
 -- refusal 6 and acceptance: '128F' words of the work list
 abbrev pub workWords : ℕ

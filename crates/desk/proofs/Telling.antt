@@ -44,13 +44,13 @@ module _ (q : Asked) where
   abbrev Told : Verdict → Type 0
   Told v = v ≡ told (verdict (q .sizes) (q .ps) (q .ns) (q .ts) (q .h) (q .answer) (q .work))
 
-  pub many : 4096 < length (q .sizes) → IsMany true
+  pub many : 65536 < length (q .sizes) → IsMany true
   unfolding tooMany
-  many l = lt-ltb 4096 (length (q .sizes)) l
+  many l = lt-ltb 65536 (length (q .sizes)) l
 
-  pub few : length (q .sizes) ≤ 4096 → IsMany false
+  pub few : length (q .sizes) ≤ 65536 → IsMany false
   unfolding tooMany
-  few l = le-ltb 4096 (length (q .sizes)) l
+  few l = le-ltb 65536 (length (q .sizes)) l
 
   pub fits : (n : ℕ) → n ≡ cornerCount (q .sizes) → misfit (q .sizes) (q .ps) (q .ns) (q .ts) ≡ unfit n (length (q .ps)) (length (q .ns)) (length (q .ts))
   unfolding misfit

@@ -100,7 +100,7 @@ fn bad_by_now(
     bad_face(positions, normals, texture, from, size)
 }
 
-// One pass over all lists: C, S, and the lowest such corner of all faces of 3 or 4, counted over all C. C is at most 255 * 4,096, so no sum overflows.
+// One pass over all lists: C, S, and the lowest such corner of all faces of 3 or 4, counted over all C. C is at most 255 * 65,536, so no sum overflows.
 fn look_over(sizes: &[u8], positions: &[f32], normals: &[f32], texture: &[f32]) -> Seen
     requires { ⌜ length (now sizes) ≤ faceLimit ⌝ }
     ensures { λ r. ⌜ (r .corners ≡ cornerCount (now (sizes .entry))) × (r .slots ≡ slotCount (now (sizes .entry))) × (r .bad ≡ spec.found (desk.badCorner 0 (meshFrom (now (positions .entry)) (now (normals .entry)) (now (texture .entry)) 0 (now (sizes .entry))))) ⌝ }
@@ -170,7 +170,7 @@ pub fn judge(
 ) -> Verdict
     ensures { λ r. ⌜ r ≡ spec.told (desk.verdict (now (sizes .entry)) (now (positions .entry)) (now (normals .entry)) (now (texture .entry)) threshold answer work) ⌝ }
 {
-    if 4096 < sizes.len() {
+    if 65536 < sizes.len() {
         return said(1, 0);
     }
     let seen = look_over(sizes, positions, normals, texture);

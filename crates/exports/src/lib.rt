@@ -1,10 +1,15 @@
 // Proved functions as exports, for the bench and for the comparison with Rust. No part of the user's archive.
 ghost use mathlib.Core.Path.{_≡_};
+ghost use mathlib.Core.Bool.{true};
+ghost use Prim.Native.Nat.{ℕ, _*_, _<_, _≤_};
+ghost use lib.ListN.{length};
 ghost use Rattle.angle.specs.Angle.{angle};
 ghost use Rattle.definition.specs.Desk.{verdict};
 ghost use Rattle.desk.specs.Verdict.{told};
 ghost use Rattle.exports.specs.Packed.{packed};
 ghost use Rattle.root.specs.Root.{sqrt};
+ghost use Rattle.table.specs.Columns.{columns, linkColumn};
+ghost use Rattle.table.specs.Table.{cell};
 
 // The root of document 01.
 #[no_mangle]
@@ -53,7 +58,21 @@ pub extern "C" fn export_judge(
     (v.number as u64) * 0x1_0000_0000 + v.place as u64
 }
 
-// Steps 1 to 6 on the columns of the work list. Four numbers of 16 bits: how many triangles are sound and there are, how many groups and members. Lists that refusal 1 or 6 would catch are left as they are.
+// How many triangles are sound and there are, how many groups and members.
+#[repr(C)]
+pub struct Four {
+    pub sound: u32,
+    pub all: u32,
+    pub groups: u32,
+    pub members: u32,
+}
+
+// A count as a word.
+fn word(n: usize) -> u32 {
+    (n % 0x1_0000_0000) as u32
+}
+
+// Steps 1 to 6 on the columns of the work list. Lists that refusal 1 or 6 would catch are left as they are.
 #[no_mangle]
 pub extern "C" fn export_groups(
     sizes: &[u8],
@@ -61,15 +80,93 @@ pub extern "C" fn export_groups(
     normals: &[f32],
     texture: &[f32],
     work: &mut [u32],
-) -> u64 {
-    if 4096 < sizes.len() {
-        return 0;
+) -> Four {
+    if 65536 < sizes.len() {
+        return Four {
+            sound: 0,
+            all: 0,
+            groups: 0,
+            members: 0,
+        };
     }
     if work.len() < 128 * sizes.len() {
-        return 0;
+        return Four {
+            sound: 0,
+            all: 0,
+            groups: 0,
+            members: 0,
+        };
     }
     let c = grouped::group_mesh(sizes, positions, normals, texture, work);
-    let triangles = (c.sound as u64 % 0x1_0000) * 0x1_0000 + c.all as u64 % 0x1_0000;
-    let corners = (c.groups as u64 % 0x1_0000) * 0x1_0000 + c.members as u64 % 0x1_0000;
-    triangles * 0x1_0000_0000 + corners
+    Four {
+        sound: word(c.sound),
+        all: word(c.all),
+        groups: c.groups,
+        members: word(c.members),
+    }
+}
+
+// ---- the two walks of step 6, to compare them: on columns that hold anything whatever
+
+// The rows of 4,096 faces: so far the old walk is for comparison.
+const OLD_ROWS: usize = 24576;
+
+// Whether each link leads to a side of the triangles.
+fn links_fit(work: &[u32], rows: usize, tris: usize) -> bool
+    requires { ⌜ (3 * tris ≤ rows) × (columns * rows ≤ length (now work)) ⌝ }
+    ensures { λ b. ⌜ (b ≡ true → (r : ℕ) → r < 3 * tris → cell rows linkColumn r (now (work .entry)) ≤ 3 * tris) ⌝ }
+{
+    let mut r = 0;
+    while r < 3 * tris {
+        if 3 * tris < work[table::LINK * rows + r] as usize {
+            return false;
+        }
+        r += 1;
+    }
+    true
+}
+
+// Whether a walk may be called on a list of at most so many rows.
+fn may_walk(work: &[u32], rows: usize, tris: usize, most: usize) -> bool
+    ensures { λ b. ⌜ (b ≡ true → (3 * tris ≤ rows) × (columns * rows ≤ length (now (work .entry))) × (rows < 4294967295) × ((r : ℕ) → r < 3 * tris → cell rows linkColumn r (now (work .entry)) ≤ 3 * tris)) ⌝ }
+{
+    if most < rows {
+        return false;
+    }
+    if 4294967294 < rows {
+        return false;
+    }
+    if rows < tris {
+        return false;
+    }
+    if rows < 3 * tris {
+        return false;
+    }
+    if work.len() < table::COLUMNS * rows {
+        return false;
+    }
+    links_fit(work, rows, tris)
+}
+
+// Groups times 2 ^ 32, and members; all ones where a walk may not be called, and then nothing is done.
+fn both(c: groups::Counts) -> u64 {
+    (c.groups as u64) * 0x1_0000_0000 + word(c.members) as u64
+}
+
+// The old walk, up to 4,096 faces.
+#[no_mangle]
+pub extern "C" fn export_walk_old(work: &mut [u32], rows: usize, tris: usize) -> u64 {
+    if may_walk(work, rows, tris, OLD_ROWS) {
+        return both(groups::build_4_rule_groups(work, rows, tris));
+    }
+    0xffff_ffff_ffff_ffff
+}
+
+// The flat walk, which the public call takes.
+#[no_mangle]
+pub extern "C" fn export_walk_flat(work: &mut [u32], rows: usize, tris: usize) -> u64 {
+    if may_walk(work, rows, tris, rows) {
+        return both(flat::build_4_rule_groups(work, rows, tris));
+    }
+    0xffff_ffff_ffff_ffff
 }

@@ -34,14 +34,14 @@ use Rattle.view.proofs.Records.{any-is}
 use Rattle.view.proofs.Weld.{welds, sound-welds}
 use Rattle.linked.specs.Links.{linkedColumns}
 use Rattle.linked.specs.Links as five
-use Rattle.groups.specs.Walk.{walkColumns}
+use Rattle.flat.specs.Places.{flatColumns}
 use Rattle.groups.specs.Marks.{Asked, Walked}
 use Rattle.members.specs.Members.{orderColumns}
 use Rattle.grouped.specs.declared.Counts.{Counts}
 use Rattle.grouped.specs.Grouped.{groupedColumns, sixColumns, Six, Left}
 
 -- what step 6 asks is what steps 1 to 5 leave
-asked : (rows : ℕ) (sizes : List ℕ) (ps ns ts : List Float) (xs : List Triangle) (d : Triangle) (w : List ℕ) → Five rows sizes ps ns ts xs d w → Asked rows (sound xs) d w
+pub asked : (rows : ℕ) (sizes : List ℕ) (ps ns ts : List Float) (xs : List Triangle) (d : Triangle) (w : List ℕ) → Five rows sizes ps ns ts xs d w → Asked rows (sound xs) d w
 asked rows sizes ps ns ts xs d w F = record {
   welds = sound-welds rows (sound xs) (broken xs) d w (welds rows (sound xs ++ broken xs) d w (F .vertices));
   linked = F .linked;
@@ -62,13 +62,13 @@ module _ (sizes : List ℕ) (ps ns ts : List Float) (n m groups count : ℕ) (w 
   pub joined : five.Left sizes ps ns ts xs n m w u
       → ((ss : List Triangle) (d : Triangle) → length ss ≡ n → Names ss → Sharp ss d → Asked rows ss d u → Walked rows ss d u v groups count)
       → ((ss : List Triangle) (d : Triangle) → 3 * length ss ≤ rows → Names ss → count ≡ length (marks ss (links ss)) → Grouping rows ss d (marks ss (links ss)) groups v → InOrder rows ss groups count z)
-      → Only walkColumns rows u v
+      → Only flatColumns rows u v
       → Only orderColumns rows v z
       → groups ≤ rows
       → count ≤ rows
       → Left sizes ps ns ts xs (record { sound = n; all = m; groups = groups; members = count }) w z
   joined L walked ordered first O few small =
-      let U : Only groupedColumns rows u z = only-trans groupedColumns rows u v z (only-more walkColumns groupedColumns rows u v refl first) (only-more orderColumns groupedColumns rows v z refl O) in
+      let U : Only groupedColumns rows u z = only-trans groupedColumns rows u v z (only-more flatColumns groupedColumns rows u v refl first) (only-more orderColumns groupedColumns rows v z refl O) in
       record {
         sound-count = L .sound-count;
         count = L .count;

@@ -30,7 +30,7 @@ pub fn group_mesh(
 {
     let rows = 6 * sizes.len();
     let triangles = linked::link_mesh(positions, normals, texture, sizes, work);
-    let counts = groups::build_4_rule_groups(work, rows, triangles.sound);
+    let counts = flat::build_4_rule_groups(work, rows, triangles.sound);
     let met = counts.groups;
     let members = counts.members;
     members::order_members(work, rows, counts);

@@ -270,7 +270,6 @@ all-walked rows tris ss d w u groups count n fits long N S A e =
     let same : upTo (3 * length ss) (turn rows) (first-state rows ss d w fit long A) ≡ record { work = u; groups = groups; members = count } = ap (λ (m : ℕ). upTo (3 * m) (turn rows) (first-state rows ss d w fit long A)) n ∙ sym e in
     let R = subst (Grouped rows ss d w (marks ss (links ss)) (r .0)) same (r .1) in
     record {
-      only = R .marked .only;
       count-is = R .marked .count;
       grouping = grouping rows ss d N w (r .0) _ R;
       rest = R .marked .rest;

@@ -53,7 +53,7 @@ small : (b : Bool) (x y : ℕ) → x ≤ 3 → y ≤ 3 → cond b x y ≤ 3
 small b x y p q = cond-case (λ (n : ℕ). n ≤ 3) b x y (λ _. p) (λ _. q)
 
 -- the corner found is 3 at most
-cornerOf-le : (rows t v : ℕ) (w : List ℕ) → cornerOf rows t v w ≤ 3
+pub cornerOf-le : (rows t v : ℕ) (w : List ℕ) → cornerOf rows t v w ≤ 3
 unfolding cornerOf
 cornerOf-le rows t v w =
     let two = eqb (cell rows vertexColumn (3 * t + 2) w) v in

@@ -22,13 +22,13 @@ use Rattle.groups.specs.declared.Entry.the-variants.{At, Stop}
 use Rattle.groups.proofs.Laws.{Grown, enter-grown, ungrouped-le}
 
 -- where the column of links stands, its words are in range as they were
-links-stand : (rows tris : ℕ) (w u : List ℕ) → 3 * tris ≤ rows → column rows linkColumn u ≡ column rows linkColumn w → ((k : ℕ) → k < 3 * tris → cell rows linkColumn k w ≤ 3 * tris) → (k : ℕ) → k < 3 * tris → cell rows linkColumn k u ≤ 3 * tris
+pub links-stand : (rows tris : ℕ) (w u : List ℕ) → 3 * tris ≤ rows → column rows linkColumn u ≡ column rows linkColumn w → ((k : ℕ) → k < 3 * tris → cell rows linkColumn k w ≤ 3 * tris) → (k : ℕ) → k < 3 * tris → cell rows linkColumn k u ≤ 3 * tris
 links-stand rows tris w u fits e L k h =
     let same : cell rows linkColumn k u ≡ cell rows linkColumn k w = sym (getD-column rows u linkColumn k (omega arith)) ∙ ap (λ (l : List ℕ). getD l k 0) e ∙ getD-column rows w linkColumn k (omega arith) in
     omega (arith, same, L k h)
 
 -- another list is ready where it has as much room, and its links stand
-ready-moves : (rows tris g n m : ℕ) (w u : List ℕ) → Ready rows tris g n w → length u ≡ length w → m + ungrouped rows u ≤ rows → column rows linkColumn u ≡ column rows linkColumn w → Ready rows tris g m u
+pub ready-moves : (rows tris g n m : ℕ) (w u : List ℕ) → Ready rows tris g n w → length u ≡ length w → m + ungrouped rows u ≤ rows → column rows linkColumn u ≡ column rows linkColumn w → Ready rows tris g m u
 ready-moves rows tris g n m w u R e room links = record {
   long = omega (arith, R .long);
   few = R .few;
@@ -126,7 +126,7 @@ pub ready-next : (rows tris g n : ℕ) (w : List ℕ) → Ready rows tris g n w 
 ready-next rows tris g n w R = record { long = R .long; few = R .few; fits = R .fits; some = omega arith; room = R .room; links = R .links }
 
 -- where a group begins is stored in a column that the walk does not read
-begun-column : (rows c b : ℕ) (w : List ℕ) → b < rows → (k : ℕ) → eqb beginColumn k ≡ false → column rows k (put rows beginColumn b c w) ≡ column rows k w
+pub begun-column : (rows c b : ℕ) (w : List ℕ) → b < rows → (k : ℕ) → eqb beginColumn k ≡ false → column rows k (put rows beginColumn b c w) ≡ column rows k w
 begun-column rows c b w h k ne = column-set rows k beginColumn b c w h ∙ ap (λ (q : Bool). cond q (set (column rows k w) b c) (column rows k w)) ne
 
 -- which is one of the walk's

@@ -97,7 +97,6 @@ pub record Asked (rows : ℕ) (ss : List Triangle) (d : Triangle) (w : List ℕ)
 
 -- what it leaves, from the list w to u: the definition's marks, in so many groups
 pub record Walked (rows : ℕ) (ss : List Triangle) (d : Triangle) (w u : List ℕ) (groups count : ℕ) : Type 0 where
-  pub only : Only walkColumns rows w u
   pub count-is : count ≡ length (marks ss (links ss))
   pub grouping : Grouping rows ss d (marks ss (links ss)) groups u
   -- the orientations of other triangles stand

@@ -68,7 +68,7 @@ fn adopt(work: &mut [u32], rows: usize, t: usize, orient: u32)
 }
 
 // Enters triangle t: its corner is marked and is member `count`, or the walk stops there.
-fn enter_at(
+pub fn enter_at(
     work: &mut [u32],
     rows: usize,
     t: usize,

@@ -17,15 +17,15 @@ use Rattle.mesh.specs.Parts.{caught}
 use Rattle.mesh.proofs.Counts.{corners-more, corners-append}
 
 module _ (sizes : List ℕ) (ps ns ts : List Float) where
-  pub caught-many : 4096 < length sizes → true ≡ caught sizes ps ns ts
+  pub caught-many : 65536 < length sizes → true ≡ caught sizes ps ns ts
   unfolding caught tooMany
-  caught-many h = rw (lt-ltb 4096 (length sizes) h)
+  caught-many h = rw (lt-ltb 65536 (length sizes) h)
 
-  module _ (n : ℕ) (few : length sizes ≤ 4096) (is : n ≡ cornerCount sizes) where
+  module _ (n : ℕ) (few : length sizes ≤ 65536) (is : n ≡ cornerCount sizes) where
     -- the verdict of refusal 2, by its three tests
     by-tests : (a b c : Bool) → eqb (length ps) (3 * n) ≡ a → eqb (length ns) (3 * n) ≡ b → eqb (length ts) (2 * n) ≡ c → not (a && b && c) ≡ caught sizes ps ns ts
     unfolding caught tooMany misfit unfit
-    by-tests a b c p q r = rw (le-ltb 4096 (length sizes) few, ← is, p, q, r)
+    by-tests a b c p q r = rw (le-ltb 65536 (length sizes) few, ← is, p, q, r)
 
     pub caught-places : (length ps ≡ 3 * n → ⊥) → true ≡ caught sizes ps ns ts
     caught-places h = by-tests false _ _ (ne-eqb (length ps) (3 * n) h) refl refl
@@ -38,7 +38,7 @@ module _ (sizes : List ℕ) (ps ns ts : List Float) where
 
 -- what is known of lists that pass
 pub record Fit (sizes : List ℕ) (ps ns ts : List Float) : Type 0 where
-  pub few : length sizes ≤ 4096
+  pub few : length sizes ≤ 65536
   pub places : length ps ≡ 3 * cornerCount sizes
   pub normals : length ns ≡ 3 * cornerCount sizes
   pub texture : length ts ≡ 2 * cornerCount sizes
@@ -47,9 +47,9 @@ pub fit : (sizes : List ℕ) (ps ns ts : List Float) → caught sizes ps ns ts �
 unfolding caught tooMany misfit unfit
 fit sizes ps ns ts e =
     let n = cornerCount sizes in
-    let t = passed (ltb 4096 (length sizes)) (eqb (length ps) (3 * n)) (eqb (length ns) (3 * n)) (eqb (length ts) (2 * n)) e in
+    let t = passed (ltb 65536 (length sizes)) (eqb (length ps) (3 * n)) (eqb (length ns) (3 * n)) (eqb (length ts) (2 * n)) e in
     record {
-      few = ltb-false 4096 (length sizes) (t .0);
+      few = ltb-false 65536 (length sizes) (t .0);
       places = eqb-true (length ps) (3 * n) (t .1);
       normals = eqb-true (length ns) (3 * n) (t .2);
       texture = eqb-true (length ts) (2 * n) (t .3);
@@ -71,5 +71,5 @@ part-ends width sizes f h =
     at-most : (k : ℕ) → cornerCount (take k sizes) ≤ cornerCount sizes
     at-most k = let e = sym (corners-append (take k sizes) (drop k sizes)) ∙ ap cornerCount (take-append-drop k sizes) in omega arith
 
-pub all-taken : (sizes : List ℕ) → length sizes ≤ 4096 → cornerCount (take 4096 sizes) ≡ cornerCount sizes
-all-taken sizes h = ap cornerCount (take-all 4096 sizes h)
+pub all-taken : (sizes : List ℕ) → length sizes ≤ 65536 → cornerCount (take 65536 sizes) ≡ cornerCount sizes
+all-taken sizes h = ap cornerCount (take-all 65536 sizes h)

@@ -84,11 +84,11 @@ fn least(a: usize, b: usize) -> usize
     if a <= b { a } else { b }
 }
 
-// How many corners stand before a face, among the first 4,096 faces: no sum of so many bytes overflows.
+// How many corners stand before a face, among the first 65,536 faces: no sum of so many bytes overflows.
 pub fn corners_before(sizes: &[u8], face: usize) -> usize
     ensures { λ r. ⌜ (r ≡ cornerCount (take (min face faceLimit) (now (sizes .entry)))) × (r ≤ 255 * faceLimit) ⌝ }
 {
-    let end = least(least(face, 4096), sizes.len());
+    let end = least(least(face, 65536), sizes.len());
     let mut sum: usize = 0;
     let mut f: usize = 0;
     while f < end {
@@ -111,11 +111,11 @@ pub fn slots_of(size: u8) -> usize
     0
 }
 
-// How many slots stand before a face, among the first 4,096 faces.
+// How many slots stand before a face, among the first 65,536 faces.
 pub fn slots_before(sizes: &[u8], face: usize) -> usize
     ensures { λ r. ⌜ (r ≡ slotCount (take (min face faceLimit) (now (sizes .entry)))) × (r ≤ 4 * faceLimit) ⌝ }
 {
-    let end = least(least(face, 4096), sizes.len());
+    let end = least(least(face, 65536), sizes.len());
     let mut sum: usize = 0;
     let mut f: usize = 0;
     while f < end {
@@ -129,10 +129,10 @@ pub fn slots_before(sizes: &[u8], face: usize) -> usize
 pub fn caught(sizes: &[u8], positions: &[f32], normals: &[f32], texture: &[f32]) -> bool
     ensures { λ r. ⌜ r ≡ spec.caught (now (sizes .entry)) (now (positions .entry)) (now (normals .entry)) (now (texture .entry)) ⌝ }
 {
-    if 4096 < sizes.len() {
+    if 65536 < sizes.len() {
         return true;
     }
-    let corners = corners_before(sizes, 4096);
+    let corners = corners_before(sizes, 65536);
     if positions.len() != 3 * corners {
         return true;
     }

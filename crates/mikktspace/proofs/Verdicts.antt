@@ -37,5 +37,5 @@ no-refusal sizes ps ns ts h answer work e = go (verdict sizes ps ns ts h answer 
     go (some r) (each-some f) e = let g = f .known .0 in absurd (omega arith)
 
 -- so few faces are all counted
-pub all-slots : (sizes : List ℕ) (n : ℕ) → length sizes ≤ faceLimit → n ≡ slotCount (take (min 4096 faceLimit) sizes) → n ≡ slotCount sizes
-all-slots sizes n h e = e ∙ ap slotCount (take-all 4096 sizes h)
+pub all-slots : (sizes : List ℕ) (n : ℕ) → length sizes ≤ faceLimit → n ≡ slotCount (take (min 65536 faceLimit) sizes) → n ≡ slotCount sizes
+all-slots sizes n h e = e ∙ ap slotCount (take-all 65536 sizes h)

@@ -40,7 +40,7 @@ fn make_frames(
     requires { ⌜ verdict (now sizes) (now positions) (now normals) (now «tex_coords») threshold (length (now answer)) (length (now work)) ≡ none ⌝ }
     ensures { λ s. ⌜ spec.left (record { number = 0; place = 0; slots = s }) (now (answer .exit)) (now (work .exit)) ≡ accepted (now (sizes .entry)) (now (positions .entry)) (now (normals .entry)) (now («tex_coords» .entry)) threshold (now (answer .entry)) (now (work .entry)) ⌝ }
 {
-    let slots = mesh::slots_before(sizes, 4096);
+    let slots = mesh::slots_before(sizes, 65536);
     let rows = 6 * sizes.len();
     table::clear_first(answer, 10 * slots);
     let counts = grouped::group_mesh(sizes, positions, normals, tex_coords, work);

@@ -204,7 +204,7 @@ fn read_mesh(
 ) -> Compared {
     let f = length_at(text, head, FACES, sizes.len());
     let k = count_numbers(text, head, numbers.len());
-    let a = text::read_bytes(text, text::skip(text, head, HEAD), &mut sizes[..f]);
+    let a = text::read_sizes(text, text::skip(text, head, HEAD), &mut sizes[..f]);
     let b = text::read_numbers(text, a, &mut numbers[..k]);
     lend(text, head, b, &sizes[..f], &numbers[..k], answer, work)
 }
@@ -213,7 +213,7 @@ fn read_mesh(
 fn with_arrays(
     text: &[u8],
     head: usize,
-    sizes: &mut [u8; 4608],
+    sizes: &mut [u8; 65664],
     numbers: &mut [f32; 4096],
     answer: &mut [u32; 8192],
     work: &mut [u32; 8192],
@@ -223,7 +223,7 @@ fn with_arrays(
 
 // The mesh whose head stands here, read and compared.
 fn mesh(text: &[u8], head: usize) -> Compared {
-    let mut sizes = [0u8; 4608];
+    let mut sizes = [0u8; 65664];
     let mut numbers = [0.0f32; 4096];
     let mut answer = [0u32; 8192];
     let mut work = [0u32; 8192];

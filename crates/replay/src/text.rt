@@ -90,15 +90,49 @@ pub fn nth(text: &[u8], from: usize, count: usize) -> u32 {
     w.value
 }
 
-// Reads bytes into a list until it is full, and says which place comes next.
-pub fn read_bytes(text: &[u8], from: usize, out: &mut [u8]) -> usize {
-    let mut at = from;
-    for i in 0..out.len() {
-        let w = next_word(text, at);
-        out[i] = (w.value % 256) as u8;
-        at = w.next;
+// A run of faces of one size: how many of them are still to come, and the place behind it.
+struct Run {
+    size: u8,
+    left: u32,
+    next: usize,
+}
+
+// The run that stands here, of two words: how many faces, and their size. One face of it is taken.
+fn run_at(text: &[u8], from: usize) -> Run {
+    let count = next_word(text, from);
+    let size = next_word(text, count.next);
+    let left = if count.value == 0 { 0 } else { count.value - 1 };
+    Run {
+        size: (size.value % 256) as u8,
+        left,
+        next: size.next,
     }
-    at
+}
+
+// The run of the next face.
+fn run_on(text: &[u8], run: Run) -> Run {
+    if run.left == 0 {
+        return run_at(text, run.next);
+    }
+    Run {
+        size: run.size,
+        left: run.left - 1,
+        next: run.next,
+    }
+}
+
+// Reads sizes, run by run, into a list until it is full, and says which place comes next.
+pub fn read_sizes(text: &[u8], from: usize, out: &mut [u8]) -> usize {
+    let mut run = Run {
+        size: 0,
+        left: 0,
+        next: from,
+    };
+    for i in 0..out.len() {
+        run = run_on(text, run);
+        out[i] = run.size;
+    }
+    run.next
 }
 
 // Reads numbers, each given by its bits.

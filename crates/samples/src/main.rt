@@ -395,11 +395,11 @@ fn asked(sizes: &[u8], three: &[f32], two: &[f32]) -> mikktspace::Outcome {
     mikktspace::generate_tangent_space(sizes, three, three, two, 0.0, &mut answer, &mut work)
 }
 
-// 4,097 faces are refused with 1; 4,096 aren't, but with 6, since no work list is lent.
+// 65,537 faces are refused with 1; 65,536 aren't, but with 6, since no work list is lent.
 fn sample_10() -> Tally {
-    let sizes: [u8; 4097] = [0; 4097];
+    let sizes: [u8; 65537] = [0; 65537];
     let r = asked(&sizes, &[], &[]);
-    let s = asked(&sizes[..4096], &[], &[]);
+    let s = asked(&sizes[..65536], &[], &[]);
     outcome(r, 1, 0, 0).with(s.number, 6)
 }
 

@@ -29,14 +29,14 @@ start-more true sizes f h = sym (slots-more sizes f h)
 start-more false sizes f h = sym (corners-more sizes f h)
 
 -- ---- what stands in the columns, for lists that pass
-module _ (sizes w : List ℕ) (few : length sizes ≤ 4096) (room : 128 * length sizes ≤ length w) where
+module _ (sizes w : List ℕ) (few : length sizes ≤ 65536) (room : 128 * length sizes ≤ length w) where
   abbrev rows : ℕ
   rows = rowsOf (length sizes)
 
   -- both columns are written
   passed : started sizes w ≡ withColumn true slotStarts sizes (withColumn false cornerStarts sizes w)
   unfolding started tooMany
-  passed = rw (le-ltb 4096 (length sizes) few, le-ltb (length w) (128 * length sizes) room)
+  passed = rw (le-ltb 65536 (length sizes) few, le-ltb (length w) (128 * length sizes) room)
 
   abbrev values : Bool → List ℕ
   values slots = listOf (length sizes) (startOf slots sizes)

@@ -35,7 +35,7 @@ fn column_of_starts(sizes: &[u8], work: &mut [u32], slots: bool, column: usize)
 pub fn starts(sizes: &[u8], work: &mut [u32])
     ensures { λ _. ⌜ now (work .exit) ≡ spec.started (now (sizes .entry)) (now (work .entry)) ⌝ }
 {
-    if 4096 < sizes.len() {
+    if 65536 < sizes.len() {
         return;
     }
     if work.len() < 128 * sizes.len() {

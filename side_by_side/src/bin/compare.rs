@@ -2,15 +2,15 @@
 use side_by_side::compare::examine;
 use side_by_side::kinds::{KINDS, Kind};
 use side_by_side::mesh::Case;
-use side_by_side::runner::{Plan, run, with_stack};
+use side_by_side::runner::{Plan, run};
 use side_by_side::shrink::shrink;
 use side_by_side::spoil::{SPOILS, Spoil};
-use side_by_side::{ops, text};
+use side_by_side::{ops, stack, text};
 use std::process::exit;
 use std::time::Instant;
 
 const USAGE: &str = "usage: run [--seed N] [--count N] [--kind K].. [--gate] [--spoil WORD] [--file FILE] [--to FOLDER]
-  K is one, mesh, zeros, magnitudes, refused, limits, big or shuffle; all of them unless one is named
+  K is one, mesh, zeros, magnitudes, refused, limits, largest, fans, big or shuffle; all of them unless one is named
   --gate     a few thousand of each kind, then every spoiled word has to be caught
   --spoil    alters one word of ours: orientation, magnitude, absent, past-answer, work, past-work, number, place,
              slots, refused-answer, refused-work or shuffled
@@ -107,6 +107,9 @@ fn compare_kinds(options: &Options) -> bool {
     for kind in KINDS.iter().filter(asked) {
         let usual = if options.gate { kind.gate } else { kind.usual };
         let count = kind.bounded(options.count.unwrap_or(usual));
+        if count == 0 {
+            continue;
+        }
         right &= compare_kind(
             Plan {
                 kind,
@@ -139,7 +142,7 @@ fn compare_kind(plan: Plan, to: &str) -> bool {
     };
     let file = format!("{to}/differs-{}-{}-{first}.txt", plan.kind.name, plan.seed);
     let case = plan.kind.case(plan.seed, first);
-    let cut = with_stack(|| {
+    let cut = stack::within(stack::CRATE, || {
         shrink(&case, &|case| {
             examine(case, plan.spoil).difference.is_some()
         })
@@ -169,7 +172,7 @@ fn faces(case: &Case) -> usize {
 
 /// Prints a case and what differs in it; what differs.
 fn tell(case: &Case, spoil: Option<Spoil>) -> Option<String> {
-    let seen = with_stack(|| examine(case, spoil));
+    let seen = stack::within(stack::CRATE, || examine(case, spoil));
     print!("{}", text::write(case));
     match (&seen.difference, seen.number) {
         (Some(difference), _) => println!("differs: {difference}"),
@@ -211,7 +214,7 @@ fn caught(seed: u64, spoil: Spoil) -> bool {
         .map(|name| KINDS.iter().find(|kind| kind.name == name).expect("a kind"));
     let cases = (0..500).flat_map(|i| cases.map(|kind| kind.case(seed, i)));
     let mut cases = cases.filter(|case| faces(case) < 100);
-    with_stack(move || {
+    stack::within(stack::CRATE, move || {
         cases
             .find(|case| differs(case))
             .is_some_and(|case| faces(&shrink(&case, &differs)) <= 2)

@@ -1,10 +1,11 @@
-//! `big`: a few hundred to 4,096 faces.
+//! `big`: a few hundred to some thousand faces, and sheets of up to 65,536.
 use super::faces::{Face, lent, unframed};
 use super::numbers::{Family, Style, THRESHOLDS, pool, threshold};
 use super::sheets::{Fold, Grid};
 use crate::mesh::Case;
 use crate::random::Random;
 use crate::shapes::{SHAPES, Shape};
+use crate::theirs::MOST_FACES;
 
 /// A case.
 pub fn make(r: &mut Random, _: u64) -> Case {
@@ -56,11 +57,12 @@ fn near(r: &mut Random) -> Vec<Face> {
     (0..count).map(|_| face(r)).collect()
 }
 
-/// A sheet of at most 4,096 faces.
+/// A sheet of at most 3,200 cells, one of eight of up to 65,025.
 fn sheet(r: &mut Random) -> Vec<Face> {
+    let [wide, high] = if r.chance(1, 8) { [255; 2] } else { [64, 50] };
     let grid = Grid {
-        wide: r.from_to(15, 64),
-        high: r.from_to(15, 50),
+        wide: r.from_to(15, wide),
+        high: r.from_to(15, high),
         fold: r.pick(&[Fold::Plain, Fold::Middle, Fold::Often]),
         noise: r.pick(&[0.0, 0.1, 0.5]),
         position_scale: r.pick(&[1.0, 1.0, 1e-3, 1e5]),
@@ -69,6 +71,6 @@ fn sheet(r: &mut Random) -> Vec<Face> {
         ..Grid::default()
     };
     let mut faces = grid.faces(r);
-    faces.truncate(4096);
+    faces.truncate(MOST_FACES);
     faces
 }

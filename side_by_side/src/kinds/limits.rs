@@ -1,9 +1,13 @@
-//! `limits`: face counts at both ends, and lists that are one short, exact and one long, counted off.
+//! `limits`: few and many faces, and lists that are one short, exact and one long, counted off; and for `largest` face counts
+//! about the limit.
 use super::numbers::THRESHOLDS;
 use crate::mesh::{Case, Corner, Mesh, corner};
 use crate::random::Random;
+use crate::theirs::MOST_FACES;
 
 const FACES: [usize; 5] = [0, 1, 4095, 4096, 4097];
+/// About the limit.
+const ABOUT: [usize; 3] = [MOST_FACES - 1, MOST_FACES, MOST_FACES + 1];
 /// The sizes of the faces, over and over.
 const SIZES: [&[usize]; 5] = [&[3], &[4], &[4, 3, 3, 4], &[5, 2, 0], &[4, 0, 3, 1, 5]];
 /// Which list is altered in length, and how.
@@ -21,6 +25,9 @@ const LENT: [Change; 3] = [Change::Exact, Change::Short, Change::Long];
 /// How many cases there are.
 pub const ALL: u64 =
     (FACES.len() * SIZES.len() * CHANGES.len() * LENT.len() * LENT.len() * THRESHOLDS.len()) as u64;
+
+/// How many cases about the limit there are: each with no list short, and with one of three.
+pub const ALL_ABOUT: u64 = (ABOUT.len() * SIZES.len() * 4) as u64;
 
 /// A length by one off, or not.
 #[derive(Clone, Copy, PartialEq)]
@@ -41,13 +48,18 @@ impl Change {
     }
 }
 
-/// Case number `i`.
-pub fn make(_: &mut Random, mut i: u64) -> Case {
-    let mut digit = |base: usize| {
-        let digit = (i % base as u64) as usize;
-        i /= base as u64;
+/// The digits of a number, the lowest first, each of the base that is asked for.
+fn digits(mut number: u64) -> impl FnMut(usize) -> usize {
+    move |base| {
+        let digit = (number % base as u64) as usize;
+        number /= base as u64;
         digit
-    };
+    }
+}
+
+/// Case number `i`.
+pub fn make(_: &mut Random, i: u64) -> Case {
+    let mut digit = digits(i);
     let threshold = THRESHOLDS[digit(THRESHOLDS.len())];
     let (answer, work) = (LENT[digit(LENT.len())], LENT[digit(LENT.len())]);
     let (list, change) = CHANGES[digit(CHANGES.len())];
@@ -60,6 +72,25 @@ pub fn make(_: &mut Random, mut i: u64) -> Case {
         .into_iter()
         .nth(list)
         .is_some_and(|list| resize(list, change));
+    made(mesh, altered)
+}
+
+/// Case number `i` about the limit: no list, the positions, the answer list or the work list is one short.
+pub fn about(i: u64) -> Case {
+    let mut digit = digits(i);
+    let (short, sizes) = (digit(4), SIZES[digit(SIZES.len())]);
+    let mut mesh = sheet(ABOUT[digit(ABOUT.len())], sizes, -1.0);
+    match short {
+        1 => drop(mesh.positions.pop()),
+        2 => mesh.answer = Change::Short.of(mesh.answer),
+        3 => mesh.work -= 1,
+        _ => {}
+    }
+    made(mesh, short == 1)
+}
+
+/// The case of a mesh, whose positions, normals or texture were altered in length or not.
+fn made(mesh: Mesh, altered: bool) -> Case {
     let number = foreseen(&mesh, altered);
     Case {
         mesh,
@@ -78,7 +109,7 @@ fn resize(list: &mut Vec<u32>, change: Change) -> bool {
 /// The number that the mesh is made for.
 fn foreseen(mesh: &Mesh, altered: bool) -> u32 {
     let grounds = [
-        (1, mesh.sizes.len() == 4097),
+        (1, mesh.sizes.len() == 65_537),
         (2, altered),
         (5, mesh.answer + 1 == mesh.needed_answer()),
         (6, mesh.work + 1 == mesh.needed_work()),

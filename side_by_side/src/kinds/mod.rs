@@ -1,6 +1,7 @@
 //! The kinds of cases.
 mod big;
 mod faces;
+mod largest;
 mod limits;
 mod magnitudes;
 mod numbers;
@@ -44,7 +45,7 @@ impl Kind {
 }
 
 /// Every kind.
-pub const KINDS: [Kind; 8] = [
+pub const KINDS: [Kind; 10] = [
     Kind {
         name: "one",
         all: Some(one::ALL),
@@ -86,6 +87,20 @@ pub const KINDS: [Kind; 8] = [
         usual: limits::ALL,
         gate: 2_000,
         make: limits::make,
+    },
+    Kind {
+        name: "largest",
+        all: Some(largest::ALL),
+        usual: largest::ALL,
+        gate: largest::ALL,
+        make: largest::make,
+    },
+    Kind {
+        name: "fans",
+        all: Some(largest::ALL_FANS),
+        usual: largest::ALL_FANS,
+        gate: 0,
+        make: largest::fan,
     },
     Kind {
         name: "big",

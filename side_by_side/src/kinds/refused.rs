@@ -4,6 +4,7 @@ use super::numbers::threshold;
 use super::small;
 use crate::mesh::{Case, Mesh, framed};
 use crate::random::Random;
+use crate::theirs::MOST_FACES;
 
 /// The bits of what is no finite number.
 const UNFIT: [u32; 6] = [
@@ -15,9 +16,13 @@ const UNFIT: [u32; 6] = [
     0xFFFF_FFFF,
 ];
 
+/// Of so many cases the first 64 have every set of grounds, the others those without refusal 1: such a mesh is large.
+const TURN: u64 = 1024;
+
 /// Case number `i`: the grounds are the binary digits of i, refusal 1 the last.
 pub fn make(r: &mut Random, i: u64) -> Case {
-    let ground = |number: u64| i >> (number - 1) & 1 == 1;
+    let set = if i % TURN < 64 { i } else { i & !1 };
+    let ground = |number: u64| set >> (number - 1) & 1 == 1;
     let mut mesh = base(r, ground(1));
     let place = if ground(4) { plant(r, &mut mesh) } else { 0 };
     if ground(3) {
@@ -45,7 +50,7 @@ fn base(r: &mut Random, crowded: bool) -> Mesh {
     let mut faces = small::faces(r);
     faces.push(vec![[0, 0, 0, 0, 0, 0x3F80_0000, 0, 0]; r.from_to(3, 4)]);
     if crowded {
-        let count = r.pick(&[4097, 4097, 4098, 5000]);
+        let count = MOST_FACES + r.pick(&[1, 1, 2, 904]);
         let size = r.pick(&[0, 0, 1, 3]);
         faces.resize(count, vec![[0; 8]; size]);
     }

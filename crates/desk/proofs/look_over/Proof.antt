@@ -17,7 +17,7 @@ use Rattle.desk.proofs.look_over.Tie as tie
 
 abbrev Inv-loop : tie.InvT-loop
 Inv-loop sizes positions normals texture corners₀ slots₀ bad₀ f₀ corners slots bad f =
-    (length sizes ≤ 4096) × (f ≤ length sizes) × (corners ≤ 255 * f) × (slots ≤ 4 * f) × (corners ≡ cornerCount (take f sizes)) × (slots ≡ slotCount (take f sizes)) × (unlessFound bad (inFaces positions normals texture corners (drop f sizes)) ≡ inFaces positions normals texture 0 sizes)
+    (length sizes ≤ 65536) × (f ≤ length sizes) × (corners ≤ 255 * f) × (slots ≤ 4 * f) × (corners ≡ cornerCount (take f sizes)) × (slots ≡ slotCount (take f sizes)) × (unlessFound bad (inFaces positions normals texture corners (drop f sizes)) ≡ inFaces positions normals texture 0 sizes)
 
 abbrev μ-loop : tie.MeasureT-loop
 μ-loop sizes positions normals texture corners₀ slots₀ bad₀ f₀ corners slots bad f = length sizes - f

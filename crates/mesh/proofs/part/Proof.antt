@@ -28,10 +28,10 @@ part-is width n xs sizes f h e =
 start-is : (c : tie.After-corners-before) → c .corners-before .result ≡ cornerCount (take (c .before .before .before .before .args .face) (c .before .before .before .before .args .sizes .now))
 start-is c =
     let a = c .before .before .before .before .args in
-    let h : a .face ≤ 4096 = omega arith in
+    let h : a .face ≤ 65536 = omega arith in
     c .corners-before .ensures .0 ∙ ap (λ (k : ℕ). cornerCount (take k (a .sizes .now))) (min-eq-left h)
 
-start-small : (c : tie.After-corners-before) → c .before .before .before .before .args .width * c .corners-before .result ≤ 3 * 1044480
+start-small : (c : tie.After-corners-before) → c .before .before .before .before .args .width * c .corners-before .result ≤ 3 * 16711680
 start-small c = mul-le-mul (c .before .before .before .before .pre .0) (c .corners-before .ensures .1)
 
 size-small : (c : tie.After-shared-slice-known3) → c .before .before .before .before .before .args .width * getD (c .before .before .before .before .before .args .sizes .now) (c .before .before .before .before .before .args .face) 0 ≤ 3 * 255

@@ -10,7 +10,7 @@ use Rattle.mesh.proofs.slots_before.Statement.{statement}
 use Rattle.mesh.proofs.slots_before.Tie as tie
 
 abbrev Inv-loop : tie.InvT-loop
-Inv-loop sizes face end sum₀ f₀ sum f = (f ≤ end) × (end ≡ min (min face 4096) (length sizes)) × (sum ≡ slotCount (take f sizes)) × (sum ≤ 4 * f)
+Inv-loop sizes face end sum₀ f₀ sum f = (f ≤ end) × (end ≡ min (min face 65536) (length sizes)) × (sum ≡ slotCount (take f sizes)) × (sum ≤ 4 * f)
 
 abbrev μ-loop : tie.MeasureT-loop
 μ-loop sizes face end sum₀ f₀ sum f = end - f
@@ -54,8 +54,8 @@ returns : tie.Need-returns Inv-loop μ-loop
 returns c =
     let l = c .before .loop in
     let sizes = c .before .before .before .before .before .args .sizes .now in
-    let e : l .f ≡ min (min (c .before .before .before .before .before .args .face) 4096) (length sizes) = omega arith in
-    (l .inv .2 ∙ ap slotCount (ap (λ (k : ℕ). take k sizes) e ∙ take-least (min (c .before .before .before .before .before .args .face) 4096) sizes), omega arith)
+    let e : l .f ≡ min (min (c .before .before .before .before .before .args .face) 65536) (length sizes) = omega arith in
+    (l .inv .2 ∙ ap slotCount (ap (λ (k : ℕ). take k sizes) e ∙ take-least (min (c .before .before .before .before .before .args .face) 65536) sizes), omega arith)
 
 pub slots-before-spec : {M : Type 1} → statement M
 slots-before-spec =

@@ -14,14 +14,14 @@ count-numbers-requires c κs = search needs
 skip-requires : tie.Need-skip-requires
 skip-requires c κs = search needs
 
-slice-relend-prefix-read-bytes : tie.Need-slice-relend-prefix-read-bytes
-slice-relend-prefix-read-bytes c = search needs
+slice-relend-prefix-read-sizes : tie.Need-slice-relend-prefix-read-sizes
+slice-relend-prefix-read-sizes c = search needs
 
-slice-aggregate-read-bytes : tie.Need-slice-aggregate-read-bytes
-slice-aggregate-read-bytes c = simp length-take (omega arith)
+slice-aggregate-read-sizes : tie.Need-slice-aggregate-read-sizes
+slice-aggregate-read-sizes c = simp length-take (omega arith)
 
-read-bytes-requires : tie.Need-read-bytes-requires
-read-bytes-requires c κs = search needs
+read-sizes-requires : tie.Need-read-sizes-requires
+read-sizes-requires c κs = search needs
 
 slice-relend-prefix-read-numbers : tie.Need-slice-relend-prefix-read-numbers
 slice-relend-prefix-read-numbers c = search needs
@@ -69,9 +69,9 @@ read-mesh-spec =
     length-at-requires
     count-numbers-requires
     skip-requires
-    slice-relend-prefix-read-bytes
-    slice-aggregate-read-bytes
-    read-bytes-requires
+    slice-relend-prefix-read-sizes
+    slice-aggregate-read-sizes
+    read-sizes-requires
     slice-relend-prefix-read-numbers
     slice-aggregate-read-numbers
     read-numbers-requires

@@ -1,26 +1,23 @@
--- `replay::text::read_bytes` is safe and ends: the list keeps its length. Assumes nothing.
+-- `replay::text::read_sizes` is safe and ends: the list keeps its length. Assumes nothing.
 use borrow.Author.Needs.{needs}
 use native.Mathlib.Omega.{arith}
 use Prim.Native.Nat.{_-_, _≤_}
 use mathlib.Core.Path.{_≡_}
 use lib.ListN.{length, length-set}
-use Rattle.replay.proofs.text.read_bytes.Statement.{statement}
-use Rattle.replay.proofs.text.read_bytes.Tie as tie
+use Rattle.replay.proofs.text.read_sizes.Statement.{statement}
+use Rattle.replay.proofs.text.read_sizes.Tie as tie
 
 abbrev Inv-loop : tie.InvT-loop
-Inv-loop text from out₀ at₀ i₀ i-end out at i = (i ≤ i-end) × (i-end ≡ length out₀) × (length out ≡ length out₀)
+Inv-loop text from out₀ run₀ i₀ i-end out run i = (i ≤ i-end) × (i-end ≡ length out₀) × (length out ≡ length out₀)
 
 abbrev μ-loop : tie.MeasureT-loop
-μ-loop text from out₀ at₀ i₀ i-end out at i = i-end - i
+μ-loop text from out₀ run₀ i₀ i-end out run i = i-end - i
 
 loop-holds : tie.Need-loop-holds Inv-loop μ-loop
 loop-holds c = omega arith
 
-next-word-requires : tie.Need-next-word-requires Inv-loop μ-loop
-next-word-requires c κs = search needs
-
-cast-out : tie.Need-cast-out Inv-loop μ-loop
-cast-out c = omega arith
+run-on-requires : tie.Need-run-on-requires Inv-loop μ-loop
+run-on-requires c κs = search needs
 
 slice-write-out : tie.Need-slice-write-out Inv-loop μ-loop
 slice-write-out c = omega arith
@@ -40,15 +37,14 @@ same-length c = omega arith
 returns : tie.Need-returns Inv-loop μ-loop
 returns c = tt
 
-pub read-bytes-spec : {M : Type 1} → statement M
-read-bytes-spec =
+pub read-sizes-spec : {M : Type 1} → statement M
+read-sizes-spec =
     tie.close
     (tie.spec
     Inv-loop
     μ-loop
     loop-holds
-    next-word-requires
-    cast-out
+    run-on-requires
     slice-write-out
     add-i
     loop-less

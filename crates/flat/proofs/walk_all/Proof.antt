@@ -1,0 +1,65 @@
+-- Proof that `walk_all` meets its contract. Assumes nothing.
+use Prim.Native.Nat.{_+_, _-_, _≤_}
+use native.Mathlib.Nat.{le-antisymm}
+use native.Mathlib.Omega.{arith}
+use mathlib.Core.Path.{_≡_, refl, sym, ap, _∙_, subst}
+use lib.ListN.{length}
+use borrow.Author.Needs.{needs}
+use Rattle.table.specs.Loop.{upTo}
+use Rattle.table.proofs.Loops.{upTo-none, upTo-more}
+use Rattle.view.specs.Frame.{Only}
+use Rattle.view.proofs.Frame.{only-none, only-trans}
+use Rattle.groups.specs.Walk.{turn, state, Ready}
+use Rattle.flat.specs.Places.{flatColumns, blank}
+use Rattle.groups.proofs.Steps.{ready-cleared}
+use Rattle.flat.proofs.Blank.{unblank-ready}
+use Rattle.flat.proofs.Turns.{only-after}
+use Rattle.flat.proofs.walk_all.Statement.{statement}
+use Rattle.flat.proofs.walk_all.Tie as tie
+
+abbrev Inv-loop : tie.InvT-loop
+Inv-loop work₀ rows tris s₀ k₀ k-end work s k = (k ≤ k-end) × (s .groups ≤ k) × Ready rows tris (s .groups + 1) (s .members) work × (state (blank rows work) s ≡ upTo k (turn rows) (state (blank rows work₀) s₀)) × Only flatColumns rows work₀ work
+
+abbrev μ-loop : tie.MeasureT-loop
+μ-loop work₀ rows tris s₀ k₀ k-end work s k = k-end - k
+
+clear-requires : tie.Need-clear-requires Inv-loop μ-loop
+clear-requires c κs = search needs
+
+mul-k-end : tie.Need-mul-k-end Inv-loop μ-loop
+mul-k-end c = search needs
+
+loop-holds : tie.Need-loop-holds Inv-loop μ-loop
+loop-holds c =
+    let start = c .before .before .before .before .before in
+    let ready = ready-cleared (start .args .rows) (start .args .tris) (start .args .work .now) (start .pre .0) (start .pre .1) (start .pre .2) (start .pre .3) in
+    (omega arith, omega arith, subst (Ready (start .args .rows) (start .args .tris) 1 0) (sym (c .before .before .clear .ensures)) ready, upTo-none _ _, only-none _ _ _)
+
+start-at-requires : tie.Need-start-at-requires Inv-loop μ-loop
+start-at-requires c κs = search needs
+
+add-k : tie.Need-add-k Inv-loop μ-loop
+add-k c = search needs
+
+loop-less : tie.Need-loop-less Inv-loop μ-loop
+loop-less c = search needs
+
+loop-again : tie.Need-loop-again Inv-loop μ-loop
+loop-again c =
+    let one = c .before .before .start-at in
+    let loop = c .before .before .before .before .before .loop in
+    (omega arith, one .ensures .0 .few, unblank-ready _ _ _ _ _ (one .ensures .0 .ready), one .ensures .0 .is ∙ ap (turn _ _) (loop .inv .3) ∙ upTo-more _ _ _, only-trans _ _ _ _ _ (loop .inv .4) (one .ensures .1))
+
+same-length : tie.Need-same-length Inv-loop μ-loop
+same-length c = c .before .loop .inv .4 .size ∙ c .before .before .before .before .clear .kept .0
+
+returns : tie.Need-returns Inv-loop μ-loop
+returns c =
+    let l = c .before .loop .inv in
+    (rw (← c .before .before .before .before .clear .ensures) (rw (le-antisymm (l .0) (c .loop-test .left)) at (l .3)), ((omega (arith, l .0, l .1), omega (arith, l .2 .room)), only-after _ _ _ _ (c .before .before .before .before .clear .ensures) (l .4)))
+
+pub walk-all-spec : {M : Type 1} → statement M
+walk-all-spec =
+    tie.close
+    (tie.spec Inv-loop μ-loop clear-requires mul-k-end loop-holds start-at-requires add-k loop-less
+    loop-again same-length returns)

@@ -1,0 +1,30 @@
+-- Request E8's sentence, from the contracts of the two walks. Assumes nothing.
+use Prim.Native.Nat.{ℕ}
+use mathlib.Core.Path.{sym}
+use Rattle.table.specs.Columns.{rowsOf}
+use lib.ListN.{length}
+use Rattle.definition.specs.Handed.{cornerAt, meshFrom}
+use Rattle.definition.specs.Desk.{badCorner}
+use Rattle.definition.specs.Frames.{numbered}
+use Rattle.definition.specs.Triangles.{triangles}
+use Rattle.definition.specs.Step4Order.{sound}
+use Rattle.laws.proofs.Laws.{some-triangle}
+use Rattle.grouped.proofs.Joined.{asked}
+use Rattle.flat.proofs.Same as same
+use Rattle.promises.specs.TwoWalks.{Promised, SameMembers, SameWords}
+
+pub same-members : Promised
+unfolding Promised
+same-members sizes ps ns ts n m w l L ok u v groups members groups' members' A B =
+    let rows = rowsOf (length sizes) in
+    let xs = triangles (numbered 0 (meshFrom ps ns ts 0 sizes)) in
+    let d = some-triangle (cornerAt ps ns ts 0) in
+    let F = L .stands ok d in
+    let Q = asked rows sizes ps ns ts xs d l F in
+    let e = sym (L .sound-count) in
+    let r = same.same-members rows (sound xs) d l u v groups groups' members members' (F .names) (A (sound xs) d e (F .names) (F .sharp) Q) (B (sound xs) d e (F .names) (F .sharp) Q) in
+    record { count = r .0; member = r .1 }
+
+pub same-words : SameWords
+unfolding SameWords
+same-words = same.same-words
