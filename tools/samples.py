@@ -46,7 +46,7 @@ def vector(v):
 
 def corner(place, normal, texture):
     u, v = (f"number {numeral(bits(x))}" for x in texture)
-    return f"(record {{ place = {vector(place)}; normal = {vector(normal)}; u = {u}; v = {v} }})"
+    return f"(record {{ place = {vector(place)}; normal = {vector(normal)}; u = {u}; v = {v}; tag = 0 }})"
 
 
 def sizes(ns):

@@ -21,6 +21,7 @@ cornerAt ps ns ts i =
       normal = vectorAt ns i;
       u = getD ts (i * 2) nan;
       v = getD ts (i * 2 + 1) nan;
+      tag = 0;
     }
 
 -- n corners from number i on

@@ -9,11 +9,15 @@ pub mod Triangles
 pub mod Step4Order
 pub mod Step5Links
 pub mod Step5Sorted
+pub mod Step5Quick
+pub mod Step5Old
+pub mod Step4Old
 pub mod Step6Groups
 pub mod Step7Sums
 pub mod Step8Slots
 pub mod Step9Copies
 pub mod Frames
+pub mod FramesOld
 pub mod Desk
 pub mod Outcome
 pub mod Shuffle

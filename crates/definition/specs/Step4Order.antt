@@ -40,9 +40,13 @@ sameBits x y = eqb (word x) (word y)
 unfoldable pub sameVector : Vec3 → Vec3 → Bool
 sameVector a b = sameBits (a .x) (b .x) && sameBits (a .y) (b .y) && sameBits (a .z) (b .z)
 
--- two corners are welded: 'the same bits in all eight numbers'
+-- 'the same bits in all eight numbers'
+unfoldable pub sameNumbers : Corner → Corner → Bool
+sameNumbers c d = sameVector (c .place) (d .place) && sameVector (c .normal) (d .normal) && sameBits (c .u) (d .u) && sameBits (c .v) (d .v)
+
+-- two corners are welded: the same bits in all eight numbers, and the same tag, which is 0 everywhere in edition 1
 unfoldable pub welded : Corner → Corner → Bool
-welded c d = sameVector (c .place) (d .place) && sameVector (c .normal) (d .normal) && sameBits (c .u) (d .u) && sameBits (c .v) (d .v)
+welded c d = sameNumbers c d && eqb (c .tag) (d .tag)
 
 -- 'Corners are welded to the first in that list with the same bits in all eight numbers'. Two corners are welded to one exactly where they are `welded` (laws/proofs/Weld.antt), which is what the steps below ask.
 unfoldable pub weldedTo : List Triangle → Corner → Option Spot

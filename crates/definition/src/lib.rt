@@ -2,12 +2,13 @@
 use math::Vec3;
 use tangent::RawTangentSpace;
 
-// A corner: its position, its normal, its texture coordinates.
+// A corner: its position, its normal, its texture coordinates; and its tag: 0 in edition 1, in edition 2 what step 4 merges it with.
 pub struct Corner {
     pub place: Vec3,
     pub normal: Vec3,
     pub u: f32,
     pub v: f32,
+    pub tag: u32,
 }
 
 // A corner that a triangle keeps: which one of its face it is, and its values.

@@ -13,7 +13,7 @@ use Rattle.table.specs.Columns.{columns, linkColumn, vertexColumn, orientationC
 use Rattle.table.specs.Loop.{upTo}
 use Rattle.definition.specs.declared.Triangle.{Triangle}
 use Rattle.definition.specs.Mesh.{one, Spot, sameSpot}
-use Rattle.definition.specs.Step5Links.{links}
+use Rattle.definition.specs.Step5Links as step5
 use Rattle.definition.specs.Step6Groups.{Mark, marks}
 use Rattle.laws.proofs.Laws.{mark}
 use Rattle.laws.proofs.Enough.{spot-refl}
@@ -36,18 +36,18 @@ use Rattle.flat.proofs.Fuel.{to-triangle, side-enough, enough, enter-on
 -- ---- on every mesh
 
 -- what two walks of step 6 leave: as many members, and the same ones in the same order
-pub same-members : (rows : ℕ) (ss : List Triangle) (d : Triangle) (w u₁ u₂ : List ℕ) (g₁ g₂ n₁ n₂ : ℕ) → Names ss → Walked rows ss d w u₁ g₁ n₁ → Walked rows ss d w u₂ g₂ n₂ → (n₁ ≡ n₂) × ((j : ℕ) → j < n₁ → cell rows metColumn j u₁ ≡ cell rows metColumn j u₂)
-same-members rows ss d w u₁ u₂ g₁ g₂ n₁ n₂ N A B = (A .count-is ∙ sym (B .count-is), same)
+pub same-members : (rows : ℕ) (ss : List Triangle) (d : Triangle) (ls : List step5.Link) (w u₁ u₂ : List ℕ) (g₁ g₂ n₁ n₂ : ℕ) → Names ss → Walked rows ss d ls w u₁ g₁ n₁ → Walked rows ss d ls w u₂ g₂ n₂ → (n₁ ≡ n₂) × ((j : ℕ) → j < n₁ → cell rows metColumn j u₁ ≡ cell rows metColumn j u₂)
+same-members rows ss d ls w u₁ u₂ g₁ g₂ n₁ n₂ N A B = (A .count-is ∙ sym (B .count-is), same)
   where
     ms : List Mark
-    ms = marks ss (links ss)
+    ms = marks ss ls
 
     e : Mark
     e = mark (spotAt ss d 0 one) (spotAt ss d 0 one)
 
     same : (j : ℕ) → j < n₁ → cell rows metColumn j u₁ ≡ cell rows metColumn j u₂
     same j h =
-        let l : j < length (marks ss (links ss)) = omega (arith, A .count-is) in
+        let l : j < length (marks ss ls) = omega (arith, A .count-is) in
         let M = A .grouping .member j e l in
         let K = B .grouping .member j e l in
         let one-spot : sameSpot (spotAt ss d (M .tri) (M .at)) (spotAt ss d (K .tri) (K .at)) ≡ true = ap (λ x. sameSpot x (spotAt ss d (K .tri) (K .at))) (sym (M .is) ∙ K .is) ∙ spot-refl (spotAt ss d (K .tri) (K .at)) in

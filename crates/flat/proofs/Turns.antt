@@ -15,8 +15,9 @@ use Rattle.table.specs.Loop.{upTo, listOf}
 use Rattle.table.proofs.Loops.{length-listOf}
 use Rattle.definition.specs.declared.Triangle.{Triangle}
 use Rattle.definition.specs.Mesh.{Third, one, Spot}
-use Rattle.definition.specs.Step5Links.{links, beyond}
+use Rattle.definition.specs.Step5Links.{Link, beyond}
 use Rattle.definition.specs.Step6Groups.{Mark, marks}
+use Rattle.laws.proofs.Closed.{Between}
 use Rattle.laws.proofs.Laws.{mark}
 use Rattle.laws.proofs.Mutual.{Names}
 use Rattle.view.specs.Rows.{row, spotAt}
@@ -116,10 +117,10 @@ only-after rows w u v e O =
     only-trans flatColumns rows w u v (only-more (groupColumn ∷ []) flatColumns rows w u refl (only-run (groupColumn ∷ []) rows groupColumn 0 w u (listOf rows (λ _. 0)) refl (omega arith) (omega (arith, length-listOf {S = ℕ} rows (λ _. 0))) e)) O
 
 -- what step 6 asks holds of the list with no places
-asked-blank : (rows : ℕ) (ss : List Triangle) (d : Triangle) (w : List ℕ) → 3 * length ss ≤ rows → Asked rows ss d w → Asked rows ss d (blank rows w)
-asked-blank rows ss d w fits A = record {
+asked-blank : (rows : ℕ) (ss : List Triangle) (d : Triangle) (ls : List Link) (w : List ℕ) → 3 * length ss ≤ rows → Asked rows ss d ls w → Asked rows ss d ls (blank rows w)
+asked-blank rows ss d ls w fits A = record {
   welds = λ t₁ t₂ i₁ i₂ h₁ h₂. (λ k. eqb (blank-cell rows vertexColumn (row t₁ i₁) w refl (fit t₁ i₁ h₁) k) (blank-cell rows vertexColumn (row t₂ i₂) w refl (fit t₂ i₂ h₂) k)) ∙ A .welds t₁ t₂ i₁ i₂ h₁ h₂;
-  linked = λ t i h. subst (LinkWord ss d (beyond (links ss) (spotAt ss d t i))) (sym (blank-cell rows linkColumn (row t i) w refl (fit t i h))) (A .linked t i h);
+  linked = λ t i h. subst (LinkWord ss d (beyond ls (spotAt ss d t i))) (sym (blank-cell rows linkColumn (row t i) w refl (fit t i h))) (A .linked t i h);
   any = λ t h. ap (λ x. eqb x 0) (blank-cell rows anyColumn t w refl (omega arith)) ∙ A .any t h;
   way = λ t h. blank-cell rows orientationColumn t w refl (omega arith) ∙ A .way t h;
 }
@@ -128,13 +129,13 @@ asked-blank rows ss d w fits A = record {
     fit t i h = omega (arith, row-lt t (length ss) i h)
 
 -- step 6 by flat walks: what the loop leaves stands for the definition's marks
-pub flat-walked : (rows tris : ℕ) (ss : List Triangle) (d : Triangle) (w u : List ℕ) (c : Counts) → length ss ≡ tris → 3 * tris ≤ rows → columns * rows ≤ length w → c .groups ≤ 3 * tris → Names ss → Sharp ss d → Asked rows ss d w → state (blank rows u) c ≡ upTo (3 * tris) (turn rows) (state (blank rows (cleared rows w)) (record { groups = 0; members = 0 })) → Walked rows ss d w u (c .groups) (c .members)
-flat-walked rows tris ss d w u c n fits long few N S A e =
+pub flat-walked : (rows tris : ℕ) (ss : List Triangle) (d : Triangle) (ls : List Link) → Between ss ls → (w u : List ℕ) (c : Counts) → length ss ≡ tris → 3 * tris ≤ rows → columns * rows ≤ length w → c .groups ≤ 3 * tris → Names ss → Sharp ss d → Asked rows ss d ls w → state (blank rows u) c ≡ upTo (3 * tris) (turn rows) (state (blank rows (cleared rows w)) (record { groups = 0; members = 0 })) → Walked rows ss d ls w u (c .groups) (c .members)
+flat-walked rows tris ss d ls B w u c n fits long few N S A e =
     let fit : 3 * length ss ≤ rows = omega arith in
-    let W = all-walked rows tris ss d (blank rows w) (blank rows u) (c .groups) (c .members) n fits (omega (arith, only-blank rows w .size)) N S (asked-blank rows ss d w fit A)
+    let W = all-walked rows tris ss d ls B (blank rows w) (blank rows u) (c .groups) (c .members) n fits (omega (arith, only-blank rows w .size)) N S (asked-blank rows ss d ls w fit A)
     (e ∙ ap (λ (l : List ℕ). upTo (3 * tris) (turn rows) (record { work = l; groups = 0; members = 0 })) (blank-cleared rows w)) in
     record {
       count-is = W .count-is;
-      grouping = grouping-kept rows ss d (marks ss (links ss)) (c .groups) (placesColumn ∷ []) (blank rows u) u refl fit (omega arith) (only-unblank rows u) (W .grouping) (mark (spotAt ss d 0 one) (spotAt ss d 0 one));
+      grouping = grouping-kept rows ss d (marks ss ls) (c .groups) (placesColumn ∷ []) (blank rows u) u refl fit (omega arith) (only-unblank rows u) (W .grouping) (mark (spotAt ss d 0 one) (spotAt ss d 0 one));
       rest = λ t l r. sym (blank-cell rows orientationColumn t u refl r) ∙ (W .rest t l r ∙ blank-cell rows orientationColumn t w refl r);
     }

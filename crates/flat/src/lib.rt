@@ -8,6 +8,8 @@ ghost use Rattle.table.specs.Columns.{columns, linkColumn};
 ghost use Rattle.table.specs.Table.{cell};
 ghost use Rattle.table.specs.Loop.{upTo};
 ghost use Rattle.definition.specs.declared.Triangle.{Triangle};
+ghost use Rattle.definition.specs.Step5Links as step5;
+ghost use Rattle.laws.proofs.Closed.{Between};
 ghost use Rattle.laws.proofs.Mutual.{Names};
 ghost use Rattle.view.specs.Frame.{Only};
 ghost use Rattle.view.specs.Weld.{Sharp};
@@ -184,7 +186,7 @@ fn walk_all(work: &mut [u32], rows: usize, tris: usize) -> Counts
 // Step 6: the corners of sound triangles in groups, as `groups::build_4_rule_groups` has them.
 pub fn build_4_rule_groups(work: &mut [u32], rows: usize, tris: usize) -> Counts
     requires { ⌜ (3 * tris ≤ rows) × (columns * rows ≤ length (now work)) × (rows < 4294967295) × ((r : ℕ) → r < 3 * tris → cell rows linkColumn r (now work) ≤ 3 * tris) ⌝ }
-    ensures grouped { λ r. ⌜ ((ss : List Triangle) (d : Triangle) → length ss ≡ tris → Names ss → Sharp ss d → Asked rows ss d (now (work .entry)) → Walked rows ss d (now (work .entry)) (now (work .exit)) (r .groups) (r .members)) ⌝ }
+    ensures grouped { λ r. ⌜ ((ss : List Triangle) (d : Triangle) (ls : List step5.Link) → Between ss ls → length ss ≡ tris → Names ss → Sharp ss d → Asked rows ss d ls (now (work .entry)) → Walked rows ss d ls (now (work .entry)) (now (work .exit)) (r .groups) (r .members)) ⌝ }
     ensures few { λ r. ⌜ (r .groups ≤ 3 * tris) × (r .members ≤ rows) ⌝ }
     ensures only { λ _. ⌜ Only spec.flatColumns rows (now (work .entry)) (now (work .exit)) ⌝ }
 {

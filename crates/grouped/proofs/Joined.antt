@@ -17,10 +17,11 @@ use Rattle.definition.specs.Handed.{meshFrom}
 use Rattle.definition.specs.Desk.{badCorner}
 use Rattle.definition.specs.Triangles.{triangles}
 use Rattle.definition.specs.Step4Order.{sound, broken}
-use Rattle.definition.specs.Step5Links.{links}
+use Rattle.definition.specs.Step5Links.{Link, links}
 use Rattle.definition.specs.Step6Groups.{marks}
 use Rattle.definition.specs.Frames.{numbered}
 use Rattle.laws.proofs.Mutual.{Names}
+use Rattle.laws.proofs.Closed.{Between, links-sound}
 use Rattle.laws.proofs.Laws.{mark}
 use Rattle.view.specs.Frame.{outside, Only}
 use Rattle.view.specs.Records.{Held}
@@ -41,7 +42,7 @@ use Rattle.grouped.specs.declared.Counts.{Counts}
 use Rattle.grouped.specs.Grouped.{groupedColumns, sixColumns, Six, Left}
 
 -- what step 6 asks is what steps 1 to 5 leave
-pub asked : (rows : ℕ) (sizes : List ℕ) (ps ns ts : List Float) (xs : List Triangle) (d : Triangle) (w : List ℕ) → Five rows sizes ps ns ts xs d w → Asked rows (sound xs) d w
+pub asked : (rows : ℕ) (sizes : List ℕ) (ps ns ts : List Float) (xs : List Triangle) (d : Triangle) (w : List ℕ) → Five rows sizes ps ns ts xs d w → Asked rows (sound xs) d (links (sound xs)) w
 asked rows sizes ps ns ts xs d w F = record {
   welds = sound-welds rows (sound xs) (broken xs) d w (welds rows (sound xs ++ broken xs) d w (F .vertices));
   linked = F .linked;
@@ -60,8 +61,8 @@ module _ (sizes : List ℕ) (ps ns ts : List Float) (n m groups count : ℕ) (w 
   rows = rowsOf (length sizes)
 
   pub joined : five.Left sizes ps ns ts xs n m w u
-      → ((ss : List Triangle) (d : Triangle) → length ss ≡ n → Names ss → Sharp ss d → Asked rows ss d u → Walked rows ss d u v groups count)
-      → ((ss : List Triangle) (d : Triangle) → 3 * length ss ≤ rows → Names ss → count ≡ length (marks ss (links ss)) → Grouping rows ss d (marks ss (links ss)) groups v → InOrder rows ss groups count z)
+      → ((ss : List Triangle) (d : Triangle) (ls : List Link) → Between ss ls → length ss ≡ n → Names ss → Sharp ss d → Asked rows ss d ls u → Walked rows ss d ls u v groups count)
+      → ((ss : List Triangle) (d : Triangle) (ls : List Link) → Between ss ls → 3 * length ss ≤ rows → Names ss → count ≡ length (marks ss ls) → Grouping rows ss d (marks ss ls) groups v → InOrder rows ss groups count z)
       → Only flatColumns rows u v
       → Only orderColumns rows v z
       → groups ≤ rows
@@ -78,7 +79,7 @@ module _ (sizes : List ℕ) (ps ns ts : List Float) (n m groups count : ℕ) (w 
         only = only-trans sixColumns rows w u z (only-more linkedColumns sixColumns rows w u refl (L .only)) (only-more groupedColumns sixColumns rows u z refl U);
         stands = λ e d.
             let F = L .stands e d in
-            let W = walked ss d (sym (L .sound-count)) (F .names) (F .sharp) (asked rows sizes ps ns ts xs d u F) in
+            let W = walked ss d (links ss) (links-sound ss) (sym (L .sound-count)) (F .names) (F .sharp) (asked rows sizes ps ns ts xs d u F) in
             let fit : 3 * length ss ≤ rows = omega (arith, L .fits, length-append ss (broken xs)) in
             record {
               linked = u;
@@ -87,6 +88,6 @@ module _ (sizes : List ℕ) (ps ns ts : List Float) (n m groups count : ℕ) (w 
               members = W .count-is;
               grouping = grouping-kept rows ss d (marks ss (links ss)) groups orderColumns v z refl fit few O (W .grouping) (mark (spotAt ss d 0 one) (spotAt ss d 0 one));
               rest = λ t l r. cell-kept orderColumns rows v z O orientationColumn t refl r ∙ W .rest t l r;
-              in-order = ordered ss d fit (F .names) (W .count-is) (W .grouping);
+              in-order = ordered ss d (links ss) (links-sound ss) fit (F .names) (W .count-is) (W .grouping);
             };
       }

@@ -11,6 +11,7 @@ use lib.Dec.{eqb}
 use lib.ListN.{length, getD, length-append}
 use lib.Seq.{getD-set-same}
 use borrow.Author.Tests.{eq-eqb, eqb-true}
+use Rattle.laws.proofs.Closed.{Between}
 use Rattle.tangent.specs.Slot.{flag}
 use Rattle.table.specs.Table.{cell, put, column}
 use Rattle.table.specs.Columns.{vertexColumn, orientationColumn, groupColumn, metColumn, beginColumn}
@@ -19,7 +20,7 @@ use Rattle.definition.specs.declared.Triangle.{Triangle}
 use Rattle.definition.specs.Lists.{first}
 use Rattle.definition.specs.Mesh.{Third, one, two, three, Spot, prior, cornerOf}
 use Rattle.definition.specs.Step4Order.{spots, welded}
-use Rattle.definition.specs.Step5Links.{links}
+use Rattle.definition.specs.Step5Links.{Link}
 use Rattle.definition.specs.Step6Groups.{Mark, grouped, facing, stops, cornerIn, over, going, walk}
 use Rattle.laws.proofs.Mutual.{Names}
 use Rattle.laws.proofs.Laws.{mark, beq-refl}
@@ -75,10 +76,10 @@ find rows ss d c t v w E = subst (Finds ss d c t (cornerIn c (getD ss t d))) (sy
     pick false p false q true r = finds-at three r
     pick false p false q false r = finds-none
 
-module _ (rows : ℕ) (ss : List Triangle) (d : Triangle) (N : Names ss) (fits : 3 * length ss ≤ rows) where
+module _ (rows : ℕ) (ss : List Triangle) (d : Triangle) (ls : List Link) (B : Between ss ls) (N : Names ss) (fits : 3 * length ss ≤ rows) where
   -- ---- orientation
 
-  module _ (w₀ : List ℕ) (ms : List Mark) (gs : List Spot) (w : List ℕ) (n : ℕ) (R : Marked rows ss d w₀ ms gs w n) (t : ℕ) (h : t < length ss) where
+  module _ (w₀ : List ℕ) (ms : List Mark) (gs : List Spot) (w : List ℕ) (n : ℕ) (R : Marked rows ss d ls w₀ ms gs w n) (t : ℕ) (h : t < length ss) where
     untouched-is : untouched rows t w ≡ (getD ss t d .any && not (anyOf ms (getD ss t d)))
     unfolding untouched anyOf num
     untouched-is =
@@ -136,7 +137,7 @@ module _ (rows : ℕ) (ss : List Triangle) (d : Triangle) (N : Names ss) (fits :
 
     -- what holds in a walk: the columns are as the marks say, and v is the start's vertex; the numbers of the n₀ members before it stand, those met since are of the new group, and where groups begin stands
     pub record Going (ms : List Mark) (w : List ℕ) (n : ℕ) : Type 0 where
-      pub marked : Marked rows ss d w₀ ms gs w n
+      pub marked : Marked rows ss d ls w₀ ms gs w n
       pub vertex : cell rows vertexColumn (row tg ig) w ≡ v
       pub grown : n₀ ≤ length ms
       pub past : (j : ℕ) → j < n₀ → numberOf rows w j ≡ N₀ j
@@ -144,11 +145,11 @@ module _ (rows : ℕ) (ss : List Triangle) (d : Triangle) (N : Names ss) (fits :
       pub begins : column rows beginColumn w ≡ B₀
 
     abbrev pub W : ℕ → List Mark → Spot → List Mark
-    W m ms s = walk m (links ss) g way ms s
+    W m ms s = walk m ls g way ms s
 
     pub data Enters (m : ℕ) (ms : List Mark) (n t : ℕ) (o : Option Spot) (e : Entered) : Type 0 where
       halts : going (W (suc m)) ms o ≡ ms → e .entry ≡ Stop → Going ms (e .work) n → Enters m ms n t o e
-      goes : (i : Third) → going (W (suc m)) ms o ≡ going (W m) (going (W m) (ms ++ (mark g (spotAt ss d t i) ∷ [])) (over (links ss) (cornerOf g) (prior (spotAt ss d t i)))) (over (links ss) (cornerOf g) (spotAt ss d t i)) → e .entry ≡ At (num i) → Going (ms ++ (mark g (spotAt ss d t i) ∷ [])) (e .work) (n + 1) → Enters m ms n t o e
+      goes : (i : Third) → going (W (suc m)) ms o ≡ going (W m) (going (W m) (ms ++ (mark g (spotAt ss d t i) ∷ [])) (over ls (cornerOf g) (prior (spotAt ss d t i)))) (over ls (cornerOf g) (spotAt ss d t i)) → e .entry ≡ At (num i) → Going (ms ++ (mark g (spotAt ss d t i) ∷ [])) (e .work) (n + 1) → Enters m ms n t o e
 
     module _ (m : ℕ) (ms : List Mark) (w : List ℕ) (n : ℕ) (R : Going ms w n) (t : ℕ) (h : t < length ss) where
       abbrev o : ℕ
@@ -162,7 +163,7 @@ module _ (rows : ℕ) (ss : List Triangle) (d : Triangle) (N : Names ss) (fits :
       unfolding going walk
       stop-at s e = rw e
 
-      go-at : (s : Spot) → stops ms way s ≡ false → going (W (suc m)) ms (some s) ≡ going (W m) (going (W m) (ms ++ (mark g s ∷ [])) (over (links ss) (cornerOf g) (prior s))) (over (links ss) (cornerOf g) s)
+      go-at : (s : Spot) → stops ms way s ≡ false → going (W (suc m)) ms (some s) ≡ going (W m) (going (W m) (ms ++ (mark g s ∷ [])) (over ls (cornerOf g) (prior s))) (over ls (cornerOf g) s)
       unfolding going walk
       go-at s e = rw e
 
@@ -178,15 +179,15 @@ module _ (rows : ℕ) (ss : List Triangle) (d : Triangle) (N : Names ss) (fits :
           let more = length-append ms (mark g (spotAt ss d t i) ∷ []) in
           goes i (go-at (spotAt ss d t i) s) refl
           record {
-            marked = mark-more rows ss d N fits w₀ gs g q G o last Ge ge refl ms w n (R .marked) t i h s z a;
-            vertex = vertex-kept rows ss d N fits w₀ gs g q G o last Ge ge refl ms w n (R .marked) t i h s z a tg ig hg ∙ R .vertex;
+            marked = mark-more rows ss d ls B N fits w₀ gs g q G o last Ge ge refl ms w n (R .marked) t i h s z a;
+            vertex = vertex-kept rows ss d ls B N fits w₀ gs g q G o last Ge ge refl ms w n (R .marked) t i h s z a tg ig hg ∙ R .vertex;
             grown = let k = R .grown in omega arith;
-            past = λ j l. number-kept rows ss d N fits w₀ gs g q G o last Ge ge refl ms w n (R .marked) t i h s z a j (let k = R .grown in omega arith) ∙ R .past j l;
+            past = λ j l. number-kept rows ss d ls B N fits w₀ gs g q G o last Ge ge refl ms w n (R .marked) t i h s z a j (let k = R .grown in omega arith) ∙ R .past j l;
             fresh = λ j l k. ⊎-elim
-                (λ e. ap (numberOf rows (after rows t o n G i w)) e ∙ number-new rows ss d N fits w₀ gs g q G o last Ge ge refl ms w n (R .marked) t i h s z a)
-                (λ e. number-kept rows ss d N fits w₀ gs g q G o last Ge ge refl ms w n (R .marked) t i h s z a j e ∙ R .fresh j l e)
+                (λ e. ap (numberOf rows (after rows t o n G i w)) e ∙ number-new rows ss d ls B N fits w₀ gs g q G o last Ge ge refl ms w n (R .marked) t i h s z a)
+                (λ e. number-kept rows ss d ls B N fits w₀ gs g q G o last Ge ge refl ms w n (R .marked) t i h s z a j e ∙ R .fresh j l e)
                 (last-or-earlier j (length ms) (omega arith));
-            begins = begin-kept rows ss d N fits w₀ gs g q G o last Ge ge refl ms w n (R .marked) t i h s z a ∙ R .begins;
+            begins = begin-kept rows ss d ls B N fits w₀ gs g q G o last Ge ge refl ms w n (R .marked) t i h s z a ∙ R .begins;
           }
 
       other-way : (i : Third) → grouped ms (spotAt ss d t i) ≡ false → Bool·beq (facing ms (getD ss t d) way) way ≡ false → Enters m ms n t (some (spotAt ss d t i)) (tests (num i) false true false)

@@ -9,6 +9,7 @@ use lib.Dec.{eqb}
 use lib.ListN.{length, getD}
 use lib.Seq.{sets}
 use borrow.Author.Tests.{eq-eqb, ne-eqb, eqb-true}
+use Rattle.laws.proofs.Closed.{Between}
 use Rattle.tangent.specs.Slot.{flag}
 use Rattle.table.specs.Table.{cell, column, filledTo}
 use Rattle.table.specs.Loop.{upTo, listOf}
@@ -20,7 +21,7 @@ use Rattle.definition.specs.declared.Triangle.{Triangle}
 use Rattle.definition.specs.Lists.{keep, first, has}
 use Rattle.definition.specs.Mesh.{Third, one, two, three, Spot, after, kept as keptAt, cornerOf, sameThird, sameTriangle, sameSpot}
 use Rattle.definition.specs.Step4Order.{welded}
-use Rattle.definition.specs.Step5Links.{links, beyond}
+use Rattle.definition.specs.Step5Links.{Link, beyond}
 use Rattle.definition.specs.Step6Groups.{Mark, grouped, wayOf, touched, facing, cornerIn, marks, members}
 use Rattle.bits.proofs.Bools.{and-left, and-right}
 use Rattle.laws.proofs.Mutual.{Names}
@@ -99,7 +100,7 @@ facing-first t = step (t .any)
     step true = refl
     step false = refl
 
-module _ (rows : ℕ) (ss : List Triangle) (d : Triangle) (w : List ℕ) (fits : 3 * length ss ≤ rows) (long : columns * rows ≤ length w) (A : Asked rows ss d w) where
+module _ (rows : ℕ) (ss : List Triangle) (d : Triangle) (ls : List Link) (w : List ℕ) (fits : 3 * length ss ≤ rows) (long : columns * rows ≤ length w) (A : Asked rows ss d ls w) where
   abbrev u : List ℕ
   u = cleared rows w
 
@@ -122,13 +123,13 @@ module _ (rows : ℕ) (ss : List Triangle) (d : Triangle) (w : List ℕ) (fits :
   full : columns * rows ≤ length u
   full = let a = only-cleared .size in omega arith
 
-  pub none-grouped : Grouped rows ss d w [] [] first-state
+  pub none-grouped : Grouped rows ss d ls w [] [] first-state
   unfolding grouped has
   none-grouped = record {
     marked = record {
       fixed = record {
         vertex = λ t₁ t₂ i₁ i₂ h₁ h₂. (λ k. eqb (kept vertexColumn (row t₁ i₁) refl (fit t₁ i₁ h₁) k) (kept vertexColumn (row t₂ i₂) refl (fit t₂ i₂ h₂) k)) ∙ A .welds t₁ t₂ i₁ i₂ h₁ h₂;
-        link = λ t i h. subst (LinkWord ss d (beyond (links ss) (spotAt ss d t i))) (sym (kept linkColumn (row t i) refl (fit t i h))) (A .linked t i h);
+        link = λ t i h. subst (LinkWord ss d (beyond ls (spotAt ss d t i))) (sym (kept linkColumn (row t i) refl (fit t i h))) (A .linked t i h);
         any = λ t h. ap (λ x. eqb x 0) (kept anyColumn t refl (omega arith)) ∙ A .any t h;
       };
       only = only-more (groupColumn ∷ []) walkColumns rows w u refl only-cleared;
@@ -149,9 +150,9 @@ module _ (rows : ℕ) (ss : List Triangle) (d : Triangle) (w : List ℕ) (fits :
 
 -- ---- after
 
-module _ (rows : ℕ) (ss : List Triangle) (d : Triangle) (N : Names ss) (w₀ : List ℕ) (gs : List Spot) (s : State) (R : Grouped rows ss d w₀ (marks ss (links ss)) gs s) where
+module _ (rows : ℕ) (ss : List Triangle) (d : Triangle) (ls : List Link) (B : Between ss ls) (N : Names ss) (w₀ : List ℕ) (gs : List Spot) (s : State) (R : Grouped rows ss d ls w₀ (marks ss ls) gs s) where
   abbrev ms : List Mark
-  ms = marks ss (links ss)
+  ms = marks ss ls
 
   abbrev w : List ℕ
   w = s .work
@@ -173,10 +174,10 @@ module _ (rows : ℕ) (ss : List Triangle) (d : Triangle) (N : Names ss) (w₀ :
         inside = S .inside;
         is = S .is;
         member = S .member;
-        way = F .word ∙ ap flag (sym (F .is) ∙ (ap (λ t. facing ms t (F .way)) (sym same) ∙ every-index (final-way ss) j e h (F .way)));
+        way = F .word ∙ ap flag (sym (F .is) ∙ (ap (λ t. facing ms t (F .way)) (sym same) ∙ every-index (final-way ss ls B) j e h (F .way)));
         some = omega arith;
         known = omega arith;
-        vertex = λ x. welded-as (cornerOf (getD ms j e .start)) (cornerOf (getD ms j e .spot)) x (every-index (one-corner ss) j e h);
+        vertex = λ x. welded-as (cornerOf (getD ms j e .start)) (cornerOf (getD ms j e .spot)) x (every-index (one-corner ss ls B) j e h);
       }
 
   same : (j k : ℕ) (e : Mark) → j < length ms → k < length ms → eqb (numberOf rows w j) (numberOf rows w k) ≡ sameSpot (getD ms j e .start) (getD ms k e .start)
@@ -263,14 +264,14 @@ unfolding cornerOf keptAt after
 own-corner ss d S t i h = sharp-own (getD ss t d) (record { ab = S .apart t one h; bc = S .apart t two h; ca = S .apart t three h }) i
 
 -- step 6: what the loop over the columns leaves stands for the definition's marks
-pub all-walked : (rows tris : ℕ) (ss : List Triangle) (d : Triangle) (w u : List ℕ) (groups count : ℕ) → length ss ≡ tris → 3 * tris ≤ rows → columns * rows ≤ length w → Names ss → Sharp ss d → Asked rows ss d w → record { work = u; groups = groups; members = count } ≡ upTo (3 * tris) (turn rows) (record { work = cleared rows w; groups = 0; members = 0 }) → Walked rows ss d w u groups count
-all-walked rows tris ss d w u groups count n fits long N S A e =
+pub all-walked : (rows tris : ℕ) (ss : List Triangle) (d : Triangle) (ls : List Link) → Between ss ls → (w u : List ℕ) (groups count : ℕ) → length ss ≡ tris → 3 * tris ≤ rows → columns * rows ≤ length w → Names ss → Sharp ss d → Asked rows ss d ls w → record { work = u; groups = groups; members = count } ≡ upTo (3 * tris) (turn rows) (record { work = cleared rows w; groups = 0; members = 0 }) → Walked rows ss d ls w u groups count
+all-walked rows tris ss d ls B w u groups count n fits long N S A e =
     let fit : 3 * length ss ≤ rows = omega arith in
-    let r = all-turns rows ss d N fit w (own-corner ss d S) (first-state rows ss d w fit long A) (none-grouped rows ss d w fit long A) refl in
-    let same : upTo (3 * length ss) (turn rows) (first-state rows ss d w fit long A) ≡ record { work = u; groups = groups; members = count } = ap (λ (m : ℕ). upTo (3 * m) (turn rows) (first-state rows ss d w fit long A)) n ∙ sym e in
-    let R = subst (Grouped rows ss d w (marks ss (links ss)) (r .0)) same (r .1) in
+    let r = all-turns rows ss d ls B N fit w (own-corner ss d S) (first-state rows ss d ls w fit long A) (none-grouped rows ss d ls w fit long A) refl in
+    let same : upTo (3 * length ss) (turn rows) (first-state rows ss d ls w fit long A) ≡ record { work = u; groups = groups; members = count } = ap (λ (m : ℕ). upTo (3 * m) (turn rows) (first-state rows ss d ls w fit long A)) n ∙ sym e in
+    let R = subst (Grouped rows ss d ls w (marks ss ls) (r .0)) same (r .1) in
     record {
       count-is = R .marked .count;
-      grouping = grouping rows ss d N w (r .0) _ R;
+      grouping = grouping rows ss d ls B N w (r .0) _ R;
       rest = R .marked .rest;
     }

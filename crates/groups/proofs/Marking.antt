@@ -10,13 +10,14 @@ use lib.Dec.{eqb}
 use lib.ListN.{length, getD, set, length-set, length-append, List·getD-append}
 use lib.Seq.{getD-set-same, getD-set-other, getD-at}
 use borrow.Author.Tests.{ne-eqb, eqb-true, eqb-false}
+use Rattle.laws.proofs.Closed.{Between}
 use Rattle.tangent.specs.Slot.{flag}
 use Rattle.table.specs.Table.{cell, put, column}
 use Rattle.table.specs.Columns.{columns, vertexColumn, linkColumn, orientationColumn, anyColumn, groupColumn, metColumn, beginColumn}
 use Rattle.table.proofs.Laws.{column-set}
 use Rattle.definition.specs.declared.Triangle.{Triangle}
 use Rattle.definition.specs.Mesh.{Third, one, two, three, Spot, sameTriangle, sameSpot}
-use Rattle.definition.specs.Step5Links.{links, beyond}
+use Rattle.definition.specs.Step5Links.{Link, beyond}
 use Rattle.definition.specs.Step6Groups.{Mark, grouped, facing, stops}
 use Rattle.laws.proofs.Mutual.{Names}
 use Rattle.laws.proofs.Bridge.{index-same}
@@ -72,11 +73,11 @@ module _ (rows t o n G : ℕ) (i : Third) (w : List ℕ) where
       length-set (put rows metColumn n (row t i) (adopted rows t o w)) (groupColumn * rows + row t i) G
       ∙ (length-set (adopted rows t o w) (metColumn * rows + n) (row t i) ∙ adopted-length rows t o w)
 
-module _ (rows : ℕ) (ss : List Triangle) (d : Triangle) (N : Names ss) (fits : 3 * length ss ≤ rows) where
+module _ (rows : ℕ) (ss : List Triangle) (d : Triangle) (ls : List Link) (B : Between ss ls) (N : Names ss) (fits : 3 * length ss ≤ rows) where
   fit : (t : ℕ) (i : Third) → t < length ss → row t i < rows
   fit t i h = omega (arith, row-lt t (length ss) i h)
 
-  module _ (w₀ : List ℕ) (gs : List Spot) (g : Spot) (q G o : ℕ) (last : length gs ≡ q + 1) (Ge : G ≡ q + 1) (ge : g ≡ getD gs q (spotAt ss d 0 one)) (oe : o ≡ flag (g .tri .orientation)) (ms : List Mark) (w : List ℕ) (n : ℕ) (R : Marked rows ss d w₀ ms gs w n)
+  module _ (w₀ : List ℕ) (gs : List Spot) (g : Spot) (q G o : ℕ) (last : length gs ≡ q + 1) (Ge : G ≡ q + 1) (ge : g ≡ getD gs q (spotAt ss d 0 one)) (oe : o ≡ flag (g .tri .orientation)) (ms : List Mark) (w : List ℕ) (n : ℕ) (R : Marked rows ss d ls w₀ ms gs w n)
       (t : ℕ) (i : Third) (h : t < length ss) (go-on : stops ms (g .tri .orientation) (spotAt ss d t i) ≡ false) (zero-at : cell rows groupColumn (row t i) w ≡ 0) (agrees : cell rows orientationColumn t (adopted rows t o w) ≡ o) where
     abbrev u : List ℕ
     u = after rows t o n G i w
@@ -141,10 +142,10 @@ module _ (rows : ℕ) (ss : List Triangle) (d : Triangle) (N : Names ss) (fits :
         getD-set-other (put rows metColumn n (row t i) (adopted rows t o w)) (groupColumn * rows + row t i) (orientationColumn * rows + t) G 0 (λ e. omega arith)
         ∙ (getD-set-other (adopted rows t o w) (metColumn * rows + n) (orientationColumn * rows + t) (row t i) 0 (λ e. omega arith) ∙ agrees)
 
-    fixed : Fixed rows ss d u
+    fixed : Fixed rows ss d ls u
     fixed = record {
       vertex = λ t₁ t₂ i₁ i₂ h₁ h₂. ap (λ x. eqb x (cell rows vertexColumn (row t₂ i₂) u)) (vertex-kept t₁ i₁ h₁) ∙ (ap (λ x. eqb (cell rows vertexColumn (row t₁ i₁) w) x) (vertex-kept t₂ i₂ h₂) ∙ R .fixed .vertex t₁ t₂ i₁ i₂ h₁ h₂);
-      link = λ t₁ i₁ h₁. subst (λ x. LinkWord ss d (beyond (links ss) (spotAt ss d t₁ i₁)) x) (sym (link-kept t₁ i₁ h₁)) (R .fixed .link t₁ i₁ h₁);
+      link = λ t₁ i₁ h₁. subst (λ x. LinkWord ss d (beyond ls (spotAt ss d t₁ i₁)) x) (sym (link-kept t₁ i₁ h₁)) (R .fixed .link t₁ i₁ h₁);
       any = λ t₁ h₁. ap (λ x. eqb x 0) (any-kept t₁ h₁) ∙ R .fixed .any t₁ h₁;
     }
 
@@ -280,7 +281,7 @@ module _ (rows : ℕ) (ss : List Triangle) (d : Triangle) (N : Names ss) (fits :
         column-set rows beginColumn groupColumn (row t i) G (put rows metColumn n (row t i) (adopted rows t o w)) a
         ∙ (column-set rows beginColumn metColumn n (row t i) (adopted rows t o w) n-lt ∙ adopted-column rows t o w (omega arith) beginColumn refl)
 
-    pub mark-more : Marked rows ss d w₀ (ms ++ (m ∷ [])) gs u (n + 1)
+    pub mark-more : Marked rows ss d ls w₀ (ms ++ (m ∷ [])) gs u (n + 1)
     mark-more = record {
       fixed = fixed;
       only = only;

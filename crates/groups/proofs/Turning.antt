@@ -11,6 +11,7 @@ use lib.Dec.{eqb, leb, ltb}
 use lib.ListN.{length, getD, take, length-append, List·getD-append}
 use lib.Seq.{getD-at, take-suc, take-length, getD-set-same, getD-set-other}
 use borrow.Author.Tests.{eq-eqb, ne-eqb, eqb-true, le-leb, lt-leb, lt-ltb, le-ltb, ltb-true, ltb-false}
+use Rattle.laws.proofs.Closed.{Between}
 use Rattle.tangent.specs.Slot.{flag}
 use Rattle.table.specs.Table.{cell, put, column}
 use Rattle.table.specs.Loop.{upTo}
@@ -21,7 +22,7 @@ use Rattle.definition.specs.declared.Triangle.{Triangle}
 use Rattle.definition.specs.Lists.{run}
 use Rattle.definition.specs.Mesh.{Third, one, two, three, Spot, cornerOf, sameSpot}
 use Rattle.definition.specs.Step4Order.{spots, welded}
-use Rattle.definition.specs.Step5Links.{links, beyond}
+use Rattle.definition.specs.Step5Links.{Link, beyond}
 use Rattle.definition.specs.Step6Groups.{Mark, grouped, wayOf, touched, facing, cornerIn, going, walk, fan, startAt, marks}
 use Rattle.laws.proofs.Enough.{Near, Grows, spot-refl}
 use Rattle.laws.proofs.Weld.{welded-refl}
@@ -43,7 +44,7 @@ pub faces-own : (ms : List Mark) (t : Triangle) (x : ℕ) → Faces ms t x → t
 unfolding facing
 faces-own ms t x F f = F .word ∙ ap flag (sym (F .is) ∙ ap (λ b. cond b (wayOf (F .way) (touched ms t)) (t .orientation)) f)
 
-module _ (rows : ℕ) (ss : List Triangle) (d : Triangle) (N : Names ss) (fits : 3 * length ss ≤ rows) (w₀ : List ℕ) where
+module _ (rows : ℕ) (ss : List Triangle) (d : Triangle) (ls : List Link) (B : Between ss ls) (N : Names ss) (fits : 3 * length ss ≤ rows) (w₀ : List ℕ) where
   abbrev s₀ : Spot
   s₀ = spotAt ss d 0 one
 
@@ -63,7 +64,7 @@ module _ (rows : ℕ) (ss : List Triangle) (d : Triangle) (N : Names ss) (fits :
     way = S .way;
   }
 
-  more-marked : (ms : List Mark) (gs : List Spot) (s : Spot) (w : List ℕ) (n : ℕ) → Marked rows ss d w₀ ms gs w n → Marked rows ss d w₀ ms (gs ++ (s ∷ [])) w n
+  more-marked : (ms : List Mark) (gs : List Spot) (s : Spot) (w : List ℕ) (n : ℕ) → Marked rows ss d ls w₀ ms gs w n → Marked rows ss d ls w₀ ms (gs ++ (s ∷ [])) w n
   more-marked ms gs s w n R = record {
     fixed = R .fixed;
     only = R .only;
@@ -126,7 +127,7 @@ module _ (rows : ℕ) (ss : List Triangle) (d : Triangle) (N : Names ss) (fits :
 
   -- ---- a store where groups begin
 
-  module _ (ms : List Mark) (gs : List Spot) (w u : List ℕ) (n : ℕ) (O : Only (beginColumn ∷ []) rows w u) (R : Marked rows ss d w₀ ms gs w n) where
+  module _ (ms : List Mark) (gs : List Spot) (w u : List ℕ) (n : ℕ) (O : Only (beginColumn ∷ []) rows w u) (R : Marked rows ss d ls w₀ ms gs w n) where
     fit : (t : ℕ) (i : Third) → t < length ss → row t i < rows
     fit t i h = omega (arith, row-lt t (length ss) i h)
 
@@ -159,12 +160,12 @@ module _ (rows : ℕ) (ss : List Triangle) (d : Triangle) (N : Names ss) (fits :
           way = S .way;
         }
 
-    pub marked-moved : Mark → Marked rows ss d w₀ ms gs u n
+    pub marked-moved : Mark → Marked rows ss d ls w₀ ms gs u n
     unfolding ungrouped
     marked-moved m₀ = record {
       fixed = record {
         vertex = λ t₁ t₂ i₁ i₂ h₁ h₂. (λ k. eqb (cell-moved vertexColumn (row t₁ i₁) refl (fit t₁ i₁ h₁) k) (cell-moved vertexColumn (row t₂ i₂) refl (fit t₂ i₂ h₂) k)) ∙ R .fixed .vertex t₁ t₂ i₁ i₂ h₁ h₂;
-        link = λ t i h. subst (LinkWord ss d (beyond (links ss) (spotAt ss d t i))) (sym (cell-moved linkColumn (row t i) refl (fit t i h))) (R .fixed .link t i h);
+        link = λ t i h. subst (LinkWord ss d (beyond ls (spotAt ss d t i))) (sym (cell-moved linkColumn (row t i) refl (fit t i h))) (R .fixed .link t i h);
         any = λ t h. ap (λ x. eqb x 0) (cell-moved anyColumn t refl (omega arith)) ∙ R .fixed .any t h;
       };
       only = only-trans walkColumns rows w₀ w u (R .only) (only-more (beginColumn ∷ []) walkColumns rows w u refl O);
@@ -181,7 +182,7 @@ module _ (rows : ℕ) (ss : List Triangle) (d : Triangle) (N : Names ss) (fits :
   -- ---- the turn of a corner
 
   module _ (sharp : (t : ℕ) (i : Third) → t < length ss → cornerIn (cornerOf (spotAt ss d t i)) (getD ss t d) ≡ some (spotAt ss d t i)) where
-    module _ (ms : List Mark) (gs : List Spot) (s : State) (R : Grouped rows ss d w₀ ms gs s) (t : ℕ) (i : Third) (h : t < length ss) (room : s .groups ≤ row t i) where
+    module _ (ms : List Mark) (gs : List Spot) (s : State) (R : Grouped rows ss d ls w₀ ms gs s) (t : ℕ) (i : Third) (h : t < length ss) (room : s .groups ≤ row t i) where
       abbrev p : Spot
       p = spotAt ss d t i
 
@@ -194,7 +195,7 @@ module _ (rows : ℕ) (ss : List Triangle) (d : Triangle) (N : Names ss) (fits :
 
       -- and in the definition
       abbrev news : List Mark
-      news = walk (fan ss (cornerOf p)) (links ss) p (getD ss t d .orientation) ms p
+      news = walk (fan ss (cornerOf p)) ls p (getD ss t d .orientation) ms p
 
       turn-is : turn rows (row t i) s ≡ cond (not (getD ss t d .any)) (cond (not (grouped ms p)) new s) s
       unfolding turn
@@ -229,7 +230,7 @@ module _ (rows : ℕ) (ss : List Triangle) (d : Triangle) (N : Names ss) (fits :
 
       -- the state of the walk from here, for the marks ns
       abbrev Now : List Mark → List ℕ → ℕ → Type 0
-      Now ns u n = Going rows ss d N fits w₀ ends t i h (length gs) G v last Ge ge (length ms) (numberOf rows (begun rows s)) (column rows beginColumn (begun rows s)) ns u n
+      Now ns u n = Going rows ss d ls B N fits w₀ ends t i h (length gs) G v last Ge ge (length ms) (numberOf rows (begun rows s)) (column rows beginColumn (begun rows s)) ns u n
 
       begin-now : Now ms (begun rows s) (s .members)
       begin-now = record {
@@ -245,14 +246,14 @@ module _ (rows : ℕ) (ss : List Triangle) (d : Triangle) (N : Names ss) (fits :
       unfolding going
       new-now f =
           let o : cell rows orientationColumn t w ≡ flag (getD ss t d .orientation) = faces-own ms (getD ss t d) (cell rows orientationColumn t w) (R .marked .faces t h) f in
-          let go : Now (going (λ ms′ s′. walk (rows + 1) (links ss) p (getD ss t d .orientation) ms′ s′) ms (cornerIn (cornerOf p) (getD ss t d))) (corner rows G v (flag (getD ss t d .orientation)) (rows + 1) (walkOf (begun rows s) (s .members)) t .work) (corner rows G v (flag (getD ss t d .orientation)) (rows + 1) (walkOf (begun rows s) (s .members)) t .count) =
-          in-step rows ss d N fits w₀ ends t i h (length gs) G v last Ge ge (length ms) (numberOf rows (begun rows s)) (column rows beginColumn (begun rows s)) (rows + 1) ms (walkOf (begun rows s) (s .members)) t h begin-now in
-          let fuel = walk-fuel ss p (getD ss t d .orientation) ms p record { inside = spot-in ss d t i h; joined = welded-refl (cornerOf p) } (rows + 1) (let c = fan-le ss (cornerOf p) in omega arith) in
-          let same : going (λ ms′ s′. walk (rows + 1) (links ss) p (getD ss t d .orientation) ms′ s′) ms (cornerIn (cornerOf p) (getD ss t d)) ≡ news = ap (λ x. going (λ ms′ s′. walk (rows + 1) (links ss) p (getD ss t d .orientation) ms′ s′) ms x) (sharp t i h) ∙ sym fuel in
+          let go : Now (going (λ ms′ s′. walk (rows + 1) ls p (getD ss t d .orientation) ms′ s′) ms (cornerIn (cornerOf p) (getD ss t d))) (corner rows G v (flag (getD ss t d .orientation)) (rows + 1) (walkOf (begun rows s) (s .members)) t .work) (corner rows G v (flag (getD ss t d .orientation)) (rows + 1) (walkOf (begun rows s) (s .members)) t .count) =
+          in-step rows ss d ls B N fits w₀ ends t i h (length gs) G v last Ge ge (length ms) (numberOf rows (begun rows s)) (column rows beginColumn (begun rows s)) (rows + 1) ms (walkOf (begun rows s) (s .members)) t h begin-now in
+          let fuel = walk-fuel ss ls B p (getD ss t d .orientation) ms p record { inside = spot-in ss d t i h; joined = welded-refl (cornerOf p) } (rows + 1) (let c = fan-le ss (cornerOf p) in omega arith) in
+          let same : going (λ ms′ s′. walk (rows + 1) ls p (getD ss t d .orientation) ms′ s′) ms (cornerIn (cornerOf p) (getD ss t d)) ≡ news = ap (λ x. going (λ ms′ s′. walk (rows + 1) ls p (getD ss t d .orientation) ms′ s′) ms x) (sharp t i h) ∙ sym fuel in
           subst (λ x. Now news (corner rows G v x (rows + 1) (walkOf (begun rows s) (s .members)) t .work) (corner rows G v x (rows + 1) (walkOf (begun rows s) (s .members)) t .count)) (sym o)
           (subst (λ x. Now x (corner rows G v (flag (getD ss t d .orientation)) (rows + 1) (walkOf (begun rows s) (s .members)) t .work) (corner rows G v (flag (getD ss t d .orientation)) (rows + 1) (walkOf (begun rows s) (s .members)) t .count)) same go)
 
-      starts : getD ss t d .any ≡ false → grouped ms p ≡ false → startAt ss (links ss) ms p ≡ news
+      starts : getD ss t d .any ≡ false → grouped ms p ≡ false → startAt ss ls ms p ≡ news
       unfolding startAt
       starts f e = λ k. cond (f k || e k) ms news
 
@@ -264,7 +265,7 @@ module _ (rows : ℕ) (ss : List Triangle) (d : Triangle) (N : Names ss) (fits :
 
         -- the marks begin with those before, and the start
         grows : Grows (ms ++ (mark p p ∷ [])) news
-        grows = subst (Grows (ms ++ (mark p p ∷ []))) (starts f e) (start-first ss (links ss) ms p (spot-in ss d t i h) f e)
+        grows = subst (Grows (ms ++ (mark p p ∷ []))) (starts f e) (start-first ss ls ms p (spot-in ss d t i h) f e)
 
         longer : length ms < length news
         longer = omega (arith, ap length (grows .is), length-append (ms ++ (mark p p ∷ [])) (grows .added), length-append ms (mark p p ∷ []))
@@ -336,27 +337,27 @@ module _ (rows : ℕ) (ss : List Triangle) (d : Triangle) (N : Names ss) (fits :
               (let e = ap (λ b. getD news b x) new-begin ∙ (ap (λ l. getD l (length ms) x) news-are ∙ getD-at ms (mark p p) (grows .added) x (length ms) refl) in ap (λ m. m .spot) e ∙ sym (ap (λ m. m .start) e)) q l;
         }
 
-      new-grouped : getD ss t d .any ≡ false → grouped ms p ≡ false → Grouped rows ss d w₀ news (gs ++ (p ∷ [])) new
+      new-grouped : getD ss t d .any ≡ false → grouped ms p ≡ false → Grouped rows ss d ls w₀ news (gs ++ (p ∷ [])) new
       new-grouped f e = record {
         marked = new-now f .marked;
         starts = starts-more ms news gs p (record { tri = t; at = i; inside = h; is = refl }) (R .starts) e
-            (subst (Grows ms) (starts f e) (start-grows ss (links ss) ms p))
-            (subst (λ x. grouped x p ≡ true) (starts f e) (start-marks ss (links ss) ms p (spot-in ss d t i h) f));
+            (subst (Grows ms) (starts f e) (start-grows ss ls ms p))
+            (subst (λ x. grouped x p ≡ true) (starts f e) (start-marks ss ls ms p (spot-in ss d t i h) f));
         groups = let a = length-append gs (p ∷ []) in let b = R .groups in omega arith;
         begins = new-begins f e;
         few = let a = at-begin in omega arith;
       }
 
-      by-tests : (f : Bool) → getD ss t d .any ≡ f → (e : Bool) → grouped ms p ≡ e → (ends : List Spot) × Grouped rows ss d w₀ (cond (f || e) ms news) ends (cond (not f) (cond (not e) new s) s)
+      by-tests : (f : Bool) → getD ss t d .any ≡ f → (e : Bool) → grouped ms p ≡ e → (ends : List Spot) × Grouped rows ss d ls w₀ (cond (f || e) ms news) ends (cond (not f) (cond (not e) new s) s)
       by-tests true a e b = (gs, R)
       by-tests false a true b = (gs, R)
       by-tests false a false b = (gs ++ (p ∷ []), new-grouped a b)
 
-      pub turned : (ends : List Spot) × Grouped rows ss d w₀ (startAt ss (links ss) ms p) ends (turn rows (row t i) s)
+      pub turned : (ends : List Spot) × Grouped rows ss d ls w₀ (startAt ss ls ms p) ends (turn rows (row t i) s)
       unfolding startAt
       turned =
           let r = by-tests (getD ss t d .any) refl (grouped ms p) refl in
-          (r .0, subst (Grouped rows ss d w₀ (startAt ss (links ss) ms p) (r .0)) (sym turn-is) (r .1))
+          (r .0, subst (Grouped rows ss d ls w₀ (startAt ss ls ms p) (r .0)) (sym turn-is) (r .1))
 
     -- a turn adds at most one group
     turn-few : (k : ℕ) (s : State) → turn rows k s .groups ≤ s .groups + 1
@@ -384,16 +385,16 @@ module _ (rows : ℕ) (ss : List Triangle) (d : Triangle) (N : Names ss) (fits :
         spotT i = record { tri = t; at = i }
 
     abbrev marksTo : ℕ → List Mark
-    marksTo n = run (startAt ss (links ss)) [] (spots (take n ss))
+    marksTo n = run (startAt ss ls) [] (spots (take n ss))
 
-    marks-more : (n : ℕ) → n < length ss → marksTo (suc n) ≡ startAt ss (links ss) (startAt ss (links ss) (startAt ss (links ss) (marksTo n) (spotAt ss d n one)) (spotAt ss d n two)) (spotAt ss d n three)
+    marks-more : (n : ℕ) → n < length ss → marksTo (suc n) ≡ startAt ss ls (startAt ss ls (startAt ss ls (marksTo n) (spotAt ss d n one)) (spotAt ss d n two)) (spotAt ss d n three)
     unfolding run spots
     marks-more n h =
-        ap (λ x. run (startAt ss (links ss)) [] (spots x)) (take-suc ss n d h)
-        ∙ (ap (run (startAt ss (links ss)) []) (spots-append (take n ss) (getD ss n d ∷ []))
-        ∙ run-append (startAt ss (links ss)) [] (spots (take n ss)) (spots (getD ss n d ∷ [])))
+        ap (λ x. run (startAt ss ls) [] (spots x)) (take-suc ss n d h)
+        ∙ (ap (run (startAt ss ls) []) (spots-append (take n ss) (getD ss n d ∷ []))
+        ∙ run-append (startAt ss ls) [] (spots (take n ss)) (spots (getD ss n d ∷ [])))
 
-    module _ (s : State) (R : Grouped rows ss d w₀ [] [] s) where
+    module _ (s : State) (R : Grouped rows ss d ls w₀ [] [] s) where
       turns-more : (n : ℕ) → upTo (3 * suc n) (turn rows) s ≡ turn rows (row n three) (turn rows (row n two) (turn rows (row n one) (upTo (3 * n) (turn rows) s)))
       unfolding upTo num
       turns-more n =
@@ -407,7 +408,7 @@ module _ (rows : ℕ) (ss : List Triangle) (d : Triangle) (N : Names ss) (fits :
       unfolding num
       three-rows n = (omega arith, refl, refl)
 
-      up-to : s .groups ≡ 0 → (n : ℕ) → n ≤ length ss → (gs : List Spot) × Grouped rows ss d w₀ (marksTo n) gs (upTo (3 * n) (turn rows) s) × (upTo (3 * n) (turn rows) s .groups ≤ 3 * n)
+      up-to : s .groups ≡ 0 → (n : ℕ) → n ≤ length ss → (gs : List Spot) × Grouped rows ss d ls w₀ (marksTo n) gs (upTo (3 * n) (turn rows) s) × (upTo (3 * n) (turn rows) s .groups ≤ 3 * n)
       unfolding upTo run spots
       up-to z zero h = ([], R, omega arith)
       up-to z (suc n) h =
@@ -421,14 +422,14 @@ module _ (rows : ℕ) (ss : List Triangle) (d : Triangle) (N : Names ss) (fits :
           let r₃ = turned _ (r₂ .0) _ (r₂ .1) n three (omega arith) (omega (arith, r₀ .2, a .2, f₁, f₂)) in
           let f₃ = turn-few (row n three) (turn rows (row n two) (turn rows (row n one) u₀)) in (
             r₃ .0,
-            subst (λ x. Grouped rows ss d w₀ (marksTo (suc n)) (r₃ .0) x) (sym (turns-more n))
-                (subst (λ x. Grouped rows ss d w₀ x (r₃ .0) (turn rows (row n three) (turn rows (row n two) (turn rows (row n one) (upTo (3 * n) (turn rows) s))))) (sym (marks-more n (omega arith))) (r₃ .1)),
+            subst (λ x. Grouped rows ss d ls w₀ (marksTo (suc n)) (r₃ .0) x) (sym (turns-more n))
+                (subst (λ x. Grouped rows ss d ls w₀ x (r₃ .0) (turn rows (row n three) (turn rows (row n two) (turn rows (row n one) (upTo (3 * n) (turn rows) s))))) (sym (marks-more n (omega arith))) (r₃ .1)),
             subst (λ x. x .groups ≤ 3 * suc n) (sym (turns-more n)) (omega (arith, r₀ .2, f₁, f₂, f₃)),
           )
 
       -- after step 6 the columns stand for the definition's marks
-      pub all-turns : s .groups ≡ 0 → (gs : List Spot) × Grouped rows ss d w₀ (marks ss (links ss)) gs (upTo (3 * length ss) (turn rows) s)
+      pub all-turns : s .groups ≡ 0 → (gs : List Spot) × Grouped rows ss d ls w₀ (marks ss ls) gs (upTo (3 * length ss) (turn rows) s)
       unfolding marks
       all-turns z =
           let r = up-to z (length ss) (le-refl (length ss)) in
-          (r .0, subst (λ x. Grouped rows ss d w₀ (run (startAt ss (links ss)) [] (spots x)) (r .0) (upTo (3 * length ss) (turn rows) s)) (take-length ss) (r .1))
+          (r .0, subst (λ x. Grouped rows ss d ls w₀ (run (startAt ss ls) [] (spots x)) (r .0) (upTo (3 * length ss) (turn rows) s)) (take-length ss) (r .1))

@@ -10,7 +10,7 @@ use Rattle.table.specs.Table.{cell}
 use Rattle.table.specs.Columns.{columns, orientationColumn, anyColumn, groupColumn, metColumn, beginColumn}
 use Rattle.definition.specs.declared.Triangle.{Triangle}
 use Rattle.definition.specs.Mesh.{Third, one, Spot, sameSpot}
-use Rattle.definition.specs.Step5Links.{links}
+use Rattle.definition.specs.Step5Links.{Link}
 use Rattle.definition.specs.Step6Groups.{Mark, grouped, facing, marks}
 use Rattle.view.specs.Frame.{Only}
 use Rattle.view.specs.Rows.{row, spotAt}
@@ -27,9 +27,9 @@ pub record Place (ss : List Triangle) (d : Triangle) (s : Spot) : Type 0 where
   pub is : s ≡ spotAt ss d tri at
 
 -- what the walks only read: vertices, links, `group_with_any`
-pub record Fixed (rows : ℕ) (ss : List Triangle) (d : Triangle) (w : List ℕ) : Type 0 where
+pub record Fixed (rows : ℕ) (ss : List Triangle) (d : Triangle) (ls : List Link) (w : List ℕ) : Type 0 where
   pub vertex : Welds rows ss d w
-  pub link : Linked rows ss d (links ss) w
+  pub link : Linked rows ss d ls w
   pub any : (t : ℕ) → t < length ss → eqb (cell rows anyColumn t w) 0 ≡ not (getD ss t d .any)
 
 -- the mark m stands as member j, as the row of its corner; its group's number is group + 1, and groups started at gs
@@ -53,8 +53,8 @@ pub record Faces (ms : List Mark) (t : Triangle) (x : ℕ) : Type 0 where
   pub own : facing ms t (t .orientation) ≡ way
 
 -- w stands for the marks ms, n of them, of groups that started at gs; w₀ is the list before step 6
-pub record Marked (rows : ℕ) (ss : List Triangle) (d : Triangle) (w₀ : List ℕ) (ms : List Mark) (gs : List Spot) (w : List ℕ) (n : ℕ) : Type 0 where
-  pub fixed : Fixed rows ss d w
+pub record Marked (rows : ℕ) (ss : List Triangle) (d : Triangle) (ls : List Link) (w₀ : List ℕ) (ms : List Mark) (gs : List Spot) (w : List ℕ) (n : ℕ) : Type 0 where
+  pub fixed : Fixed rows ss d ls w
   pub only : Only walkColumns rows w₀ w
   pub long : columns * rows ≤ length w
   pub count : n ≡ length ms
@@ -79,8 +79,8 @@ pub record Begins (rows groups : ℕ) (ms : List Mark) (w : List ℕ) : Type 0 w
   pub start : (q : ℕ) (e : Mark) → q < groups → getD ms (cell rows beginColumn q w) e .spot ≡ getD ms (cell rows beginColumn q w) e .start
 
 -- the state of the whole step
-pub record Grouped (rows : ℕ) (ss : List Triangle) (d : Triangle) (w₀ : List ℕ) (ms : List Mark) (gs : List Spot) (s : State) : Type 0 where
-  pub marked : Marked rows ss d w₀ ms gs (s .work) (s .members)
+pub record Grouped (rows : ℕ) (ss : List Triangle) (d : Triangle) (ls : List Link) (w₀ : List ℕ) (ms : List Mark) (gs : List Spot) (s : State) : Type 0 where
+  pub marked : Marked rows ss d ls w₀ ms gs (s .work) (s .members)
   pub starts : Starts ss d ms gs
   pub groups : s .groups ≡ length gs
   pub begins : Begins rows (s .groups) ms (s .work)
@@ -89,15 +89,15 @@ pub record Grouped (rows : ℕ) (ss : List Triangle) (d : Triangle) (w₀ : List
 -- ---- the whole step
 
 -- what step 6 asks of the columns: vertices, links, and each triangle's `group_with_any` and orientation
-pub record Asked (rows : ℕ) (ss : List Triangle) (d : Triangle) (w : List ℕ) : Type 0 where
+pub record Asked (rows : ℕ) (ss : List Triangle) (d : Triangle) (ls : List Link) (w : List ℕ) : Type 0 where
   pub welds : Welds rows ss d w
-  pub linked : Linked rows ss d (links ss) w
+  pub linked : Linked rows ss d ls w
   pub any : (t : ℕ) → t < length ss → eqb (cell rows anyColumn t w) 0 ≡ not (getD ss t d .any)
   pub way : (t : ℕ) → t < length ss → cell rows orientationColumn t w ≡ flag (getD ss t d .orientation)
 
 -- what it leaves, from the list w to u: the definition's marks, in so many groups
-pub record Walked (rows : ℕ) (ss : List Triangle) (d : Triangle) (w u : List ℕ) (groups count : ℕ) : Type 0 where
-  pub count-is : count ≡ length (marks ss (links ss))
-  pub grouping : Grouping rows ss d (marks ss (links ss)) groups u
+pub record Walked (rows : ℕ) (ss : List Triangle) (d : Triangle) (ls : List Link) (w u : List ℕ) (groups count : ℕ) : Type 0 where
+  pub count-is : count ≡ length (marks ss ls)
+  pub grouping : Grouping rows ss d (marks ss ls) groups u
   -- the orientations of other triangles stand
   pub rest : (t : ℕ) → length ss ≤ t → t < rows → cell rows orientationColumn t u ≡ cell rows orientationColumn t w

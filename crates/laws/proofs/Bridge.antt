@@ -28,7 +28,7 @@ use Rattle.definition.specs.Triangles.{usable, nook, pieces, triangles}
 use Rattle.laws.proofs.Part.{Every, every-nil, every-cons}
 use Rattle.laws.proofs.World.{eqb-sym}
 use Rattle.laws.proofs.Enough.{Near, walked, walked-eq}
-use Rattle.laws.proofs.Closed.{over-near}
+use Rattle.laws.proofs.Closed.{over-near, links-sound}
 use Rattle.laws.proofs.Mutual.{Names, names-nil, names-cons}
 
 -- ---- ten words a slot
@@ -119,8 +119,8 @@ index-same (names-cons g r) (suc i) (suc j) d h k = index-same r i j d (omega ar
 -- ---- the walk
 
 abbrev pub Walked : List Triangle → Spot → Bool → List Mark → Spot → List Mark
-Walked ss g w ms s = walked ss (links ss) g w (λ s h. (over-near ss (cornerOf g) s, over-near ss (cornerOf g) (prior s))) ms s
+Walked ss g w ms s = walked ss (links ss) g w (λ s h. (over-near ss (links ss) (links-sound ss) (cornerOf g) s, over-near ss (links ss) (links-sound ss) (cornerOf g) (prior s))) ms s
 
 -- what the walk does at a corner: nothing where it stops; else the corner is marked, the side before it crossed, then the side after it
 pub walk-is : (ss : List Triangle) (g : Spot) (w : Bool) (ms : List Mark) (s : Spot) → Near ss (cornerOf g) s → Walked ss g w ms s ≡ cond (stops ms w s) ms (going (Walked ss g w) (going (Walked ss g w) (ms ++ (record { spot = s; start = g; orientation = w } ∷ [])) (over (links ss) (cornerOf g) (prior s))) (over (links ss) (cornerOf g) s))
-walk-is ss g w ms s h = walked-eq ss (links ss) g w (λ s h. (over-near ss (cornerOf g) s, over-near ss (cornerOf g) (prior s))) ms s h
+walk-is ss g w ms s h = walked-eq ss (links ss) g w (λ s h. (over-near ss (links ss) (links-sound ss) (cornerOf g) s, over-near ss (links ss) (links-sound ss) (cornerOf g) (prior s))) ms s h

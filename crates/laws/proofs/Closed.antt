@@ -48,7 +48,7 @@ module _ (P : Spot → Type 0) where
   add-sound s none ls h each-none r = r
   add-sound s (some t) ls h (each-some k) r = every-cons (record { from = h; to = k .0; across = k .1 }) r
 
-  one-sound : (ls : List Link) (s : Spot) (later : List Spot) → P s → Every P later → Every Sound ls → Every Sound (linkOne ls s later)
+  pub one-sound : (ls : List Link) (s : Spot) (later : List Spot) → P s → Every P later → Every Sound ls → Every Sound (linkOne ls s later)
   unfolding linkOne
   one-sound ls s later h k r =
       every-cond (linked ls s) r
@@ -90,8 +90,12 @@ module _ (ss : List Triangle) where
       record { at = λ i. elim i [ one ↦ f _ (List·Memᴰ·head refl) | two ↦ f _ (List·Memᴰ·tail (List·Memᴰ·head refl)) | three ↦ f _ (List·Memᴰ·tail (List·Memᴰ·tail (List·Memᴰ·head refl))) ] } in
       every-cons h (every-cons h (every-cons h (spots-whole ts (λ s m. f s (List·Memᴰ·tail (List·Memᴰ·tail (List·Memᴰ·tail m)))))))
 
-  -- links among the triangles, run opposite ways
-  pub links-sound : Every (Sound (λ s. Whole ss (s .tri))) (links ss)
+  -- links among the triangles, run opposite ways: all that steps 6 to 9 ask of step 5, in either edition
+  abbrev pub Between : List Link → Type 0
+  Between ls = Every (Sound (λ s. Whole ss (s .tri))) ls
+
+  -- those of edition 1
+  pub links-sound : Between (links ss)
   unfolding links
   links-sound = all-sound (λ s. Whole ss (s .tri)) (spots-whole ss (λ s m. m)) [] every-nil
 
@@ -107,6 +111,6 @@ module _ (ss : List Triangle) where
   overTo-near c (some s) (each-some h) = cornerIn-near c (s .tri) h
 
   -- over a side to a corner of the triangles, welded to c
-  pub over-near : (c : Corner) (s : Spot) → Each (Near ss c) (over (links ss) c s)
+  pub over-near : (ls : List Link) → Between ls → (c : Corner) (s : Spot) → Each (Near ss c) (over ls c s)
   unfolding over
-  over-near c s = overTo-near c (beyond (links ss) s) (beyond-known (λ t. Whole ss (t .tri)) links-sound s)
+  over-near ls B c s = overTo-near c (beyond ls s) (beyond-known (λ t. Whole ss (t .tri)) B s)

@@ -12,11 +12,11 @@ use Rattle.definition.specs.declared.Triangle.{Triangle}
 use Rattle.definition.specs.Lists.{first, has, run}
 use Rattle.definition.specs.Mesh.{Spot, prior, cornerOf, sameTriangle, sameSpot}
 use Rattle.definition.specs.Step4Order.{welded, spots}
-use Rattle.definition.specs.Step5Links.{Link, links}
+use Rattle.definition.specs.Step5Links.{Link}
 use Rattle.definition.specs.Step6Groups.{Mark, grouped, wayOf, touched, facing, stops, over, going, walk, fan, startAt, marks}
 use Rattle.laws.proofs.Part.{Each, each-none, each-some, Every, every-nil, every-cons, every-map, every-append}
 use Rattle.laws.proofs.Enough.{Near, Grows, grows-refl, grows-trans, grows-cond, grows-going, grouped-mark, keep-lt, walk-grows}
-use Rattle.laws.proofs.Closed.{over-near}
+use Rattle.laws.proofs.Closed.{Between, over-near}
 use Rattle.laws.proofs.Weld.{welded-refl}
 use Rattle.laws.proofs.Shuffled.{every-mem}
 
@@ -29,7 +29,7 @@ some-triangle c = make 0 false 3 (nook 0 c) (nook 1 c) (nook 2 c)
 
 -- ---- what holds of all marks, by what one mark more keeps
 
-module _ (ss : List Triangle) (Inv : List Mark → Type 0) where
+module _ (ss : List Triangle) (ls : List Link) (B : Between ss ls) (Inv : List Mark → Type 0) where
   inv-cond : (b : Bool) {ms ns : List Mark} → Inv ms → (b ≡ false → Inv ns) → Inv (cond b ms ns)
   inv-cond true h k = h
   inv-cond false h k = k refl
@@ -40,17 +40,17 @@ module _ (ss : List Triangle) (Inv : List Mark → Type 0) where
   inv-going P F f ms (some s) (each-some p) h = f ms s p h
 
   module _ (step : (g : Spot) → g .tri .any ≡ false → (ms : List Mark) (s : Spot) → Near ss (cornerOf g) s → stops ms (g .tri .orientation) s ≡ false → Inv ms → Inv (ms ++ (mark g s ∷ []))) where
-    walk-inv : (n : ℕ) (g : Spot) → g .tri .any ≡ false → (ms : List Mark) (s : Spot) → Near ss (cornerOf g) s → Inv ms → Inv (walk n (links ss) g (g .tri .orientation) ms s)
+    walk-inv : (n : ℕ) (g : Spot) → g .tri .any ≡ false → (ms : List Mark) (s : Spot) → Near ss (cornerOf g) s → Inv ms → Inv (walk n ls g (g .tri .orientation) ms s)
     unfolding walk
     walk-inv zero g e ms s p h = h
     walk-inv (suc n) g e ms s p h =
         inv-cond (stops ms (g .tri .orientation) s) h
         (λ b.
-        inv-going (Near ss (cornerOf g)) _ (λ ms′ s′ p′ h′. walk-inv n g e ms′ s′ p′ h′) _ (over (links ss) (cornerOf g) s) (over-near ss (cornerOf g) s)
-        (inv-going (Near ss (cornerOf g)) _ (λ ms′ s′ p′ h′. walk-inv n g e ms′ s′ p′ h′) _ (over (links ss) (cornerOf g) (prior s)) (over-near ss (cornerOf g) (prior s))
+        inv-going (Near ss (cornerOf g)) _ (λ ms′ s′ p′ h′. walk-inv n g e ms′ s′ p′ h′) _ (over ls (cornerOf g) s) (over-near ss ls B (cornerOf g) s)
+        (inv-going (Near ss (cornerOf g)) _ (λ ms′ s′ p′ h′. walk-inv n g e ms′ s′ p′ h′) _ (over ls (cornerOf g) (prior s)) (over-near ss ls B (cornerOf g) (prior s))
         (step g e ms s p b h)))
 
-    start-inv : (ms : List Mark) (s : Spot) → List·Memᴰ s (spots ss) → Inv ms → Inv (startAt ss (links ss) ms s)
+    start-inv : (ms : List Mark) (s : Spot) → List·Memᴰ s (spots ss) → Inv ms → Inv (startAt ss ls ms s)
     unfolding startAt
     start-inv ms s m h =
         inv-cond (s .tri .any || grouped ms s) h
@@ -60,32 +60,32 @@ module _ (ss : List Triangle) (Inv : List Mark → Type 0) where
         or-left true b e = absurd (true≢false e)
         or-left false b e = refl
 
-    run-inv : {xs : List Spot} → Every (λ s. List·Memᴰ s (spots ss)) xs → (ms : List Mark) → Inv ms → Inv (run (startAt ss (links ss)) ms xs)
+    run-inv : {xs : List Spot} → Every (λ s. List·Memᴰ s (spots ss)) xs → (ms : List Mark) → Inv ms → Inv (run (startAt ss ls) ms xs)
     unfolding run
     run-inv every-nil ms h = h
-    run-inv (every-cons {x = s} m r) ms h = run-inv r (startAt ss (links ss) ms s) (start-inv ms s m h)
+    run-inv (every-cons {x = s} m r) ms h = run-inv r (startAt ss ls ms s) (start-inv ms s m h)
 
-    pub marks-inv : Inv [] → Inv (marks ss (links ss))
+    pub marks-inv : Inv [] → Inv (marks ss ls)
     unfolding marks
     marks-inv h = run-inv (every-mem _ (spots ss) (λ s m. m)) [] h
 
 -- ---- E11: one welded corner per group
 
-module _ (ss : List Triangle) where
-  pub one-corner : Every (λ m. welded (cornerOf (m .start)) (cornerOf (m .spot)) ≡ true) (marks ss (links ss))
+module _ (ss : List Triangle) (ls : List Link) (B : Between ss ls) where
+  pub one-corner : Every (λ m. welded (cornerOf (m .start)) (cornerOf (m .spot)) ≡ true) (marks ss ls)
   one-corner =
-      marks-inv ss (Every (λ m. welded (cornerOf (m .start)) (cornerOf (m .spot)) ≡ true))
+      marks-inv ss ls B (Every (λ m. welded (cornerOf (m .start)) (cornerOf (m .spot)) ≡ true))
       (λ g e ms s p b h. every-append h (every-cons (p .joined) every-nil))
       every-nil
 
   -- every mark stands on a corner of the triangles
-  pub marks-inside : Every (λ m. List·Memᴰ (m .spot) (spots ss)) (marks ss (links ss))
-  marks-inside = marks-inv ss (Every (λ m. List·Memᴰ (m .spot) (spots ss))) (λ g e ms s p b h. every-append h (every-cons (p .inside) every-nil)) every-nil
+  pub marks-inside : Every (λ m. List·Memᴰ (m .spot) (spots ss)) (marks ss ls)
+  marks-inside = marks-inv ss ls B (Every (λ m. List·Memᴰ (m .spot) (spots ss))) (λ g e ms s p b h. every-append h (every-cons (p .inside) every-nil)) every-nil
 
   -- one orientation per group: that of the triangle at which it started, which isn't `group_with_any`
-  pub one-way : Every (λ m. (m .orientation ≡ m .start .tri .orientation) × (m .start .tri .any ≡ false)) (marks ss (links ss))
+  pub one-way : Every (λ m. (m .orientation ≡ m .start .tri .orientation) × (m .start .tri .any ≡ false)) (marks ss ls)
   one-way =
-      marks-inv ss (Every (λ m. (m .orientation ≡ m .start .tri .orientation) × (m .start .tri .any ≡ false)))
+      marks-inv ss ls B (Every (λ m. (m .orientation ≡ m .start .tri .orientation) × (m .start .tri .any ≡ false)))
       (λ g e ms s p b h. every-append h (every-cons (refl, e) every-nil))
       every-nil
 
@@ -109,10 +109,10 @@ unfolding grouped has
 once-snoc once-nil m e = once-cons every-nil once-nil
 once-snoc (once-cons {m = k} {ms} h r) m e = once-cons (every-append h (every-cons (or-left (sameSpot (k .spot) (m .spot)) _ e) every-nil)) (once-snoc r m (or-right (sameSpot (k .spot) (m .spot)) _ e))
 
-module _ (ss : List Triangle) where
-  pub at-most-one : Once (marks ss (links ss))
+module _ (ss : List Triangle) (ls : List Link) (B : Between ss ls) where
+  pub at-most-one : Once (marks ss ls)
   unfolding stops
-  at-most-one = marks-inv ss Once (λ g e ms s p b h. once-snoc h (mark g s) (or-left (grouped ms s) _ b)) once-nil
+  at-most-one = marks-inv ss ls B Once (λ g e ms s p b h. once-snoc h (mark g s) (or-left (grouped ms s) _ b)) once-nil
 
 -- ---- exactly one where the triangle isn't `group_with_any`
 
@@ -173,9 +173,9 @@ unfolding run
 run-marks ss ls s m f (List·Memᴰ·head {x} {xs} e) ms = run-grows ss ls xs (startAt ss ls ms x) .stay s (subst (λ y. grouped (startAt ss ls ms y) s ≡ true) e (start-marks ss ls ms s m f))
 run-marks ss ls s m f (List·Memᴰ·tail {x} {xs} k) ms = run-marks ss ls s m f k (startAt ss ls ms x)
 
-pub at-least-one : (ss : List Triangle) (s : Spot) → List·Memᴰ s (spots ss) → s .tri .any ≡ false → grouped (marks ss (links ss)) s ≡ true
+pub at-least-one : (ss : List Triangle) (ls : List Link) (s : Spot) → List·Memᴰ s (spots ss) → s .tri .any ≡ false → grouped (marks ss ls) s ≡ true
 unfolding marks
-at-least-one ss s m f = run-marks ss (links ss) s m f m []
+at-least-one ss ls s m f = run-marks ss ls s m f m []
 
 -- ---- a triangle's orientation never changes after its first corner is grouped
 
@@ -247,10 +247,10 @@ settled-new ms g s b = go (touched ms (s .tri)) refl
         let i : touched (ms ++ (mark g s ∷ [])) (s .tri) ≡ some k = first-append (λ k. sameTriangle (k .spot .tri) (s .tri)) k ms (mark g s ∷ []) e in
         record { by = k; is = i; way = λ v. stays ms (mark g s ∷ []) (s .tri) k v (g .tri .orientation) e ∙ facing-is ms (g .tri .orientation) s b }
 
-module _ (ss : List Triangle) where
-  pub final-way : Every (λ m. (v : Bool) → facing (marks ss (links ss)) (m .spot .tri) v ≡ m .orientation) (marks ss (links ss))
+module _ (ss : List Triangle) (ls : List Link) (B : Between ss ls) where
+  pub final-way : Every (λ m. (v : Bool) → facing (marks ss ls) (m .spot .tri) v ≡ m .orientation) (marks ss ls)
   final-way =
       every-map (λ m h. h .way)
-      (marks-inv ss (λ ms. Every (Settled ms) ms)
+      (marks-inv ss ls B (λ ms. Every (Settled ms) ms)
       (λ g e ms s p b h. every-append (every-map (λ m k. settled-more ms (mark g s) m k) h) (every-cons (settled-new ms g s b) every-nil))
       every-nil)

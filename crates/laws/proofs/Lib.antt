@@ -25,3 +25,4 @@ pub mod Leftover
 pub mod Reached
 pub mod OneGroup
 pub mod Verdict
+pub mod Old

@@ -15,6 +15,7 @@ use Rattle.laws.proofs.Enough.{spot-refl}
 use Rattle.bits.proofs.Bools.{and-left}
 use Rattle.laws.proofs.Closed.{spots-every}
 use Rattle.laws.proofs.Weld.{welded-as, first-same}
+use Rattle.laws.proofs.Closed.{links-sound}
 use Rattle.laws.proofs.Laws.{one-corner, marks-inside, Once, once-cons, at-most-one, at-least-one, final-way}
 use Rattle.laws.proofs.Mutual.{Names, spots-apart, apart-inj, spot-sym, every-at, mutual′}
 use Rattle.laws.proofs.Sharp.{Sharp, sharp-own}
@@ -76,12 +77,12 @@ module _ (ss : List Triangle) where
   own-way : (s : Spot) (m : Mark) → On ss s m → s .tri .any ≡ false → s .tri .orientation ≡ m .orientation
   own-way s m h f =
       sym (facing-own (marks ss (links ss)) (s .tri) true f)
-      ∙ (ap (λ x. facing (marks ss (links ss)) (x .tri) true) (sym (h .at)) ∙ every-at (final-way ss) (h .here) true)
+      ∙ (ap (λ x. facing (marks ss (links ss)) (x .tri) true) (sym (h .at)) ∙ every-at (final-way ss (links ss) (links-sound ss)) (h .here) true)
 
   -- a mark on a corner is at the group's corner
   own-corner : (s : Spot) (m : Mark) → On ss s m → (c : Corner) → welded (cornerOf s) c ≡ true → welded (cornerOf (m .start)) c ≡ true
   own-corner s m h c e =
-      welded-as (cornerOf (m .start)) (cornerOf (m .spot)) c (every-at (one-corner ss) (h .here)) ∙ (ap (λ x. welded (cornerOf x) c) (h .at) ∙ e)
+      welded-as (cornerOf (m .start)) (cornerOf (m .spot)) c (every-at (one-corner ss (links ss) (links-sound ss)) (h .here)) ∙ (ap (λ x. welded (cornerOf x) c) (h .at) ∙ e)
 
   -- over a side u lies the corner y of the triangle beyond that is welded to the group's corner
   lies : (s : Spot) (m : Mark) → On ss s m → (u v y : Spot) → beyond (links ss) u ≡ some v → v .tri ≡ y .tri → welded (cornerOf s) (cornerOf y) ≡ true → Sharp (y .tri) → over (links ss) (cornerOf (m .start)) u ≡ some y
@@ -116,7 +117,7 @@ module _ (ss : List Triangle) where
 -- The start of a side and the end of the side linked with it are in one group, where the two triangles aren't `group_with_any` and have one orientation: every mark on the one has the start of every mark on the other.
 pub one-group : (ss : List Triangle) → Names ss → Every Sharp ss → (s t : Spot) → Mates ss s t → (m n : Mark) → On ss s m → On ss (next t) n → m .start ≡ n .start
 one-group ss names sharp s t j m n h k =
-    every-at (every-at (made-joint (links ss) (marks-made ss)) (h .here)) (k .here)
+    every-at (every-at (made-joint (links ss) (marks-made ss (links ss) (links-sound ss))) (h .here)) (k .here)
     (subst (Open (links ss) m) (sym (k .at)) (there ss names sharp s t j m h))
     (subst (Open (links ss) n) (sym (h .at)) (back ss names sharp s t j n k))
 
@@ -150,8 +151,8 @@ pub record Marked (ss : List Triangle) (s : Spot) : Type 0 where
 pub marked : (ss : List Triangle) → Names ss → (s : Spot) → List·Memᴰ s (spots ss) → s .tri .any ≡ false → Marked ss s
 unfolding grouped
 marked ss names s h f =
-    let k = has-hit (λ m. sameSpot (m .spot) s) (marks ss (links ss)) (at-least-one ss s h f) in
-    record { by = k .it; on = record { here = k .inside; at = apart-inj (spots-apart names) (k .it .spot) s (every-at (marks-inside ss) (k .inside)) h (k .passes) } }
+    let k = has-hit (λ m. sameSpot (m .spot) s) (marks ss (links ss)) (at-least-one ss (links ss) s h f) in
+    record { by = k .it; on = record { here = k .inside; at = apart-inj (spots-apart names) (k .it .spot) s (every-at (marks-inside ss (links ss) (links-sound ss)) (k .inside)) h (k .passes) } }
 
 -- marks on two corners that have one name
 once-inj : {ms : List Mark} → Once ms → (m n : Mark) → List·Memᴰ m ms → List·Memᴰ n ms → sameSpot (m .spot) (n .spot) ≡ true → m ≡ n
@@ -162,4 +163,4 @@ once-inj (once-cons h r) m n (List·Memᴰ·tail k) (List·Memᴰ·tail l) e = o
 
 -- No corner has two marks.
 pub one-mark : (ss : List Triangle) (s : Spot) (m n : Mark) → On ss s m → On ss s n → m ≡ n
-one-mark ss s m n h k = once-inj (at-most-one ss) m n (h .here) (k .here) (ap (λ x. sameSpot x (n .spot)) (h .at ∙ sym (k .at)) ∙ spot-refl (n .spot))
+one-mark ss s m n h k = once-inj (at-most-one ss (links ss) (links-sound ss)) m n (h .here) (k .here) (ap (λ x. sameSpot x (n .spot)) (h .at ∙ sym (k .at)) ∙ spot-refl (n .spot))

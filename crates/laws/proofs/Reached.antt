@@ -9,11 +9,11 @@ use Rattle.definition.specs.declared.Triangle.{Triangle}
 use Rattle.definition.specs.Lists.{run}
 use Rattle.definition.specs.Mesh.{Spot, prior, cornerOf}
 use Rattle.definition.specs.Step4Order.{spots}
-use Rattle.definition.specs.Step5Links.{Link, links}
+use Rattle.definition.specs.Step5Links.{Link}
 use Rattle.definition.specs.Step6Groups.{Mark, grouped, facing, stops, over, going, walk, fan, startAt, marks}
 use Rattle.laws.proofs.Part.{Each, each-none, each-some, Every, every-nil, every-cons, every-map, every-append, every-pair}
 use Rattle.laws.proofs.Enough.{Near, Grows, grows-refl, grows-trans, grows-snoc, grows-going, walk-grows, grouped-mark, left′, left-less, left-drop, stops-grouped, open-fan}
-use Rattle.laws.proofs.Closed.{over-near}
+use Rattle.laws.proofs.Closed.{Between, over-near}
 use Rattle.laws.proofs.Weld.{welded-refl}
 use Rattle.laws.proofs.Shuffled.{every-mem}
 use Rattle.laws.proofs.Laws.{mark, or-left, or-right, beq-refl}
@@ -31,67 +31,67 @@ pub data Made (ls : List Link) : List Mark → Type 0 where
   made-none : Made ls []
   made-more : {ms ns : List Mark} (g : Spot) → Made ls ms → g .tri .any ≡ false → grouped ms g ≡ false → Goes ls g ms (some g) ns → Made ls ns
 
-module _ (ss : List Triangle) where
+module _ (ss : List Triangle) (ls : List Link) (B : Between ss ls) where
   module _ (g : Spot) where
     abbrev way : Bool
     way = g .tri .orientation
 
-    abbrev near : (s : Spot) → Near ss (cornerOf g) s → Each (Near ss (cornerOf g)) (over (links ss) (cornerOf g) s) × Each (Near ss (cornerOf g)) (over (links ss) (cornerOf g) (prior s))
-    near s h = (over-near ss (cornerOf g) s, over-near ss (cornerOf g) (prior s))
+    abbrev near : (s : Spot) → Near ss (cornerOf g) s → Each (Near ss (cornerOf g)) (over ls (cornerOf g) s) × Each (Near ss (cornerOf g)) (over ls (cornerOf g) (prior s))
+    near s h = (over-near ss ls B (cornerOf g) s, over-near ss ls B (cornerOf g) (prior s))
 
     abbrev room : List Mark → ℕ
-    room ms = left′ ss (links ss) g way near ms
+    room ms = left′ ss ls g way near ms
 
     abbrev on : ℕ → List Mark → Spot → List Mark
-    on n ms s = walk n (links ss) g way ms s
+    on n ms s = walk n ls g way ms s
 
     -- where there is a corner to go to
-    going-goes : (n : ℕ) → ((ms : List Mark) (s : Spot) → Near ss (cornerOf g) s → room ms ≤ n → Goes (links ss) g ms (some s) (on n ms s)) → (ms : List Mark) (o : Option Spot) → Each (Near ss (cornerOf g)) o → room ms ≤ n → Goes (links ss) g ms o (going (on n) ms o)
+    going-goes : (n : ℕ) → ((ms : List Mark) (s : Spot) → Near ss (cornerOf g) s → room ms ≤ n → Goes ls g ms (some s) (on n ms s)) → (ms : List Mark) (o : Option Spot) → Each (Near ss (cornerOf g)) o → room ms ≤ n → Goes ls g ms o (going (on n) ms o)
     unfolding going
     going-goes n f ms none each-none h = nowhere
     going-goes n f ms (some s) (each-some p) h = f ms s p h
 
     -- a corner at which the walk does not stop leaves less room
     drop : (ms : List Mark) (s : Spot) → Near ss (cornerOf g) s → stops ms way s ≡ false → room (ms ++ (mark g s ∷ [])) < room ms
-    drop ms s p e = left-drop ss (links ss) g way near ms s p (stops-grouped ss (links ss) g way near ms s e)
+    drop ms s p e = left-drop ss ls g way near ms s p (stops-grouped ss ls g way near ms s e)
 
     -- with steps enough the walk is that relation
-    walk-goes : (n : ℕ) (ms : List Mark) (s : Spot) → Near ss (cornerOf g) s → room ms ≤ n → Goes (links ss) g ms (some s) (on n ms s)
+    walk-goes : (n : ℕ) (ms : List Mark) (s : Spot) → Near ss (cornerOf g) s → room ms ≤ n → Goes ls g ms (some s) (on n ms s)
     unfolding walk
     walk-goes zero ms s p h = go (stops ms way s) refl
       where
-        go : (b : Bool) → stops ms way s ≡ b → Goes (links ss) g ms (some s) ms
+        go : (b : Bool) → stops ms way s ≡ b → Goes ls g ms (some s) ms
         go true e = halted e
         go false e = absurd (let d = drop ms s p e in omega arith)
     walk-goes (suc n) ms s p h = go (stops ms way s) refl (going-goes n (λ ms′ s′ p′ h′. walk-goes n ms′ s′ p′ h′))
       where
-        go : (b : Bool) → stops ms way s ≡ b → ((ns : List Mark) (o : Option Spot) → Each (Near ss (cornerOf g)) o → room ns ≤ n → Goes (links ss) g ns o (going (on n) ns o)) → Goes (links ss) g ms (some s) (cond b ms (going (on n) (going (on n) (ms ++ (mark g s ∷ [])) (over (links ss) (cornerOf g) (prior s))) (over (links ss) (cornerOf g) s)))
+        go : (b : Bool) → stops ms way s ≡ b → ((ns : List Mark) (o : Option Spot) → Each (Near ss (cornerOf g)) o → room ns ≤ n → Goes ls g ns o (going (on n) ns o)) → Goes ls g ms (some s) (cond b ms (going (on n) (going (on n) (ms ++ (mark g s ∷ [])) (over ls (cornerOf g) (prior s))) (over ls (cornerOf g) s)))
         go true e f = halted e
         go false e f =
             let d = drop ms s p e in
             let ns = ms ++ (mark g s ∷ []) in
-            let o = over (links ss) (cornerOf g) (prior s) in
-            let l = left-less ss (links ss) g way near (grows-going (on n) (λ ms′ s′. walk-grows n (links ss) g way ms′ s′) ns o) in
-            entered e (f ns o (over-near ss (cornerOf g) (prior s)) (omega arith)) (f _ (over (links ss) (cornerOf g) s) (over-near ss (cornerOf g) s) (omega arith))
+            let o = over ls (cornerOf g) (prior s) in
+            let l = left-less ss ls g way near (grows-going (on n) (λ ms′ s′. walk-grows n ls g way ms′ s′) ns o) in
+            entered e (f ns o (over-near ss ls B (cornerOf g) (prior s)) (omega arith)) (f _ (over ls (cornerOf g) s) (over-near ss ls B (cornerOf g) s) (omega arith))
 
-    start-goes : (ms : List Mark) → List·Memᴰ g (spots ss) → Goes (links ss) g ms (some g) (walk (fan ss (cornerOf g)) (links ss) g way ms g)
-    start-goes ms m = walk-goes (fan ss (cornerOf g)) ms g (record { inside = m; joined = welded-refl (cornerOf g) }) (open-fan ss (links ss) g way near ms)
+    start-goes : (ms : List Mark) → List·Memᴰ g (spots ss) → Goes ls g ms (some g) (walk (fan ss (cornerOf g)) ls g way ms g)
+    start-goes ms m = walk-goes (fan ss (cornerOf g)) ms g (record { inside = m; joined = welded-refl (cornerOf g) }) (open-fan ss ls g way near ms)
 
-  start-made : (ms : List Mark) (s : Spot) → List·Memᴰ s (spots ss) → Made (links ss) ms → Made (links ss) (startAt ss (links ss) ms s)
+  start-made : (ms : List Mark) (s : Spot) → List·Memᴰ s (spots ss) → Made ls ms → Made ls (startAt ss ls ms s)
   unfolding startAt
   start-made ms s m h = go (s .tri .any || grouped ms s) refl
     where
-      go : (b : Bool) → (s .tri .any || grouped ms s) ≡ b → Made (links ss) (cond b ms (walk (fan ss (cornerOf s)) (links ss) s (s .tri .orientation) ms s))
+      go : (b : Bool) → (s .tri .any || grouped ms s) ≡ b → Made ls (cond b ms (walk (fan ss (cornerOf s)) ls s (s .tri .orientation) ms s))
       go true e = h
       go false e = made-more s h (or-left (s .tri .any) (grouped ms s) e) (or-right (s .tri .any) (grouped ms s) e) (start-goes s ms m)
 
-  run-made : {xs : List Spot} → Every (λ s. List·Memᴰ s (spots ss)) xs → (ms : List Mark) → Made (links ss) ms → Made (links ss) (run (startAt ss (links ss)) ms xs)
+  run-made : {xs : List Spot} → Every (λ s. List·Memᴰ s (spots ss)) xs → (ms : List Mark) → Made ls ms → Made ls (run (startAt ss ls) ms xs)
   unfolding run
   run-made every-nil ms h = h
-  run-made (every-cons {x = s} m r) ms h = run-made r (startAt ss (links ss) ms s) (start-made ms s m h)
+  run-made (every-cons {x = s} m r) ms h = run-made r (startAt ss ls ms s) (start-made ms s m h)
 
   -- the marks of the triangles are made so
-  pub marks-made : Made (links ss) (marks ss (links ss))
+  pub marks-made : Made ls (marks ss ls)
   unfolding marks
   marks-made = run-made (every-mem _ (spots ss) (λ s m. m)) [] made-none
 
@@ -202,8 +202,8 @@ module _ (ls : List Link) where
   made-shut (made-more {ns = ns} g r f e w) = let t = trip w in t .all (Shut ls ns) (every-map (shut-more (t .grows)) (made-shut r)) (λ m u v. v)
 
 -- Every corner that lies over a side at a grouped corner, of a triangle that isn't `group_with_any` and has the group's orientation, is grouped.
-pub closed : (ss : List Triangle) → Every (Shut (links ss) (marks ss (links ss))) (marks ss (links ss))
-closed ss = made-shut (links ss) (marks-made ss)
+pub closed : (ss : List Triangle) (ls : List Link) → Between ss ls → Every (Shut ls (marks ss ls)) (marks ss ls)
+closed ss ls B = made-shut ls (marks-made ss ls B)
 
 -- ---- every group is connected
 
@@ -261,8 +261,8 @@ made-trail made-none = record { reached = λ pre post m e. absurd (none-in pre p
 made-trail (made-more g r f e w) = goes-trail w (made-trail r) (λ s q. at-start (sym (Option·some-injective g s q)))
 
 -- Every group is connected over linked sides that end in its corner: each mark stands on its group's start, or over a side at the corner of an earlier mark of the group.
-pub connected : (ss : List Triangle) (pre post : List Mark) (m : Mark) → marks ss (links ss) ≡ pre ++ (m ∷ post) → Reached (links ss) pre m
-connected ss = made-trail (marks-made ss) .reached
+pub connected : (ss : List Triangle) (ls : List Link) → Between ss ls → (pre post : List Mark) (m : Mark) → marks ss ls ≡ pre ++ (m ∷ post) → Reached ls pre m
+connected ss ls B = made-trail (marks-made ss ls B) .reached
 
 -- ---- corners that lie over sides of each other are in one group
 

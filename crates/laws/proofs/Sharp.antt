@@ -22,7 +22,7 @@ use Rattle.definition.specs.Desk.{finiteVector, finiteCorner, badIn, orElse, ba
 use Rattle.definition.specs.Step1Cut.{cut02}
 use Rattle.definition.specs.Step2Degenerate.{flat}
 use Rattle.definition.specs.Triangles.{make, settled, pair, quad, usable, pieces, triangles}
-use Rattle.definition.specs.Step4Order.{isSound, sound, spots, sameBits, sameVector, welded}
+use Rattle.definition.specs.Step4Order.{isSound, sound, spots, sameBits, sameVector, sameNumbers, welded}
 use Rattle.definition.specs.Step6Groups.{cornerIn}
 use Rattle.definition.specs.Frames.{numbered}
 use Rattle.laws.proofs.Part.{Every, every-nil, every-cons, every-append, every-cond, every-keep, every-both, keep-passes}
@@ -67,9 +67,9 @@ vector-same u v h k e =
 
 -- welded corners have equal positions
 welded-equals : (c d : Corner) → Real c → Real d → welded c d ≡ true → equals (c .place) (d .place) ≡ true
-unfolding welded
+unfolding welded sameNumbers
 welded-equals c d h k e =
-    let a = and-left (sameVector (c .place) (d .place) && sameVector (c .normal) (d .normal) && sameBits (c .u) (d .u)) (sameBits (c .v) (d .v)) e in
+    let a = and-left (sameVector (c .place) (d .place) && sameVector (c .normal) (d .normal) && sameBits (c .u) (d .u)) (sameBits (c .v) (d .v)) (and-left (sameNumbers c d) _ e) in
     let b = and-left (sameVector (c .place) (d .place) && sameVector (c .normal) (d .normal)) (sameBits (c .u) (d .u)) a in
     let p = and-left (sameVector (c .place) (d .place)) (sameVector (c .normal) (d .normal)) b in
     ap (equals (c .place)) (sym (vector-same (c .place) (d .place) (h .held) (k .held) p)) ∙ equals-self (c .place) (h .bounded)

@@ -15,7 +15,7 @@ use Rattle.definition.specs.Mesh.{Face, Third, one, two, three, Spot, kept, slo
 use Rattle.definition.specs.Step1Cut.{cut02}
 use Rattle.definition.specs.Triangles.{make, settled, pair, nook, quad, pieces, triangles}
 use Rattle.definition.specs.Step4Order.{isSound, sound, spots}
-use Rattle.definition.specs.Step5Links.{links}
+use Rattle.definition.specs.Step5Links.{Link, links}
 use Rattle.definition.specs.Step6Groups.{Mark, marks}
 use Rattle.definition.specs.Step7Sums.{bring, broughtAll}
 use Rattle.definition.specs.Frames.{numbered}
@@ -23,6 +23,7 @@ use Rattle.laws.proofs.Part.{Every, every-nil, every-cons, every-append
 use Rattle.bits.proofs.Bools.{and-left, and-right}
 use Rattle.laws.proofs.Closed.{Whole}
 use Rattle.laws.proofs.Mutual.{Names, spots-apart, apart-inj, every-at}
+use Rattle.laws.proofs.Closed.{Between, links-sound}
 use Rattle.laws.proofs.Laws.{Once, once-nil, once-cons, at-most-one, marks-inside, beq-refl}
 use Rattle.laws.proofs.Numbers.{names-keep, triangles-names}
 use Rattle.laws.proofs.Enough.{third-refl}
@@ -88,7 +89,7 @@ once-keep p (once-cons {m} {ms} h r) = go (p m) (every-keep p h) (once-keep p r)
     go false g s = s
 
 -- ---- two corners of one slot are corners of the first and the second triangle of a face
-module _ (ss : List Triangle) (names : Names ss) (plain : Every Plain ss) (f i : ℕ) where
+module _ (ss : List Triangle) (ls : List Link) (B : Between ss ls) (names : Names ss) (plain : Every Plain ss) (f i : ℕ) where
   -- a mark on a corner of the triangles, in slot i of face f
   pub record InSlot (m : Mark) : Type 0 where
     pub inside : List·Memᴰ (m .spot) (spots ss)
@@ -145,25 +146,25 @@ module _ (ss : List Triangle) (names : Names ss) (plain : Every Plain ss) (f i :
   in-slot : Mark → Bool
   in-slot m = eqb (m .spot .tri .face) f && eqb (slotOf (m .spot)) i
 
-  marks-twice : length (keep in-slot (marks ss (links ss))) ≤ 2
+  marks-twice : length (keep in-slot (marks ss ls)) ≤ 2
   unfolding in-slot
   marks-twice =
-      at-most-two (once-keep in-slot (at-most-one ss))
+      at-most-two (once-keep in-slot (at-most-one ss ls B))
       (every-map
       (λ m h. record {
         inside = h .0;
         of-face = eqb-true (m .spot .tri .face) f (and-left (eqb (m .spot .tri .face) f) (eqb (slotOf (m .spot)) i) (h .1));
         of-slot = eqb-true (slotOf (m .spot)) i (and-right (eqb (m .spot .tri .face) f) (eqb (slotOf (m .spot)) i) (h .1));
       })
-      (every-pair (every-keep in-slot (marks-inside ss)) (keep-passes in-slot (marks ss (links ss)))))
+      (every-pair (every-keep in-slot (marks-inside ss ls B)) (keep-passes in-slot (marks ss ls))))
 
-  brought-twice : (h : Float) → length (keep (λ b. eqb (b .face) f && eqb (b .slot) i) (broughtAll h ss (marks ss (links ss)))) ≤ 2
+  brought-twice : (h : Float) → length (keep (λ b. eqb (b .face) f && eqb (b .slot) i) (broughtAll h ss (marks ss ls))) ≤ 2
   unfolding broughtAll bring in-slot
   brought-twice h =
-      let ms = marks ss (links ss) in
+      let ms = marks ss ls in
       subst (λ (n : ℕ). n ≤ 2) (sym (ap length (keep-map (λ b. eqb (b .face) f && eqb (b .slot) i) (bring h ss ms) ms) ∙ length-map (keep in-slot ms) (bring h ss ms))) marks-twice
 
 -- At most two things are brought to slot number i of face f, for every mesh and every threshold.
 pub twice : (h : Float) (m : List (List Corner)) (f i : ℕ) → let ss = sound (triangles (numbered 0 m)) in length (keep (λ b. eqb (b .face) f && eqb (b .slot) i) (broughtAll h ss (marks ss (links ss)))) ≤ 2
 unfolding sound
-twice h m f i = brought-twice (sound (triangles (numbered 0 m))) (names-keep isSound (triangles-names 0 m)) (every-keep isSound (triangles-plain (numbered 0 m))) f i h
+twice h m f i = brought-twice (sound (triangles (numbered 0 m))) (links (sound (triangles (numbered 0 m)))) (links-sound (sound (triangles (numbered 0 m)))) (names-keep isSound (triangles-names 0 m)) (every-keep isSound (triangles-plain (numbered 0 m))) f i h

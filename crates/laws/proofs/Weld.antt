@@ -14,7 +14,7 @@ use Rattle.definition.specs.declared.Corner.{Corner}
 use Rattle.definition.specs.declared.Triangle.{Triangle}
 use Rattle.definition.specs.Lists.{first}
 use Rattle.definition.specs.Mesh.{Spot, cornerOf}
-use Rattle.definition.specs.Step4Order.{sameBits, sameVector, welded, sound, broken, spots, weldedTo}
+use Rattle.definition.specs.Step4Order.{sameBits, sameVector, sameNumbers, welded, sound, broken, spots, weldedTo}
 use Rattle.laws.proofs.Part.{Each, each-none, each-some, Every, every-nil, every-cons}
 use Rattle.laws.proofs.World.{welded-sym}
 use Rattle.bits.proofs.Bools.{and-left, and-right}
@@ -39,17 +39,21 @@ vector-as a b c e =
     rw (bits-as (a .x) (b .x) (c .x) (and-left _ _ h), bits-as (a .y) (b .y) (c .y) (and-right (sameBits (a .x) (b .x)) _ h), bits-as (a .z) (b .z) (c .z) (and-right (sameBits (a .x) (b .x) && sameBits (a .y) (b .y)) _ e))
 
 pub welded-refl : (c : Corner) → welded c c ≡ true
-unfolding welded
-welded-refl c = rw (vector-refl (c .place), vector-refl (c .normal), bits-refl (c .u), bits-refl (c .v))
+unfolding welded sameNumbers
+welded-refl c = rw (vector-refl (c .place), vector-refl (c .normal), bits-refl (c .u), bits-refl (c .v), eq-eqb (c .tag) (c .tag) refl)
 
--- a corner is welded to whatever a corner welded to it is welded to
-pub welded-as : (c d e : Corner) → welded c d ≡ true → welded c e ≡ welded d e
-unfolding welded
-welded-as c d x e =
+numbers-as : (c d e : Corner) → sameNumbers c d ≡ true → sameNumbers c e ≡ sameNumbers d e
+unfolding sameNumbers
+numbers-as c d x e =
     let pq = sameVector (c .place) (d .place) && sameVector (c .normal) (d .normal) in
     let h₁ = and-left (pq && sameBits (c .u) (d .u)) (sameBits (c .v) (d .v)) e in
     let h₂ = and-left pq (sameBits (c .u) (d .u)) h₁ in
     rw (vector-as (c .place) (d .place) (x .place) (and-left _ _ h₂), vector-as (c .normal) (d .normal) (x .normal) (and-right (sameVector (c .place) (d .place)) _ h₂), bits-as (c .u) (d .u) (x .u) (and-right pq _ h₁), bits-as (c .v) (d .v) (x .v) (and-right (pq && sameBits (c .u) (d .u)) _ e))
+
+-- a corner is welded to whatever a corner welded to it is welded to
+pub welded-as : (c d e : Corner) → welded c d ≡ true → welded c e ≡ welded d e
+unfolding welded
+welded-as c d x e = rw (numbers-as c d x (and-left (sameNumbers c d) _ e), eqb-true (c .tag) (d .tag) (and-right (sameNumbers c d) _ e))
 
 pub first-same : {X : Type 0} (p q : X → Bool) → ((x : X) → p x ≡ q x) → (l : List X) → first p l ≡ first q l
 unfolding first
@@ -97,8 +101,8 @@ vector-one a b h k e =
     }
 
 pub welded-normal : (c d : Corner) → HeldVec (c .normal) → HeldVec (d .normal) → welded c d ≡ true → c .normal ≡ d .normal
-unfolding welded
+unfolding welded sameNumbers
 welded-normal c d h k e =
     let pq = sameVector (c .place) (d .place) && sameVector (c .normal) (d .normal) in
-    let h₁ = and-left (pq && sameBits (c .u) (d .u)) (sameBits (c .v) (d .v)) e in
+    let h₁ = and-left (pq && sameBits (c .u) (d .u)) (sameBits (c .v) (d .v)) (and-left (sameNumbers c d) _ e) in
     vector-one (c .normal) (d .normal) h k (and-right (sameVector (c .place) (d .place)) _ (and-left pq (sameBits (c .u) (d .u)) h₁))

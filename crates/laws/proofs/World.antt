@@ -9,7 +9,7 @@ use Rattle.definition.specs.declared.Corner.{Corner}
 use Rattle.definition.specs.declared.Kept.{Kept}
 use Rattle.definition.specs.declared.Triangle.{Triangle}
 use Rattle.definition.specs.Mesh.{Face, Third, one, two, three, after, before, Spot, next, prior, kept, cornerOf, slotOf, sameThird, sameTriangle, sameSpot}
-use Rattle.definition.specs.Step4Order.{sameBits, sameVector, welded}
+use Rattle.definition.specs.Step4Order.{sameBits, sameVector, sameNumbers, welded}
 
 -- ---- the tests are symmetric
 
@@ -28,8 +28,8 @@ unfolding sameVector
 vector-sym a b = rw (bits-sym (a .x) (b .x), bits-sym (a .y) (b .y), bits-sym (a .z) (b .z))
 
 pub welded-sym : (c d : Corner) → welded c d ≡ welded d c
-unfolding welded
-welded-sym c d = rw (vector-sym (c .place) (d .place), vector-sym (c .normal) (d .normal), bits-sym (c .u) (d .u), bits-sym (c .v) (d .v))
+unfolding welded sameNumbers
+welded-sym c d = rw (vector-sym (c .place) (d .place), vector-sym (c .normal) (d .normal), bits-sym (c .u) (d .u), bits-sym (c .v) (d .v), eqb-sym (c .tag) (d .tag))
 
 and-false : (b : Bool) → (b && false) ≡ false
 and-false true = refl

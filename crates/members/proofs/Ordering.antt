@@ -9,6 +9,7 @@ use lib.Dec.{eqb, leb, ltb}
 use lib.ListN.{length, getD}
 use lib.Seq.{slice, length-slice, sets}
 use borrow.Author.Tests.{eq-eqb, eqb-true, ne-eqb, leb-true, leb-false, le-leb, lt-leb, lt-ltb, le-ltb, ltb-true, ltb-false}
+use Rattle.laws.proofs.Closed.{Between}
 use Rattle.table.specs.Table.{cell, column, filledTo}
 use Rattle.table.specs.Loop.{listOf}
 use Rattle.table.specs.Columns.{columns, groupColumn, metColumn, lowerColumn, higherColumn, orderColumn, spareColumn, beginColumn}
@@ -17,7 +18,7 @@ use Rattle.table.proofs.Loops.{length-listOf, getD-listOf}
 use Rattle.definition.specs.declared.Triangle.{Triangle}
 use Rattle.definition.specs.Lists.{keep, has}
 use Rattle.definition.specs.Mesh.{Third, Spot, sameSpot}
-use Rattle.definition.specs.Step5Links.{links}
+use Rattle.definition.specs.Step5Links.{Link}
 use Rattle.definition.specs.Step6Groups.{Mark, grouped, marks}
 use Rattle.laws.proofs.Part.{Every}
 use Rattle.laws.proofs.Mutual.{Names}
@@ -109,9 +110,9 @@ not-not false e = absurd (true≢false e)
 
 -- ---- the members of a group
 
-module _ (rows : ℕ) (ss : List Triangle) (d : Triangle) (groups : ℕ) (w : List ℕ) (N : Names ss) (G : Grouping rows ss d (marks ss (links ss)) groups w) where
+module _ (rows : ℕ) (ss : List Triangle) (d : Triangle) (groups : ℕ) (w : List ℕ) (ls : List Link) (B : Between ss ls) (N : Names ss) (G : Grouping rows ss d (marks ss ls) groups w) where
   abbrev ms : List Mark
-  ms = marks ss (links ss)
+  ms = marks ss ls
 
   abbrev n : ℕ
   n = 3 * length ss
@@ -133,7 +134,7 @@ module _ (rows : ℕ) (ss : List Triangle) (d : Triangle) (groups : ℕ) (w : Li
       let r : row (J .tri) (J .at) ≡ row (K .tri) (K .at) = sym (J .member) ∙ (e ∙ K .member) in
       let same : spotAt ss d (J .tri) (J .at) ≡ spotAt ss d (K .tri) (K .at) = λ z. spotAt ss d (row-inj (J .tri) (K .tri) (J .at) (K .at) r z) (at-inj (J .tri) (K .tri) (J .at) (K .at) r z) in
       let spots : getD ms j some-mark .spot ≡ getD ms k some-mark .spot = J .is ∙ (same ∙ sym (K .is)) in
-      true≢false (sym (spot-refl (getD ms j some-mark .spot)) ∙ (ap (sameSpot (getD ms j some-mark .spot)) spots ∙ once-at (at-most-one ss) j k some-mark h l))
+      true≢false (sym (spot-refl (getD ms j some-mark .spot)) ∙ (ap (sameSpot (getD ms j some-mark .spot)) spots ∙ once-at (at-most-one ss ls B) j k some-mark h l))
 
   -- a corner in a group is a member
   pub member-of : (r : ℕ) → r < n → (cell rows groupColumn r w ≡ 0 → ⊥) → (j : ℕ) × (j < length ms) × (met j ≡ r)

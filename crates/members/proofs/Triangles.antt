@@ -9,6 +9,7 @@ use lib.Dec.{eqb}
 use lib.ListN.{length, getD, take}
 use lib.Seq.{slice, take-suc, take-length}
 use borrow.Author.Tests.{eqb-true}
+use Rattle.laws.proofs.Closed.{Between}
 use Rattle.table.specs.Table.{cell, column}
 use Rattle.table.specs.Loop.{listOf}
 use Rattle.table.specs.Columns.{groupColumn, metColumn, orderColumn, beginColumn}
@@ -16,7 +17,7 @@ use Rattle.definition.specs.declared.Triangle.{Triangle}
 use Rattle.definition.specs.Lists.{keep, has}
 use Rattle.definition.specs.Mesh.{Third, one, two, three, Spot, after, cornerOf, sameTriangle}
 use Rattle.definition.specs.Step4Order.{welded}
-use Rattle.definition.specs.Step5Links.{links}
+use Rattle.definition.specs.Step5Links.{Link}
 use Rattle.definition.specs.Step6Groups.{Mark, marks, members}
 use Rattle.laws.proofs.Mutual.{Names}
 use Rattle.laws.proofs.Weld.{welded-refl, welded-as}
@@ -54,9 +55,9 @@ one-of l x false false false p q r = append-nil ((l ++ []) ++ []) ∙ append-nil
 
 -- ---- one corner of a triangle in a group
 
-module _ (rows : ℕ) (ss : List Triangle) (d : Triangle) (groups : ℕ) (w : List ℕ) (N : Names ss) (S : Sharp ss d) (G : Grouping rows ss d (marks ss (links ss)) groups w) (j : ℕ) (e : Mark) (h : j < length (marks ss (links ss))) where
+module _ (rows : ℕ) (ss : List Triangle) (d : Triangle) (groups : ℕ) (w : List ℕ) (ls : List Link) (B : Between ss ls) (N : Names ss) (S : Sharp ss d) (G : Grouping rows ss d (marks ss ls) groups w) (j : ℕ) (e : Mark) (h : j < length (marks ss ls)) where
   abbrev ms : List Mark
-  ms = marks ss (links ss)
+  ms = marks ss ls
 
   abbrev g : ℕ
   g = numberOf rows w j
@@ -68,7 +69,7 @@ module _ (rows : ℕ) (ss : List Triangle) (d : Triangle) (groups : ℕ) (w : Li
   pub joined : (t : ℕ) (i : Third) → t < length ss → Q (row t i) ≡ true → welded (cornerOf (getD ms j e .start)) (cornerOf (spotAt ss d t i)) ≡ true
   joined t i l q =
       let n = eqb-true (cell rows groupColumn (row t i) w) g q in
-      let m = member-of rows ss d groups w N G (row t i) (row-lt t (length ss) i l) (λ z. let a = G .member j e h .some in omega arith) in
+      let m = member-of rows ss d groups w ls B N G (row t i) (row-lt t (length ss) i l) (λ z. let a = G .member j e h .some in omega arith) in
       let M = G .member (m .0) e (m .1) in
       let r : row (M .tri) (M .at) ≡ row t i = sym (M .member) ∙ m .2 in
       let here : getD ms (m .0) e .spot ≡ spotAt ss d t i = M .is ∙ (λ z. spotAt ss d (row-inj (M .tri) t (M .at) i r z) (at-inj (M .tri) t (M .at) i r z)) in

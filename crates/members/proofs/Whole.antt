@@ -9,6 +9,7 @@ use lib.Dec.{eqb, ltb}
 use lib.ListN.{length, getD, List·getD-append}
 use lib.Seq.{slice, sets-eq}
 use borrow.Author.Tests.{eq-eqb, lt-ltb, ltb-true}
+use Rattle.laws.proofs.Closed.{Between}
 use Rattle.table.specs.Table.{cell, column, filledTo}
 use Rattle.table.specs.Loop.{listOf}
 use Rattle.table.specs.Columns.{columns, groupColumn, metColumn, lowerColumn, higherColumn, orderColumn, spareColumn, beginColumn}
@@ -16,7 +17,7 @@ use Rattle.table.proofs.Laws.{getD-column, length-column, filled-column, run-fi
 use Rattle.table.proofs.Loops.{length-listOf, getD-listOf}
 use Rattle.definition.specs.declared.Triangle.{Triangle}
 use Rattle.definition.specs.Lists.{keep}
-use Rattle.definition.specs.Step5Links.{links}
+use Rattle.definition.specs.Step5Links.{Link}
 use Rattle.definition.specs.Step6Groups.{marks}
 use Rattle.laws.proofs.Part.{keep-same}
 use Rattle.laws.proofs.Mutual.{Names}
@@ -101,13 +102,13 @@ module _ (rows groups count : ℕ) (w w₁ w₂ w₃ u : List ℕ) (few : groups
 
   -- ---- the groups
 
-  module _ (ss : List Triangle) (d : Triangle) (fits : 3 * length ss ≤ rows) (N : Names ss) (all : count ≡ length (marks ss (links ss))) (G : Grouping rows ss d (marks ss (links ss)) groups w) where
+  module _ (ss : List Triangle) (d : Triangle) (fits : 3 * length ss ≤ rows) (ls : List Link) (B : Between ss ls) (N : Names ss) (all : count ≡ length (marks ss ls)) (G : Grouping rows ss d (marks ss ls) groups w) where
     abbrev b : ℕ → ℕ
     b q = beginOf rows groups count w₃ q
 
     -- where each group begins, before and after
     begins : (q : ℕ) → b q ≡ beginAt rows groups count w q
-    begins q = begin-kept orderColumns rows groups count w w₃ refl few to-three q ∙ plain rows ss d (marks ss (links ss)) groups count w all G q
+    begins q = begin-kept orderColumns rows groups count w w₃ refl few to-three q ∙ plain rows ss d (marks ss ls) groups count w all G q
 
     at-end : (q : ℕ) → beginAt rows groups count u q ≡ beginAt rows groups count w q
     at-end q = step (ltb q groups) refl
@@ -118,7 +119,7 @@ module _ (rows groups count : ℕ) (w w₁ w₂ w₃ u : List ℕ) (few : groups
 
     -- they rise
     rises : (q : ℕ) → b q ≤ b (suc q)
-    rises q = omega (arith, begins q, begins (suc q), grow rows ss d (marks ss (links ss)) groups count w all G q)
+    rises q = omega (arith, begins q, begins (suc q), grow rows ss d (marks ss ls) groups count w all G q)
 
     -- what the definition's groups are in triangle order
     pub in-order : InOrder rows ss groups count u
@@ -126,12 +127,12 @@ module _ (rows groups count : ℕ) (w w₁ w₂ w₃ u : List ℕ) (few : groups
         (λ z. slice (first z) (second z) (column rows orderColumn u))
         ∙ (sorting-far rows groups count w₃ few small long₃ rises S .done q h
         ∙ (ap (sorted (key rows w₃)) met-stretch
-        ∙ (stretch rows ss d groups w N G q h (key rows w₃) fits long (λ r l. own-key r (omega arith)) ∙ tests)))
+        ∙ (stretch rows ss d groups w ls B N G q h (key rows w₃) fits long (λ r l. own-key r (omega arith)) ∙ tests)))
       where
         here : beginAt rows groups count w q ≡ cell rows beginColumn q w
         here = ap (λ (x : Bool). cond x (cell rows beginColumn q w) count) (lt-ltb q groups h)
 
-        there : b (suc q) ≡ beginAt rows groups (length (marks ss (links ss))) w (q + 1)
+        there : b (suc q) ≡ beginAt rows groups (length (marks ss ls)) w (q + 1)
         there = begins (suc q) ∙ ((λ z. beginAt rows groups (all z) w (sym (add-one q) z)))
 
         first : beginAt rows groups count u q ≡ b q
@@ -141,9 +142,9 @@ module _ (rows groups count : ℕ) (w w₁ w₂ w₃ u : List ℕ) (few : groups
         second = at-end (q + 1) ∙ (ap (beginAt rows groups count w) (add-one q) ∙ sym (begins (suc q)))
 
         end : b (suc q) ≤ count
-        end = omega (arith, begins (suc q), below rows ss d (marks ss (links ss)) groups count w all G (suc q))
+        end = omega (arith, begins (suc q), below rows ss d (marks ss ls) groups count w all G (suc q))
 
-        met-stretch : slice (b q) (b (suc q)) (column rows orderColumn w₃) ≡ slice (cell rows beginColumn q w) (beginAt rows groups (length (marks ss (links ss))) w (q + 1)) (column rows metColumn w)
+        met-stretch : slice (b q) (b (suc q)) (column rows orderColumn w₃) ≡ slice (cell rows beginColumn q w) (beginAt rows groups (length (marks ss ls)) w (q + 1)) (column rows metColumn w)
         met-stretch =
             slice-same (b q) (b (suc q)) (column rows orderColumn w₃) (column rows metColumn w) (omega (arith, end, length-column rows w₃ orderColumn (omega (arith, long₃)))) (omega (arith, end, length-column rows w metColumn (omega arith))) (λ i x y. copied i (omega (arith, end, y)))
             ∙ (λ z. slice ((begins q ∙ here) z) (there z) (column rows metColumn w))

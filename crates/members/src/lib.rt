@@ -4,7 +4,8 @@ ghost use mathlib.Core.List.{List, [], _∷_};
 ghost use Prim.Native.Nat.{_+_, _*_, _≤_, _<_, min};
 ghost use lib.ListN.{length, getD};
 ghost use Rattle.definition.specs.declared.Triangle.{Triangle};
-ghost use Rattle.definition.specs.Step5Links.{links};
+ghost use Rattle.definition.specs.Step5Links.{Link};
+ghost use Rattle.laws.proofs.Closed.{Between};
 ghost use Rattle.definition.specs.Step6Groups.{marks};
 ghost use Rattle.laws.proofs.Mutual.{Names};
 ghost use Rattle.table.specs.Columns.{columns, metColumn, orderColumn};
@@ -68,7 +69,7 @@ fn sort_groups(work: &mut [u32], rows: usize, s: Counts)
 // The members of every group in triangle order, beside their order as met.
 pub fn order_members(work: &mut [u32], rows: usize, s: Counts)
     requires { ⌜ (s .groups ≤ rows) × (s .members ≤ rows) × (columns * rows ≤ length (now work)) × (rows < 4294967295) ⌝ }
-    ensures ordered { λ _. ⌜ ((ss : List Triangle) (d : Triangle) → 3 * length ss ≤ rows → Names ss → s .members ≡ length (marks ss (links ss)) → Grouping rows ss d (marks ss (links ss)) (s .groups) (now (work .entry)) → InOrder rows ss (s .groups) (s .members) (now (work .exit))) ⌝ }
+    ensures ordered { λ _. ⌜ ((ss : List Triangle) (d : Triangle) (ls : List Link) → Between ss ls → 3 * length ss ≤ rows → Names ss → s .members ≡ length (marks ss ls) → Grouping rows ss d (marks ss ls) (s .groups) (now (work .entry)) → InOrder rows ss (s .groups) (s .members) (now (work .exit))) ⌝ }
     ensures only { λ _. ⌜ Only spec.orderColumns rows (now (work .entry)) (now (work .exit)) ⌝ }
 {
     table::clear(work, rows, table::LOWER);

@@ -75,6 +75,7 @@ pub fn corner_at(positions: &[f32], normals: &[f32], texture: &[f32], i: u32) ->
         normal,
         u: number_at(texture, at),
         v: number_at(texture, at + 1),
+        tag: 0,
     }
 }
 

@@ -24,6 +24,7 @@ use Rattle.definition.specs.Step7Sums.{Brought, broughtAll}
 use Rattle.definition.specs.Step8Slots.{reading}
 use Rattle.definition.specs.Frames.{numbered, framesOf, frames}
 use Rattle.definition.specs.Outcome.{answerWords}
+use Rattle.laws.proofs.Closed.{links-sound}
 use Rattle.laws.proofs.Laws.{mark, some-triangle}
 use Rattle.view.specs.Frame.{Only}
 use Rattle.view.specs.Rows.{spotAt}
@@ -118,7 +119,7 @@ module _ (sizes : List ℕ) (ps ns ts : List Float) (c : Counts) (w u v : List �
       reached : Shows sizes (reading bs) a a₂
       reached =
           subst (Shows sizes (reading bs) a) (sym e₂)
-          (all-reached rows sizes ps ns ts ss d (c .groups) (c .members) v fit (tells-sound v tells) (contributed sizes ts ss d (sym (L .sound-count)) (tells-sound u tells-six)) (six .five .names) (six .five .sharp) grouping in-order
+          (all-reached rows sizes ps ns ts ss d (c .groups) (c .members) v fit (tells-sound v tells) (contributed sizes ts ss d (sym (L .sound-count)) (tells-sound u tells-six)) (links ss) (links-sound ss) (six .five .names) (six .five .sharp) grouping in-order
           (λ t l. subst (Slotted sizes) (List·getD-append ss (broken xs) d t l) (slotted-sound-broken (mesh-slotted ps ns ts sizes) t d (omega (arith, length-append ss (broken xs)))))
           (six .members) (L .small) long h e a a₁ (subst (Shows sizes (λ f i. Absent) a) (sym e₁) (absent-shown sizes a)))
 

@@ -21,6 +21,7 @@ use Rattle.definition.specs.Mesh.{Third, one, two, three, kept, Spot, after, be
 use Rattle.definition.specs.Step4Order.{sound, broken, spots, welded}
 use Rattle.definition.specs.Step5Links.{endOf, opposite, links, beyond}
 use Rattle.definition.specs.Step6Groups.{Mark, marks, cornerIn, overTo, over}
+use Rattle.laws.proofs.Closed.{links-sound}
 use Rattle.laws.proofs.Laws as laws
 use Rattle.laws.proofs.Laws.{mark, some-triangle, tri-refl}
 use Rattle.laws.proofs.Reached.{facing-own}
@@ -130,7 +131,7 @@ module _ (rows : ℕ) (ss : List Triangle) (d : Triangle) (groups : ℕ) (w : Li
 
   mine : (t : ℕ) (i : Third) → t < length ss → (cell rows groupColumn (row t i) w ≡ 0 → ⊥) → Mine t i
   mine t i h ne =
-      let m = member-of rows ss d groups w N G (row t i) (row-lt t (length ss) i h) ne in
+      let m = member-of rows ss d groups w (links ss) (links-sound ss) N G (row t i) (row-lt t (length ss) i h) ne in
       let M = G .member (m .0) e₀ (m .1) in
       let r : row (M .tri) (M .at) ≡ row t i = sym (M .member) ∙ m .2 in
       record {
@@ -164,7 +165,7 @@ module _ (rows : ℕ) (ss : List Triangle) (d : Triangle) (groups : ℕ) (w : Li
   one-way t u i j h k T =
       let a = mine t i h (T .some) in
       let b = mine u j k (λ z. T .some (T .same ∙ z)) in
-      let o : (c : ℕ) → c < length ms → getD ms c e₀ .orientation ≡ getD ms c e₀ .start .tri .orientation = λ c l. every-index (laws.one-way ss) c e₀ l .0 in
+      let o : (c : ℕ) → c < length ms → getD ms c e₀ .orientation ≡ getD ms c e₀ .start .tri .orientation = λ c l. every-index (laws.one-way ss (links ss) (links-sound ss)) c e₀ l .0 in
       a .way ∙ (ap flag (o (a .place) (a .inside) ∙ (ap (λ s. s .tri .orientation) (one-start t u i j a b (T .same)) ∙ sym (o (b .place) (b .inside)))) ∙ sym (b .way))
 
   one-vertex : (t u : ℕ) (i j : Third) → t < length ss → u < length ss → Together rows w (row t i) (row u j) → cell rows vertexColumn (row t i) w ≡ cell rows vertexColumn (row u j) w

@@ -12,6 +12,7 @@ use Rattle.definition.specs.Triangles.{triangles}
 use Rattle.definition.specs.Step4Order.{isSound, sound, welded}
 use Rattle.definition.specs.Step5Links.{endOf, links}
 use Rattle.definition.specs.Step6Groups.{Mark, facing}
+use Rattle.laws.proofs.Closed.{links-sound}
 use Rattle.laws.proofs.Part.{Every}
 use Rattle.laws.proofs.Mutual.{Names, every-at, mutual′}
 use Rattle.laws.proofs.Numbers.{names-keep, triangles-names}
@@ -53,14 +54,14 @@ module _ (ss : List Triangle) (N : Names ss) (S : Every Sharp ss) where
   pub of-groups : OfGroups ss
   of-groups =
       record {
-        one-corner = λ m h. every-at (laws.one-corner ss) h;
-        one-way = λ m h v. every-at (laws.final-way ss) h v ∙ every-at (laws.one-way ss) h .0;
+        one-corner = λ m h. every-at (laws.one-corner ss (links ss) (links-sound ss)) h;
+        one-way = λ m h v. every-at (laws.final-way ss (links ss) (links-sound ss)) h v ∙ every-at (laws.one-way ss (links ss) (links-sound ss)) h .0;
         at-most-one = λ s m n h k p q. group.one-mark ss s m n (record { here = h; at = p }) (record { here = k; at = q });
-        at-least-one = laws.at-least-one ss;
+        at-least-one = laws.at-least-one ss (links ss);
         settled = λ earlier later e t m h v u. ap (λ ms. facing ms t v) e ∙ laws.stays earlier later t m v u h;
         one-group = λ s t h e a b o m n i j p q. group.one-group ss N S s t (record { inside = h; link = e; plain = a; plain-mate = b; level = o }) m n (record { here = i; at = p }) (record { here = j; at = q });
         one-group-end = λ s t h e a b o m n i j p q. group.one-group-end ss N S s t (record { inside = h; link = e; plain = a; plain-mate = b; level = o }) m n (record { here = i; at = p }) (record { here = j; at = q });
-        connected = λ earlier later m e. met earlier m (reach.connected ss earlier later m e);
+        connected = λ earlier later m e. met earlier m (reach.connected ss (links ss) (links-sound ss) earlier later m e);
       }
 
 pub own-links : Promised

@@ -8,6 +8,8 @@ use Rattle.definition.specs.Desk.{badCorner}
 use Rattle.definition.specs.Frames.{numbered}
 use Rattle.definition.specs.Triangles.{triangles}
 use Rattle.definition.specs.Step4Order.{sound}
+use Rattle.definition.specs.Step5Links.{links}
+use Rattle.laws.proofs.Closed.{links-sound}
 use Rattle.laws.proofs.Laws.{some-triangle}
 use Rattle.grouped.proofs.Joined.{asked}
 use Rattle.flat.proofs.Same as same
@@ -22,7 +24,9 @@ same-members sizes ps ns ts n m w l L ok u v groups members groups' members' A B
     let F = L .stands ok d in
     let Q = asked rows sizes ps ns ts xs d l F in
     let e = sym (L .sound-count) in
-    let r = same.same-members rows (sound xs) d l u v groups groups' members members' (F .names) (A (sound xs) d e (F .names) (F .sharp) Q) (B (sound xs) d e (F .names) (F .sharp) Q) in
+    let ls = links (sound xs) in
+    let K = links-sound (sound xs) in
+    let r = same.same-members rows (sound xs) d ls l u v groups groups' members members' (F .names) (A (sound xs) d ls K e (F .names) (F .sharp) Q) (B (sound xs) d ls K e (F .names) (F .sharp) Q) in
     record { count = r .0; member = r .1 }
 
 pub same-words : SameWords

@@ -13,6 +13,8 @@ use Rattle.definition.specs.Handed.{meshFrom}
 use Rattle.definition.specs.Desk.{badCorner}
 use Rattle.definition.specs.Frames.{numbered}
 use Rattle.definition.specs.Triangles.{triangles}
+use Rattle.definition.specs.Step5Links.{Link}
+use Rattle.laws.proofs.Closed.{Between}
 use Rattle.laws.proofs.Mutual.{Names}
 use Rattle.view.specs.Weld.{Sharp}
 use Rattle.linked.specs.Links.{Left}
@@ -22,7 +24,7 @@ use Rattle.flat.specs.Places.{blank}
 
 -- what the contract of either walk says of what it leaves (`grouped` of `groups::build_4_rule_groups` and of `flat::build_4_rule_groups`): from the list w to u, of n sound triangles, so many groups and members
 abbrev pub Walks : ℕ → ℕ → List ℕ → List ℕ → ℕ → ℕ → Type 0
-Walks rows n w u groups members = (ss : List Triangle) (d : Triangle) → length ss ≡ n → Names ss → Sharp ss d → Asked rows ss d w → Walked rows ss d w u groups members
+Walks rows n w u groups members = (ss : List Triangle) (d : Triangle) (ls : List Link) → Between ss ls → length ss ≡ n → Names ss → Sharp ss d → Asked rows ss d ls w → Walked rows ss d ls w u groups members
 
 -- as many members stand in u as in v, the same ones in the same order
 pub record SameMembers (rows : ℕ) (u v : List ℕ) (members others : ℕ) : Type 0 where

@@ -9,6 +9,7 @@ use lib.ListN.{length, getD, take, length-map, List·getD-map}
 use lib.Seq.{take-suc, take-length}
 use lib.Ieee.{Float, nan, binary32, fits}
 use borrow.Author.Tests.{eqb-true}
+use Rattle.laws.proofs.Closed.{Between}
 use Rattle.tangent.specs.declared.Reading.{Reading}
 use Rattle.tangent.specs.declared.Reading.the-variants.{Absent}
 use Rattle.table.specs.Loop.{upTo}
@@ -18,7 +19,7 @@ use Rattle.table.proofs.Loops.{upTo-ind}
 use Rattle.definition.specs.declared.Triangle.{Triangle}
 use Rattle.definition.specs.Lists.{keep, run}
 use Rattle.definition.specs.Mesh.{kept, slotOf}
-use Rattle.definition.specs.Step5Links.{links}
+use Rattle.definition.specs.Step5Links.{Link}
 use Rattle.definition.specs.Step6Groups.{Mark, marks}
 use Rattle.definition.specs.Step7Sums.{Brought, bring, broughtAll}
 use Rattle.definition.specs.Step8Slots.{put, reading}
@@ -77,11 +78,11 @@ none-read f i = refl
 -- ---- slots
 
 module _ (rows : ℕ) (sizes : List ℕ) (ps ns ts : List Float) (ss : List Triangle) (d : Triangle) (groups count : ℕ) (w : List ℕ) (fit : (i : ℕ) → T (fits binary32 (getD ns i nan)))
-    (tells : Tells rows sizes ps ns ts ss d w) (brings : Contributed rows ss d w) (N : Names ss) (S : Sharp ss d) (G : Grouping rows ss d (marks ss (links ss)) groups w) (I : InOrder rows ss groups count w)
-    (slotted : (t : ℕ) → t < length ss → Slotted sizes (getD ss t d)) (all : count ≡ length (marks ss (links ss))) (small : count ≤ rows) (room : columns * rows ≤ length w)
+    (tells : Tells rows sizes ps ns ts ss d w) (brings : Contributed rows ss d w) (ls : List Link) (B : Between ss ls) (N : Names ss) (S : Sharp ss d) (G : Grouping rows ss d (marks ss ls) groups w) (I : InOrder rows ss groups count w)
+    (slotted : (t : ℕ) → t < length ss → Slotted sizes (getD ss t d)) (all : count ≡ length (marks ss ls)) (small : count ≤ rows) (room : columns * rows ≤ length w)
     (h : Float) (e : Mark) (a₀ : List ℕ) where
   abbrev ms : List Mark
-  ms = marks ss (links ss)
+  ms = marks ss ls
 
   abbrev bs : List Brought
   bs = broughtAll h ss ms
@@ -106,7 +107,7 @@ module _ (rows : ℕ) (sizes : List ℕ) (ps ns ts : List Float) (ss : List Tria
       let m = getD ms j e in
       let n = of-group rows ss d ms groups count w all G e q j few f g in
       let s : suc q ≡ q + 1 = omega arith in
-      let v = value-is rows sizes ps ns ts ss d groups count w fit tells brings N S G I h q j e l n few (at q) (at (suc q)) refl (ap at (sym s)) (grow rows ss d ms groups count w all G q) (omega (arith, below rows ss d ms groups count w all G (suc q), small)) room in
+      let v = value-is rows sizes ps ns ts ss d groups count w fit tells brings ls B N S G I h q j e l n few (at q) (at (suc q)) refl (ap at (sym s)) (grow rows ss d ms groups count w all G q) (omega (arith, below rows ss d ms groups count w all G (suc q), small)) room in
       let o = ap (λ r. eqb (cell rows orientationColumn (r / 3) w) 1) (M .member) ∙ (ap (λ t. eqb (cell rows orientationColumn t w) 1) (row-div (M .tri) (M .at)) ∙ (ap (λ x. eqb x 1) (M .way) ∙ flag-one (m .orientation))) in
       let c = ap (λ r. cell rows slotColumn r w) (M .member) ∙ (tells (M .tri) (M .inside) .slot (M .at) ∙ ap (λ x. slotNumber sizes (x .tri .face) (kept (x .tri) (x .at) .which)) (sym (M .is))) in
       ((λ z. reachedAt (c z) (v z) (o z) a), subst (λ x. HasSlot sizes (x .tri .face) (kept (x .tri) (x .at) .which)) (sym (M .is)) (slotted (M .tri) (M .inside) .has (M .at)))

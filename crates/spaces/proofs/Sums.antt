@@ -10,6 +10,7 @@ use lib.ListN.{length, getD}
 use lib.Seq.{slice, length-slice, ext-getD}
 use lib.Ieee as Ieee
 use lib.Ieee.{Float, nan, binary32, fits}
+use Rattle.laws.proofs.Closed.{Between}
 use Rattle.bits.specs.Word.{number}
 use Rattle.math.specs.Held.{HeldVec}
 use Rattle.math.specs.Vector.{dot}
@@ -25,7 +26,7 @@ use Rattle.definition.specs.Handed.{vectorAt, cornerAt}
 use Rattle.definition.specs.Lists.{keep, has, run}
 use Rattle.definition.specs.Mesh.{Third, one, two, three, after, kept, cornerOf, sameTriangle}
 use Rattle.definition.specs.Step4Order.{welded}
-use Rattle.definition.specs.Step5Links.{links}
+use Rattle.definition.specs.Step5Links.{Link}
 use Rattle.definition.specs.Step6Groups.{Mark, marks, members, cornerIn}
 use Rattle.definition.specs.Step7Sums.{projected, close, joins, subgroup, emptySum, weighed, addSpot, contribute, finish, evaluate}
 use Rattle.laws.proofs.Part.{Every, every-nil, every-cons, every-append, every-keep, every-pair, keep-passes}
@@ -150,10 +151,10 @@ module _ (rows : ℕ) (sizes : List ℕ) (ps ns ts : List Float) (ss : List Tria
 -- ---- a member of a group
 
 module _ (rows : ℕ) (sizes : List ℕ) (ps ns ts : List Float) (ss : List Triangle) (d : Triangle) (groups count : ℕ) (w : List ℕ) (fit : (i : ℕ) → T (fits binary32 (getD ns i nan)))
-    (tells : Tells rows sizes ps ns ts ss d w) (brings : Contributed rows ss d w) (N : Names ss) (S : Sharp ss d) (G : Grouping rows ss d (marks ss (links ss)) groups w) (I : InOrder rows ss groups count w)
-    (h : Float) (q j : ℕ) (e : Mark) (l : j < length (marks ss (links ss))) (n : numberOf rows w j ≡ q + 1) where
+    (tells : Tells rows sizes ps ns ts ss d w) (brings : Contributed rows ss d w) (ls : List Link) (B : Between ss ls) (N : Names ss) (S : Sharp ss d) (G : Grouping rows ss d (marks ss ls) groups w) (I : InOrder rows ss groups count w)
+    (h : Float) (q j : ℕ) (e : Mark) (l : j < length (marks ss ls)) (n : numberOf rows w j ≡ q + 1) where
   abbrev ms : List Mark
-  ms = marks ss (links ss)
+  ms = marks ss ls
 
   abbrev m : Mark
   m = getD ms j e
@@ -170,7 +171,7 @@ module _ (rows : ℕ) (sizes : List ℕ) (ps ns ts : List Float) (ss : List Tria
 
   -- is welded to the corner at which the group started
   to-start : (t : ℕ) (i : Third) → t < length ss → eqb (cell rows groupColumn (row t i) w) (q + 1) ≡ true → welded (cornerOf (m .start)) (cornerOf (spotAt ss d t i)) ≡ true
-  to-start t i b g = joined rows ss d groups w N S G j e l t i b (ap (eqb (cell rows groupColumn (row t i) w)) n ∙ g)
+  to-start t i b g = joined rows ss d groups w ls B N S G j e l t i b (ap (eqb (cell rows groupColumn (row t i) w)) n ∙ g)
 
   test-is : (t : ℕ) (i : Third) → t < length ss → eqb (cell rows groupColumn (row t i) w) (q + 1) ≡ true → joinsBy h (peerAt rows r₀ w) (peerAt rows (row t i) w) ≡ joins h (cornerOf (m .spot) .normal) (m .spot .tri) (getD ss t d)
   test-is t i b g =
@@ -200,7 +201,7 @@ module _ (rows : ℕ) (sizes : List ℕ) (ps ns ts : List Float) (ss : List Tria
       let Q : ℕ → Bool = λ r. eqb (cell rows groupColumn r w) (q + 1) in
       let in-order : L ≡ keep Q (listOf (3 * length ss) (λ k. k)) = sym (λ z. slice (a z) (b z) (column rows orderColumn w)) ∙ I q few in
       let all : Every Of L = subst (Every Of) (sym in-order) (every-pair (every-keep Q (all-below (3 * length ss) (3 * length ss) (omega arith))) (keep-passes Q (listOf (3 * length ss) (λ k. k)))) in
-      let them = sym (λ z. map (λ r. getD ss (r / 3) d) (slice (a z) (b z) (column rows orderColumn w))) ∙ in-definition rows ss d groups w N S G j e l q count n few I in
+      let them = sym (λ z. map (λ r. getD ss (r / 3) d) (slice (a z) (b z) (column rows orderColumn w))) ∙ in-definition rows ss d groups w ls B N S G j e l q count n few I in
       ap finish
       (loop-run (to - from) (λ k. cell rows orderColumn (from + k) w) (λ y r. cond (joinsBy h (peerAt rows r₀ w) (peerAt rows r w)) (addRow rows w r y) y) emptySum
       ∙ (ap (run (λ y r. cond (joinsBy h (peerAt rows r₀ w) (peerAt rows r w)) (addRow rows w r y) y) emptySum) (sym (stretch-list rows orderColumn from to w f g (omega arith)))

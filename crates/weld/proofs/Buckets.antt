@@ -9,7 +9,7 @@ use borrow.Author.Tests.{eqb-true}
 use Rattle.bits.specs.Word.{word}
 use Rattle.math.specs.declared.Vec3.{Vec3}
 use Rattle.definition.specs.declared.Corner.{Corner}
-use Rattle.definition.specs.Step4Order.{sameBits, sameVector, welded}
+use Rattle.definition.specs.Step4Order.{sameBits, sameVector, sameNumbers, welded}
 use Rattle.bits.proofs.Bools.{and-left, and-right}
 use Rattle.view.specs.Records.{threeOf}
 use Rattle.weld.specs.Welding.{mixture, wordsOf, bucketOf}
@@ -31,8 +31,9 @@ three-same a b e =
 
 -- and the eight of a corner
 pub words-same : (c d : Corner) → welded c d ≡ true → wordsOf c ≡ wordsOf d
-unfolding welded
-words-same c d e =
+unfolding welded sameNumbers
+words-same c d k =
+    let e = and-left (sameNumbers c d) _ k in
     let pn = sameVector (c .place) (d .place) && sameVector (c .normal) (d .normal) in
     let h₁ = and-left (pn && sameBits (c .u) (d .u)) (sameBits (c .v) (d .v)) e in
     let h₂ = and-left pn (sameBits (c .u) (d .u)) h₁ in

@@ -33,7 +33,7 @@ fn same_vector(a: Vec3, b: Vec3) -> bool
     same(a.x, b.x) & same(a.y, b.y) & same(a.z, b.z)
 }
 
-// Whether two corners have them in all eight: then they are welded.
+// Whether two corners have them in all eight, and one tag: then they are welded.
 fn same_corner(a: Corner, b: Corner) -> bool
     ensures { λ r. ⌜ r ≡ welded a b ⌝ }
 {
@@ -41,7 +41,7 @@ fn same_corner(a: Corner, b: Corner) -> bool
     let q = b.place;
     let m = a.normal;
     let n = b.normal;
-    same_vector(p, q) & same_vector(m, n) & same(a.u, b.u) & same(a.v, b.v)
+    same_vector(p, q) & same_vector(m, n) & same(a.u, b.u) & same(a.v, b.v) & (a.tag == b.tag)
 }
 
 // ---- buckets

@@ -16,7 +16,7 @@ returns c =
     let k = c .before .before in
     let s = k .before .before .before in
     let a = s .args in
-    (λ ss d n N S A. flat-walked (a .rows) (a .tris) ss d (now (a .work)) _ (k .walk-all .result) n (s .pre .0) (s .pre .1) (k .walk-all .ensures .1 .0 .0) N S A (k .walk-all .ensures .0), k .walk-all .ensures .1)
+    (λ ss d ls B n N S A. flat-walked (a .rows) (a .tris) ss d ls B (now (a .work)) _ (k .walk-all .result) n (s .pre .0) (s .pre .1) (k .walk-all .ensures .1 .0 .0) N S A (k .walk-all .ensures .0), k .walk-all .ensures .1)
 
 pub build-4-rule-groups-spec : {M : Type 1} → statement M
 build-4-rule-groups-spec = tie.close (tie.spec walk-all-requires same-length returns)

@@ -28,7 +28,7 @@ returns c =
     let x = y .before .before .before .before in
     let s = x .before .before .before in
     let a = s .args in (
-      λ ss d fits N all G. in-order (a .rows) (a .s .groups) (a .s .members) (now (a .work)) _ _ _ _ (s .pre .0) (s .pre .1) (s .pre .2) (x .clear .ensures) (y .clear2 .ensures) (m .copy-members .ensures) (k .sort-groups .ensures) ss d fits N all G,
+      λ ss d ls B fits N all G. in-order (a .rows) (a .s .groups) (a .s .members) (now (a .work)) _ _ _ _ (s .pre .0) (s .pre .1) (s .pre .2) (x .clear .ensures) (y .clear2 .ensures) (m .copy-members .ensures) (k .sort-groups .ensures) ss d fits ls B N all G,
       all-only (a .rows) (a .s .groups) (a .s .members) (now (a .work)) _ _ _ _ (s .pre .0) (s .pre .1) (s .pre .2) (x .clear .ensures) (y .clear2 .ensures) (m .copy-members .ensures) (k .sort-groups .ensures),
     )
 

@@ -1,6 +1,6 @@
 -- Proof that `same_corner` meets its contract. Assumes nothing.
 use borrow.Author.Needs.{needs}
-use Rattle.definition.specs.Step4Order.{welded}
+use Rattle.definition.specs.Step4Order.{sameNumbers, welded}
 use Rattle.weld.proofs.same_corner.Statement.{statement}
 use Rattle.weld.proofs.same_corner.Tie as tie
 
@@ -17,7 +17,7 @@ same-requires-2 : tie.Need-same-requires-2
 same-requires-2 c κs = search needs
 
 returns : tie.Need-returns
-unfolding welded
+unfolding welded sameNumbers
 returns c = cc
 
 pub same-corner-spec : {M : Type 1} → statement M
