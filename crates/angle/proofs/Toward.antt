@@ -10,6 +10,7 @@ use lib.Ieee.{Float, nan, inf, fin, Format, binary32, prec, emax, low, lt, eq, l
 use lib.Ieee.Fits.{down-pos}
 use lib.Ieee.Order.{round-mono}
 use lib.Ieee.Scale.{round-same}
+use Rattle.bits.proofs.Negated.{round-neg}
 use Rattle.bits.proofs.Zeros.{O}
 use Rattle.angle.proofs.Above.{added, taken}
 use Rattle.angle.proofs.Unit.{I, -I, test-le, Under, under, under-zero, negated, minus-nought, sizeOf, unit}
@@ -22,25 +23,7 @@ mul-fin : (s : Bool) (m : ℕ) (e : ℤ) → mul binary32 (fin s m e) G ≡ roun
 unfolding mul
 mul-fin s m e = refl
 
--- ---- rounding is the same on both sides of 0
-odd-neg : (d q k l : ℕ) → odd d true q k l ≡ neg (odd d false q k l)
-unfolding odd neg
-odd-neg d zero k l = refl
-odd-neg d (suc q) k l = refl
-
-units-neg : (f : Format) (q k : ℕ) → units f true q k ≡ neg (units f false q k)
-unfolding units neg
-units-neg f q k = go (ltb (q * 2 ^ k) (2 ^ (low f + suc (emax f))))
-  where
-    go : (b : Bool) → cond b (odd (suc (prec f)) true q k (low f)) (inf true) ≡ neg (cond b (odd (suc (prec f)) false q k (low f)) (inf false))
-    go true = odd-neg (suc (prec f)) q k (low f)
-    go false = refl
-
-round-neg : (f : Format) (a b : ℕ) → round f true a b ≡ neg (round f false a b)
-unfolding round
-round-neg f a b = units-neg f _ _
-
--- so the product of what is below 0 is that of its size, negated
+-- the product of what is below 0 is that of its size, negated
 pub product-neg : (x : Float) → Under x → mul binary32 x G ≡ neg (mul binary32 (neg x) G)
 unfolding neg
 product-neg _ (under m e h) = mul-fin true m e ∙ round-neg binary32 (m * up e * (1 * 2 ^ 30)) (down e * 1) ∙ ap neg (sym (mul-fin false m e))

@@ -8,7 +8,7 @@ use lib.Dec.{T}
 use lib.Ieee.{Float, nan, inf, fin, binary32, ofBits, neg, up, down, add, mul, lt, eq, le}
 use lib.Ieee.Fits.{and-l, and-r}
 use lib.Ieee.Scale.{finite}
-use Rattle.bits.proofs.Bools.{T-is, and-left, and-right}
+use Rattle.bits.proofs.Bools.{T-is, and-left, and-right, or-l}
 use Rattle.math.specs.declared.Vec3.{Vec3}
 use Rattle.math.specs.Vector.{dot}
 use Rattle.hulls.specs.declared.Hull.{Hull}
@@ -42,10 +42,6 @@ self-r x nan h = absurd (no-nan-r x h)
 self-r x (inf true) h = unfold le in tt
 self-r x (inf false) h = unfold le in tt
 self-r x (fin t n d) h = ord→le t n d t n d (level t (n * up d * down d))
-
-or-l : (a b : Bool) → T a → T (a || b)
-or-l true b t = tt
-or-l false b t = absurd t
 
 lt→le : (x y : Float) → T (lt x y) → T (le x y)
 unfolding le

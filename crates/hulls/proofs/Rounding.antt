@@ -12,30 +12,10 @@ use lib.Ieee.{Float, nan, inf, fin, Format, prec, emax, low, up, down, size, nea
 use lib.Ieee.Fits.{down-pos, round-is, core}
 use lib.Ieee.Exact.{HasValue, odd-sign, round-exact}
 use lib.Ieee.Order.{round-mono}
+use Rattle.bits.proofs.Negated.{round-neg}
 use Rattle.hulls.proofs.Signed.{pos, neg', Ord, le→ord, ord→le}
 
 -- ---- the sign turned
-
-odd-neg : (d q k l : ℕ) → odd d true q k l ≡ neg (odd d false q k l)
-unfolding odd neg
-odd-neg d zero k l = refl
-odd-neg d (suc q) k l = refl
-
-units-neg : (f : Format) (q k : ℕ) → units f true q k ≡ neg (units f false q k)
-unfolding units neg
-units-neg f q k = go (ltb (q * 2 ^ k) (2 ^ (low f + suc (emax f))))
-  where
-    go : (b : Bool) → cond b (odd (suc (prec f)) true q k (low f)) (inf true) ≡ neg (cond b (odd (suc (prec f)) false q k (low f)) (inf false))
-    go true = odd-neg (suc (prec f)) q k (low f)
-    go false = refl
-
-pub round-neg : (f : Format) (a c : ℕ) → round f true a c ≡ neg (round f false a c)
-unfolding round
-round-neg f a c =
-    let n = a * 2 ^ low f in
-    let k = size (n / c) - prec f in
-    let u = c * 2 ^ k in
-    units-neg f (nearest (n / u) (compare (n % u * 2) u)) k
 
 turn : (s : Bool) (a : ℕ) (t : Bool) (b : ℕ) → Ord s a t b → Ord (not t) b (not s) a
 turn false a false b h = omega arith

@@ -12,6 +12,7 @@ use lib.Ieee.{Float, nan, inf, fin, Format, prec, low, up, down, odd, units, rou
 use lib.Ieee.Fits.{up-pos, down-pos, and-l, and-r, and-i, round-is}
 use lib.Ieee.Exact.{HasValue, odd-sign}
 use lib.Ieee.Order.{round-mono}
+use Rattle.bits.proofs.Bools.{or-r, or-l, or-split}
 
 -- ---- a whole number with a sign, as a difference
 
@@ -29,18 +30,6 @@ Ord s a t b = pos s a + neg' t b ≤ pos t b + neg' s a
 
 abbrev pub Less : Bool → ℕ → Bool → ℕ → Type 0
 Less s a t b = pos s a + neg' t b < pos t b + neg' s a
-
-or-split : (a b : Bool) → T (a || b) → T a ⊎ T b
-or-split true b t = inl tt
-or-split false b t = inr t
-
-or-l : (a b : Bool) → T a → T (a || b)
-or-l true b t = tt
-or-l false b t = absurd t
-
-or-r : (a b : Bool) → T b → T (a || b)
-or-r true b t = tt
-or-r false b t = t
 
 below→ : (s : Bool) (a : ℕ) (t : Bool) (b : ℕ) → T (below s a t b) → Less s a t b
 below→ false a false b h = let k = ltb→lt a b h in omega arith

@@ -57,6 +57,14 @@ addRow rows w r z = cond (eqb (cell rows anyColumn (r / 3) w) 1) z (weighedBy z 
 unfoldable pub addMarked : ℕ → List ℕ → ℕ → Sum → Sum
 addMarked rows w p z = cond (eqb (cell rows joinedColumn p w) 1) (addRow rows w (cell rows orderColumn p w) z) z
 
+-- the same, whether or not it is marked where all are taken
+unfoldable pub addTaken : ℕ → Bool → List ℕ → ℕ → Sum → Sum
+addTaken rows all w p z = cond all (addRow rows w (cell rows orderColumn p w) z) (addMarked rows w p z)
+
+-- the sum of all n from a place on, or of the marked ones, made a tangent space
+unfoldable pub takenSum : ℕ → Bool → ℕ → ℕ → List ℕ → RawTangentSpace
+takenSum rows all from n w = finish (upTo n (λ k. addTaken rows all w (from + k)) emptySum)
+
 -- the sum of the marked ones among n from a place on, made a tangent space
 unfoldable pub evaluated : ℕ → ℕ → ℕ → List ℕ → RawTangentSpace
 evaluated rows from n w = finish (upTo n (λ k. addMarked rows w (from + k)) emptySum)

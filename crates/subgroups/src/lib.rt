@@ -124,16 +124,35 @@ fn add_marked(work: &[u32], rows: usize, p: usize, z: Sum) -> Sum
     add_row(work, rows, work[table::ORDER * rows + p] as usize, z)
 }
 
+// The contribution of the p-th in triangle order, if all are taken or it is marked.
+fn add_taken(work: &[u32], rows: usize, all: bool, p: usize, z: Sum) -> Sum
+    requires { ⌜ (p < rows) × (cell rows orderColumn p (now work) < rows) × (columns * rows ≤ length (now work)) ⌝ }
+    ensures { λ y. ⌜ y ≡ spec.addTaken rows all (now (work .entry)) p z ⌝ }
+{
+    if all {
+        return add_row(work, rows, work[table::ORDER * rows + p] as usize, z);
+    }
+    add_marked(work, rows, p, z)
+}
+
+// The sum of all members, or of the marked ones, made a tangent space.
+fn sum_taken(work: &[u32], rows: usize, all: bool, from: usize, to: usize) -> RawTangentSpace
+    requires { ⌜ (from ≤ to) × (to ≤ rows) × (columns * rows ≤ length (now work)) × spec.Ranged rows to (now work) ⌝ }
+    ensures { λ g. ⌜ g ≡ spec.takenSum rows all from (to - from) (now (work .entry)) ⌝ }
+{
+    let mut z = sums::nothing();
+    for p in from..to {
+        z = add_taken(work, rows, all, p, z);
+    }
+    sums::finish(z)
+}
+
 // The sum of all that are marked, made a tangent space.
 pub fn evaluate_tangent_space(work: &[u32], rows: usize, from: usize, to: usize) -> RawTangentSpace
     requires { ⌜ (from ≤ to) × (to ≤ rows) × (columns * rows ≤ length (now work)) × spec.Ranged rows to (now work) ⌝ }
     ensures { λ g. ⌜ g ≡ spec.evaluated rows from (to - from) (now (work .entry)) ⌝ }
 {
-    let mut z = sums::nothing();
-    for p in from..to {
-        z = add_marked(work, rows, p, z);
-    }
-    sums::finish(z)
+    sum_taken(work, rows, false, from, to)
 }
 
 // ---- a whole group
@@ -193,24 +212,12 @@ pub fn whole(work: &[u32], rows: usize, threshold: f32, from: usize, to: usize) 
     hulls::above(s, threshold) & hulls::above(t, threshold)
 }
 
-// The contribution of the p-th in triangle order.
-fn add_at(work: &[u32], rows: usize, p: usize, z: Sum) -> Sum
-    requires { ⌜ (p < rows) × (cell rows orderColumn p (now work) < rows) × (columns * rows ≤ length (now work)) ⌝ }
-    ensures { λ y. ⌜ y ≡ spec.addRow rows (now (work .entry)) (cell rows orderColumn p (now (work .entry))) z ⌝ }
-{
-    add_row(work, rows, work[table::ORDER * rows + p] as usize, z)
-}
-
 // The sum of the whole group, made a tangent space.
 pub fn sum_of_all(work: &[u32], rows: usize, from: usize, to: usize) -> RawTangentSpace
     requires { ⌜ (from ≤ to) × (to ≤ rows) × (columns * rows ≤ length (now work)) × spec.Ranged rows to (now work) ⌝ }
     ensures { λ g. ⌜ g ≡ spans.summed rows from (to - from) (now (work .entry)) ⌝ }
 {
-    let mut z = sums::nothing();
-    for p in from..to {
-        z = add_at(work, rows, p, z);
-    }
-    sums::finish(z)
+    sum_taken(work, rows, true, from, to)
 }
 
 // ---- a member
