@@ -479,6 +479,11 @@ def numbers():
     yield "positions that differ beyond the numbers", mesh([corners([("FF7FFFFF", 0, 0), (MOST, 0, 0), (0, 1, 0)], [(0, 0), (1, 0), (0, 1)])])
     for e in ("00800001", "1A000000", "1F000000"):
         yield f"positions of size {e}", mesh([corners([(0, 0, 0), (e, 0, 0), (0, e, 0)], [(0, 0), (1, 0), (0, 1)])])
+    # the third corner stands at a third of a half turn, and the cosine there comes out as 1/2 exactly
+    for u, v in ((0.5, 1), (0.25, 1), (1, 3)):
+        north = ((0.5, "3F5DB3D7", 0), UP, (u, v))
+        hub, west = ((0, 0, 0), UP, (0, 0)), ((-1, 0, 0), UP, (-1, 0.5))
+        yield f"a cosine of 1/2, texture {u}, {v}", mesh([[hub, ((1, 0, 0), UP, (1, 0)), north], [hub, north, west]])
     g = random.Random(11)
     for k in range(10):
         c = lambda: tuple(g.randint(-2**20, 2**20) / 2**18 for _ in range(3))

@@ -17,6 +17,7 @@ import tempfile
 
 sys.path.insert(0, os.path.dirname(os.path.abspath(__file__)))
 import samples
+from oracle import RULES
 
 KINDS = ("mesh", "zeros", "refused")
 
@@ -73,8 +74,8 @@ def main():
         compared = 0
         for kind in KINDS:
             mesh_file, out_file = f"{room}/{kind}.ext", f"{room}/{kind}.out"
-            subprocess.run([f"{oracle}/gen", seed, count, kind, mesh_file, "--rules", "e8"], check=True, capture_output=True)
-            subprocess.run([f"{oracle}/oracle", "--ext", mesh_file, "--rules", "e8", "--bin", out_file], check=True, capture_output=True)
+            subprocess.run([f"{oracle}/gen", seed, count, kind, mesh_file, "--rules", RULES], check=True, capture_output=True)
+            subprocess.run([f"{oracle}/oracle", "--ext", mesh_file, "--rules", RULES, "--bin", out_file], check=True, capture_output=True)
             meshes, answers = read_meshes(open(mesh_file, "rb").read()), read_answers(open(out_file, "rb").read())
             for mesh, answer in zip(meshes, answers):
                 if len(mesh[0]) <= most and sum(mesh[0]) <= most and len(mesh[1]) <= 3 * most + 3 and mesh[4] <= 10 * most + 10:

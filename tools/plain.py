@@ -84,7 +84,7 @@ SLIPS = {
     ],
     "numbers": [
         "dot from the right", "products not rounded", "worked in double", "small results become zero", "large results stay the largest", "root rounded down",
-        "angle of the C library", "cosine not cut to 1",
+        "angle of the C library", "cosine not cut to 1", "narrow angles by the old rule", "1/2 is narrow", "a narrow angle forgets the sign", "B is not doubled",
     ],
 }
 
@@ -211,14 +211,28 @@ class Numbers:
             return math.nan
         if self.slip == "angle of the C library":
             return self.r(math.acos(x))
+        a = self.amended(x)
+        cut = max(0, a.bit_length() - 24)
+        return self.r(float(a >> cut << cut) * TURN)
+
+    def amended(self, x):
+        """A of a cut cosine, by request E3 of document 02."""
+        if abs(x) < 0.5 or (abs(x) == 0.5 and self.slip != "1/2 is narrow") or self.slip == "narrow angles by the old rule":
+            return self.old(x)
+        # the difference and the half are exact, and a root to double precision rounded again is the root rounded once
+        b = self.old(self.r(math.sqrt((1.0 - abs(x)) / 2)))
+        b = b if self.slip == "B is not doubled" else 2 * b
+        return 2**30 - b if x > 0 and self.slip != "a narrow angle forgets the sign" else b
+
+    @staticmethod
+    def old(x):
+        """A of a number from -1 to 1, by document 01's rule."""
         whole = math.trunc(x * 2**30)
         low, high = 0, 1023
         while low < high:
             k = (low + high + 1) // 2
             low, high = (k, high) if COSINES[k] >= whole else (low, k - 1)
-        a = 2**20 * low + 2**20 * (COSINES[low] - whole) // (COSINES[low] - COSINES[low + 1])
-        cut = max(0, a.bit_length() - 24)
-        return self.r(float(a >> cut << cut) * TURN)
+        return 2**20 * low + 2**20 * (COSINES[low] - whole) // (COSINES[low] - COSINES[low + 1])
 
 
 class Frames:

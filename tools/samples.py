@@ -158,7 +158,7 @@ WHOLE = [
     ("refused", "sample 1 with an answer list one word short: refusal 5 alters nothing", SAMPLE_1.call(29, 128), "record { number = 5; place = 0; slots = 0; answer = replicate 29 7; work = replicate 128 9 }"),
     ("two-quads", "two quads that share a side", TWO_QUADS.call(), TWO_QUADS.taken(frame((1, 0, 0), (0, 1, 0), 2, 1, 1) * 8)),
     ("fan", "three triangles round a hub: the hub's frame is that of the sum in triangle order", f"take 10 ({FAN.call()} .answer)", words(FAN_FRAME)),
-    ("fan-first", "the first of them alone: another frame", FAN_FIRST.call(), FAN_FIRST.taken([1, ONE, 0, 0, 0, ONE, 0, ONE, 0x3EAA_AAAB, 1] * 3)),
+    ("fan-first", "the first of them alone: another frame", FAN_FIRST.call(), FAN_FIRST.taken([x for m in (0x3EAA_AAAB, 0x3EAA_AAAC, 0x3EAA_AAAC) for x in [1, ONE, 0, 0, 0, ONE, 0, ONE, m, 1]])),
     ("mirror", "sample 1 beside its mirror image: a triangle of the other orientation stops the walk", MIRROR.call(), MIRROR.taken(EAST_FRAME * 3 + frame((1, 0, 0), (0, -1, 0), 1, 1, 0) * 3)),
     (
         "crossed",

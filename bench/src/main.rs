@@ -6,8 +6,10 @@
 //! `bench steps MESHES` compares the columns that steps 1 to 6 leave with a plain model's (tools/steps makes the file);
 //! `bench walks COUNT` compares the two walks of step 6 on random tables;
 //! `bench deep KIB` does the same with the deepest walk of 65,536 faces in a thread of so many KiB;
+//! `bench distance STEP` prints how far the angle is from the arc cosine, before and after request E3, over every STEP-th cosine;
 //! `bench time` prints nanoseconds a call and the ratio to the processor's, all measured in one run.
 mod desk;
+mod distance;
 mod files;
 mod plain;
 mod steps;
@@ -192,7 +194,10 @@ fn time() {
             ("the angle by halving, plain Rust", plain_angle),
         ],
     );
-    println!("{:34} {:6.2} ns an angle", "the same, many with one table", cost_all(&cosines));
+    let (narrow, wide): (Vec<f32>, Vec<f32>) = cosines.iter().partition(|x| x.abs() > 0.5);
+    for (name, xs) in [("many with one table", &cosines), (".. of cosines up to 1/2 in size", &wide), (".. of cosines above 1/2 in size", &narrow)] {
+        println!("{name:34} {:6.2} ns an angle", cost_all(xs));
+    }
 }
 
 fn main() {
@@ -204,13 +209,17 @@ fn main() {
         ["steps", meshes] => steps::check(meshes),
         ["walks", count] => walks::compare(count.parse().expect("COUNT is a number")) == 0,
         ["deep", kib] => steps::deep(kib.parse().expect("KIB is a number")),
+        ["distance", step] => {
+            distance::report(step.parse().expect("STEP is a number above 0"));
+            true
+        }
         ["time"] => {
             time();
             steps::time();
             true
         }
         _ => {
-            eprintln!("usage: bench check STEP | bench desk MESHES ANSWERS | bench steps MESHES | bench walks COUNT | bench deep KIB | bench time");
+            eprintln!("usage: bench check STEP | bench desk MESHES ANSWERS | bench steps MESHES | bench walks COUNT | bench deep KIB | bench distance STEP | bench time");
             std::process::exit(2);
         }
     };

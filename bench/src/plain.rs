@@ -1,4 +1,4 @@
-//! Document 01's root and angle, written plainly in Rust: an independent reading to compare with.
+//! Document 01's root and document 02's angle, written plainly in Rust: an independent reading to compare with.
 
 /// IEEE 754 square root, nearest, over whole numbers, by `u64::isqrt`.
 pub fn root(x: f32) -> f32 {
@@ -32,16 +32,31 @@ fn table() -> &'static [i32; 1025] {
     })
 }
 
-/// The angle of a cosine.
-pub fn angle(x: f32) -> f32 {
-    if x.is_nan() {
-        return x;
-    }
+/// A of a number from -1 to 1, by document 01's rule.
+pub fn old_way(x: f32) -> u32 {
     let c = table();
-    let scaled = (x.clamp(-1.0, 1.0) * 1_073_741_824.0) as i32;
+    let scaled = (x * 1_073_741_824.0) as i32;
     let k = c[..1024].partition_point(|&entry| entry >= scaled) - 1;
     let part = (((c[k] - scaled) as u64) << 20) / (c[k] - c[k + 1]) as u64;
-    let a = ((k as u32) << 20) + part as u32;
+    ((k as u32) << 20) + part as u32
+}
+
+/// A of a number from -1 to 1, amended by request E3 of document 02.
+pub fn amended_way(x: f32) -> u32 {
+    if x.abs() <= 0.5 {
+        return old_way(x);
+    }
+    let b = old_way(root((1.0 - x.abs()) / 2.0));
+    if x > 0.0 { (1 << 30) - 2 * b } else { 2 * b }
+}
+
+/// The angle that an A stands for: its top 24 digits, times 31490FDB.
+pub fn angle_of_way(a: u32) -> f32 {
     let dropped = 8u32.saturating_sub(a.leading_zeros());
     (a >> dropped << dropped) as f32 * f32::from_bits(0x3149_0FDB)
+}
+
+/// The angle of a cosine.
+pub fn angle(x: f32) -> f32 {
+    if x.is_nan() { x } else { angle_of_way(amended_way(x.clamp(-1.0, 1.0))) }
 }

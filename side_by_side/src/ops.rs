@@ -1,9 +1,9 @@
-//! Document 01's root and angle, over whole numbers, as the crate asks for them.
+//! Document 01's root and document 02's angle, over whole numbers, as the crate asks for them.
 use bevy_mikktspace::Ops;
 
 include!(concat!(env!("OUT_DIR"), "/cosines.rs"));
 
-/// The root and the angle of document 01.
+/// The root of document 01 and the angle of document 02.
 pub struct Document;
 
 impl Ops for Document {
@@ -43,21 +43,32 @@ pub fn root(x: f32) -> f32 {
     f32::from_bits((nearest as u32 & 0x7F_FFFF) | ((half + 150) as u32) << 23)
 }
 
-/// X of document 01: the cosine, cut to [-1, 1], times 2^30, toward zero.
+/// X of document 01: a number from -1 to 1, times 2^30, toward zero.
 fn scaled(cosine: f32) -> i32 {
-    (cosine.clamp(-1.0, 1.0) * 1_073_741_824.0) as i32
+    (cosine * 1_073_741_824.0) as i32
 }
 
-/// The angle of a cosine.
-pub fn angle(cosine: f32) -> f32 {
-    if cosine.is_nan() {
-        return cosine;
-    }
+/// A of a number from -1 to 1, by document 01's rule.
+fn old(cosine: f32) -> u32 {
     let x = scaled(cosine);
     let k = COSINES[..1024].partition_point(|&entry| entry >= x) - 1;
     let above = (COSINES[k] - x) as u64;
     let step = (COSINES[k] - COSINES[k + 1]) as u64;
-    let a = ((k as u32) << 20) + ((above << 20) / step) as u32;
+    ((k as u32) << 20) + ((above << 20) / step) as u32
+}
+
+/// The angle of a cosine, amended by request E3 of document 02.
+pub fn angle(cosine: f32) -> f32 {
+    if cosine.is_nan() {
+        return cosine;
+    }
+    let x = cosine.clamp(-1.0, 1.0);
+    let a = if x.abs() > 0.5 {
+        let b = old(root((1.0 - x.abs()) / 2.0));
+        if x > 0.0 { (1 << 30) - 2 * b } else { 2 * b }
+    } else {
+        old(x)
+    };
     let dropped = 8u32.saturating_sub(a.leading_zeros());
     (a >> dropped << dropped) as f32 * f32::from_bits(0x3149_0FDB)
 }

@@ -1,9 +1,11 @@
 -- The entries, each 2 ^ 30 more than its c(k): what the table's rules say of them, and of a u that is 2 ^ 30 more than X. Assumes nothing.
-use mathlib.Core.Path.{_≡_, sym, ap, _∙_, subst}
+use mathlib.Core.Path.{_≡_, refl, sym, ap, _∙_, subst}
 use mathlib.Core.Logic.{inl, inr}
+use mathlib.Core.Bool.{Bool, true, false, not}
 use Prim.Native.Nat.{ℕ, zero, suc, _+_, _-_, _*_, _/_, _^_, _≤_, _<_, zero-le}
-use native.Mathlib.Nat.{le-of-eq, le-of-lt, le-trans, lt-of-le-of-lt, le-of-suc-le-suc, not-le-of-lt, eq-or-lt-of-le, zero-lt-suc, add-zero, add-suc, div-lt-iff-lt-mul}
+use native.Mathlib.Nat.{le-of-eq, le-of-lt, le-trans, lt-of-le-of-lt, le-of-suc-le-suc, not-le-of-lt, eq-or-lt-of-le, zero-lt-suc, add-zero, add-suc, zero-div, div-lt-iff-lt-mul}
 use native.Mathlib.Omega.{arith}
+use lib.Dec.{T, ltb, ltb→lt, nltb→le}
 use lib.IntN.{natAbs, subℕ, _-ℤ_}
 use lib.ListN.{getD}
 use lib.Signed.{_≤ℤ_}
@@ -107,3 +109,22 @@ part-le a b u h g =
   where
     step : (p q : ℕ) → p ≤ q → 0 < q → 1048576 * p < 1048577 * q
     step p q h l = omega arith
+
+-- ---- of an X that is not negative A is at most 2 ^ 29
+middle : C 512 ≡ 2 ^ 30
+unfolding cosines
+middle = refl
+
+pub half-way : (u k : ℕ) → 2 ^ 30 ≤ u → Between u k → 2 ^ 20 * k + 2 ^ 20 * (C k - u) / (C k - C (suc k)) ≤ 2 ^ 29
+half-way u k h b = go (ltb k 512) (ltb→lt k 512) (nltb→le k 512)
+  where
+    go : (t : Bool) → (T t → k < 512) → (T (not t) → 512 ≤ k) → 2 ^ 20 * k + 2 ^ 20 * (C k - u) / (C k - C (suc k)) ≤ 2 ^ 29
+    go true l g = let x = l tt in omega (arith, part-le (C k) (C (suc k)) u (b .high) (b .apart))
+    go false l g =
+        elim (eq-or-lt-of-le (g tt)) [
+          | inl e ↦
+              let z : C k ≡ 2 ^ 30 = ap C (sym e) ∙ middle in
+              let o : 2 ^ 20 * (C k - u) ≡ 0 = omega arith in
+              le-of-eq (ap (λ (x : ℕ). 2 ^ 20 * k + x / (C k - C (suc k))) o ∙ ap (λ (x : ℕ). 2 ^ 20 * k + x) (zero-div (C k - C (suc k))) ∙ omega arith)
+          | inr m ↦ absurd (not-le-of-lt (lt-of-le-of-lt (drops-on 513 k m (le-of-lt (b .within))) (subst (λ (x : ℕ). C 513 < x) middle (drops 512 (omega arith)))) (le-trans h (b .low)))
+        ]

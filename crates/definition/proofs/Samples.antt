@@ -131,7 +131,7 @@ unfolding Root′.root Root′.rooted Root′.sqrt Table′.cosines Table′.c A
 fan = refl
 
 -- the first of them alone: another frame
-pub fan-first : Outcome′.outcome (3 ∷ []) (numbers (0 ∷ 0 ∷ 0 ∷ 0x3f80_0000 ∷ 0 ∷ 0 ∷ 0 ∷ 0x3f80_0000 ∷ 0 ∷ [])) (numbers (0 ∷ 0 ∷ 0x3f80_0000 ∷ 0 ∷ 0 ∷ 0x3f80_0000 ∷ 0 ∷ 0 ∷ 0x3f80_0000 ∷ [])) (numbers (0 ∷ 0 ∷ 0x3f80_0000 ∷ 0 ∷ 0 ∷ 0x4040_0000 ∷ [])) (number 0xbf80_0000) (replicate 30 7) (replicate 128 9) ≡ record { number = 0; place = 0; slots = 3; answer = (1 ∷ 0x3f80_0000 ∷ 0 ∷ 0 ∷ 0 ∷ 0x3f80_0000 ∷ 0 ∷ 0x3f80_0000 ∷ 0x3eaa_aaab ∷ 1 ∷ 1 ∷ 0x3f80_0000 ∷ 0 ∷ 0 ∷ 0 ∷ 0x3f80_0000 ∷ 0 ∷ 0x3f80_0000 ∷ 0x3eaa_aaab ∷ 1 ∷ 1 ∷ 0x3f80_0000 ∷ 0 ∷ 0 ∷ 0 ∷ 0x3f80_0000 ∷ 0 ∷ 0x3f80_0000 ∷ 0x3eaa_aaab ∷ 1 ∷ []); work = replicate 128 0 }
+pub fan-first : Outcome′.outcome (3 ∷ []) (numbers (0 ∷ 0 ∷ 0 ∷ 0x3f80_0000 ∷ 0 ∷ 0 ∷ 0 ∷ 0x3f80_0000 ∷ 0 ∷ [])) (numbers (0 ∷ 0 ∷ 0x3f80_0000 ∷ 0 ∷ 0 ∷ 0x3f80_0000 ∷ 0 ∷ 0 ∷ 0x3f80_0000 ∷ [])) (numbers (0 ∷ 0 ∷ 0x3f80_0000 ∷ 0 ∷ 0 ∷ 0x4040_0000 ∷ [])) (number 0xbf80_0000) (replicate 30 7) (replicate 128 9) ≡ record { number = 0; place = 0; slots = 3; answer = (1 ∷ 0x3f80_0000 ∷ 0 ∷ 0 ∷ 0 ∷ 0x3f80_0000 ∷ 0 ∷ 0x3f80_0000 ∷ 0x3eaa_aaab ∷ 1 ∷ 1 ∷ 0x3f80_0000 ∷ 0 ∷ 0 ∷ 0 ∷ 0x3f80_0000 ∷ 0 ∷ 0x3f80_0000 ∷ 0x3eaa_aaac ∷ 1 ∷ 1 ∷ 0x3f80_0000 ∷ 0 ∷ 0 ∷ 0 ∷ 0x3f80_0000 ∷ 0 ∷ 0x3f80_0000 ∷ 0x3eaa_aaac ∷ 1 ∷ []); work = replicate 128 0 }
 unfolding Root′.root Root′.rooted Root′.sqrt Table′.cosines Table′.c Angle′.greatest Angle′.wayAt Angle′.angle Vector′.added Vector′.subtracted Vector′.scaledBy Vector′.negated Vector′.dot Vector′.lengthOf Vector′.equals Vector′.abs Vector′.counts Vector′.unitOf Space′.equals Space′.mean Space′.combine Space′.reached Slot′.flag Slot′.present Slot′.words Slot′.vectorOf Slot′.spaceOf Slot′.readingOf Slot′.told Word′.isFinite Lists′.keep Lists′.first Lists′.has Lists′.run Mesh′.after Mesh′.before Mesh′.next Mesh′.prior Mesh′.kept Mesh′.cornerOf Mesh′.slotOf Mesh′.sameThird Mesh′.sameTriangle Mesh′.sameSpot Handed′.vectorAt Handed′.cornerAt Handed′.cornersFrom Handed′.meshFrom Handed′.used Handed′.slotsOf Handed′.cornerCount Handed′.slotCount Step1Cut′.across² Step1Cut′.apart² Step1Cut′.cut02 Step2Degenerate′.flat Step2Degenerate′.exactlyOne Step3Tangents′.turn Step3Tangents′.rawS Step3Tangents′.rawT Step3Tangents′.signOf Step3Tangents′.tangentAt Step3Tangents′.firstOrder Step3Tangents′.unsure Step3Tangents′.area Step3Tangents′.quadWay Triangles′.make Triangles′.settled Triangles′.agree Triangles′.pair Triangles′.quad Triangles′.usable Triangles′.pieces Triangles′.triangles Step4Order′.isSound Step4Order′.sound Step4Order′.broken Step4Order′.spots Step4Order′.ordered Step4Order′.sameBits Step4Order′.sameVector Step4Order′.sameNumbers Step4Order′.welded Step4Order′.weldedTo Step5Links′.endOf Step5Links′.opposite Step5Links′.linked Step5Links′.addLink Step5Links′.linkOne Step5Links′.linkAll Step5Links′.links Step5Links′.beyond Step6Groups′.grouped Step6Groups′.touched Step6Groups′.wayOf Step6Groups′.facing Step6Groups′.stops Step6Groups′.cornerIn Step6Groups′.overTo Step6Groups′.over Step6Groups′.going Step6Groups′.walk Step6Groups′.fan Step6Groups′.startAt Step6Groups′.marks Step6Groups′.members Step7Sums′.projected Step7Sums′.close Step7Sums′.joins Step7Sums′.subgroup Step7Sums′.opening Step7Sums′.weighed Step7Sums′.addSpot Step7Sums′.contribute Step7Sums′.finish Step7Sums′.evaluate Step7Sums′.bring Step7Sums′.broughtAll Step8Slots′.put Step8Slots′.reading Step9Copies′.copied Step9Copies′.fromSound Step9Copies′.fromKept Step9Copies′.fromMarked Step9Copies′.finalOf Step9Copies′.nooks Step9Copies′.faceReadings Frames′.numbered Frames′.framesFrom Frames′.framesOf Frames′.frames Desk′.finiteVector Desk′.finiteCorner Desk′.badIn Desk′.orElse Desk′.badCorner Desk′.isThere Desk′.orZero Desk′.tooMany Desk′.unfit Desk′.misfit Desk′.table Desk′.verdict Outcome′.answerWords Outcome′.accepted Outcome′.answered Outcome′.outcome Shuffle′.cornersOf Shuffle′.shares isNan add sub mul div neg lt le eq toBits ofBits round toUnsigned toSigned ofInt size units xor flatMap
 fan-first = refl
 

@@ -19,7 +19,7 @@ pub extern "C" fn export_sqrt(x: f32) -> f32
     root::sqrt(x)
 }
 
-// The angle of document 01, with a table of its own.
+// The angle of document 01 as request E3 amends it, with a table of its own.
 #[no_mangle]
 pub extern "C" fn export_acos(x: f32) -> f32
     ensures { λ r. ⌜ r ≡ angle x ⌝ }

@@ -28,7 +28,7 @@ grouped : take slotWords (leaves fan .answer) ≡ there one one 0x3ec7_1c72 1
 unfolding leaves fan lying up there cornerCount slotCount slotsOf used
 grouped = samples.fan
 
-alone : leaves fanFirst ≡ takenWith (3 ∷ []) (thrice (there one one 0x3eaa_aaab 1))
+alone : leaves fanFirst ≡ takenWith (3 ∷ []) (there one one 0x3eaa_aaab 1 ++ there one one 0x3eaa_aaac 1 ++ there one one 0x3eaa_aaac 1)
 unfolding leaves fanFirst triangle lying up there thrice takenWith cornerCount slotCount slotsOf used
 alone = samples.fan-first
 

@@ -23,7 +23,7 @@ pub record Promised : Type 1 where
   pub sample-2 : leaves sample2 ≡ takenWith (3 ∷ []) (thrice (there minusOne one one 0))
   -- 'linking or grouping nothing': a corner in the fan's middle has another frame than in its triangle alone, whose magnitude along t is a third
   pub grouped : take slotWords (leaves fan .answer) ≡ there one one 0x3ec7_1c72 1
-  pub alone : leaves fanFirst ≡ takenWith (3 ∷ []) (thrice (there one one 0x3eaa_aaab 1))
+  pub alone : leaves fanFirst ≡ takenWith (3 ∷ []) (there one one 0x3eaa_aaab 1 ++ there one one 0x3eaa_aaac 1 ++ there one one 0x3eaa_aaac 1)
   -- 'or grouping all in the first walk': beside its mirror image, linked to it, sample 1 keeps its frames, and the image has its own
   pub mirrored : leaves mirror ≡ takenWith (3 ∷ 3 ∷ []) (thrice (there one one one 1) ++ thrice (there one minusOne one 0))
   -- 'an invented S (S is a sum of sizes)'
