@@ -8,6 +8,7 @@ pub mod OwnLinks
 pub mod OwnColumns
 pub mod TwoWalks
 pub mod NarrowAngles
+pub mod Cosines
 pub mod Cards
 pub mod Appends
 pub mod PackedValue
