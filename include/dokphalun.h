@@ -153,7 +153,8 @@ enum dokphalun_reading {
     DOKPHALUN_LOST = 2 /* a card's block is not there, or not as it was written: nothing is known */
 };
 
-/* The frame of a corner. */
+/* The frame of a corner. Each direction is of finite numbers, and can be zero: take such a frame as you take an absent one. (On a card from before
+ * request E6 a direction can be no finite number.) The magnitudes can be infinite or NaN. */
 struct dokphalun_frame {
     float tangent[3];
     float bitangent[3];

@@ -1,8 +1,12 @@
-//! Builds the Rust crate from where its source stands, unchanged, and links the proved archive.
+//! Builds the Rust crate from where its source stands, unchanged, and an altered copy of it, and links the proved archive.
 //!
 //! The crate: the folder of MIKKTSPACE_SRC, else ../shared/docs/src beside the repository; it holds src/lib.rs. It
-//! becomes an rlib among this package's own products, with both corrected features; nothing of its source is copied.
+//! becomes an rlib among this package's own products, with both corrected features. So does the altered copy (altered.rs),
+//! which has request E6's rule.
 //! The archive: libdokphalun.a in the folder of DOKPHALUN_ARCHIVE, else where `rt staticlib dokphalun` leaves it.
+#[path = "altered.rs"]
+mod altered;
+
 use std::env::var;
 use std::fs;
 use std::path::{Path, PathBuf};
@@ -11,10 +15,10 @@ use std::process::Command;
 fn main() {
     let here = PathBuf::from(var("CARGO_MANIFEST_DIR").unwrap());
     let made = PathBuf::from(var("OUT_DIR").unwrap());
-    build_crate(
-        &folder("MIKKTSPACE_SRC", here.join("../../shared/docs/src")),
-        &made,
-    );
+    println!("cargo:rerun-if-changed=altered.rs");
+    let source = folder("MIKKTSPACE_SRC", here.join("../../shared/docs/src"));
+    build_crate("bevy_mikktspace", &source, &made);
+    build_crate("mikktspace_altered", &altered::copy(&source, &made), &made);
     link_archive(&folder(
         "DOKPHALUN_ARCHIVE",
         here.join("../target/staticlib"),
@@ -28,19 +32,21 @@ fn folder(variable: &str, usual: PathBuf) -> PathBuf {
     var(variable).map_or(usual, PathBuf::from)
 }
 
-/// Compiles the crate's src/lib.rs to an rlib in `made`.
-fn build_crate(source: &Path, made: &Path) {
+/// Compiles src/lib.rs of the crate, or of its altered copy, to an rlib of that name in `made`.
+fn build_crate(name: &str, source: &Path, made: &Path) {
     let root = source.join("src/lib.rs");
     assert!(
         root.is_file(),
         "no crate to compare with: {} is not there",
         root.display()
     );
-    println!("cargo:rerun-if-changed={}", source.display());
+    if !source.starts_with(made) {
+        println!("cargo:rerun-if-changed={}", source.display());
+    }
     let status = Command::new(var("RUSTC").unwrap())
         .args([
             "--crate-name",
-            "bevy_mikktspace",
+            name,
             "--crate-type",
             "rlib",
             "--edition",

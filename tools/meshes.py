@@ -205,6 +205,26 @@ def degenerate():
     yield "a quad whose first two corners differ in signs of zero: marked", mesh([corners(p, [(0, 0), (1, 0), (1, 1), (0, 1)])])
 
 
+def no_direction():
+    """Request E6: vectors whose squared length is zero, infinite or NaN, in step 3, in projections, on sides and in sums."""
+    plain = [(0, 0), (1, 0), (0, 1)]
+    for x in (1e20, -1e20):
+        yield f"s {x:g} long, its square infinite: group_with_any, absent", mesh([corners([(0, 0, 0), (x, 0, 0), (0, 1, 0)], plain)])
+        yield f"t {x:g} long, its square infinite: group_with_any, absent", mesh([corners([(0, 0, 0), (1, 0, 0), (0, x, 0)], plain)])
+    yield "s beyond the numbers: infinite, and its square too", mesh([corners([(0, 0, 0), (1e30, 0, 0), (0, 1, 0)], [(0, 0), (1, 0), (0, 1e10)])])
+    far = corners([(0, 0, 0), (1e20, 0, 0), (0, 1, 0)], plain)
+    yield "s without direction beside a mirrored face: it takes that one's orientation", mesh([far, corners([(0, 0, 0), (0, 1, 0), (-1, 0, 0)], [(0, 0), (0, 1), (1, 0)])])
+    yield "s without direction beside a plain face", mesh([far, corners([(0, 0, 0), (0, 1, 0), (-1, 0, 0)], [(0, 0), (0, 1), (-1, 0)])])
+    yield "a quad whose larger second triangle has no s, the other way: the first decides", mesh([corners([(0, 0, 0), (1, 0, 0), (0, 1, 0), (1e20, 1, 0)], [(0, 0), (1, 0), (0, 1), (3, 1)])])
+    turned = [(0, 0, 0), (1, 1, 0), (-1, 1, 0)]
+    for n in ((1e20, 0, 0), (-1e20, 1e20, 1), (3e38, 3e38, 0), (3e38, -3e38, 0), (-3e38, -3e38, MINUS_0), (3e38, 3e38, 3e38)):
+        yield f"normals of {n[0]}, {n[1]}, {n[2]}: projections without direction", mesh([corners(turned, plain, n)])
+    for n in ((1, 1e-30, 0), (1, -1e-24, 1e-24), (1, 1e-22, 0), (1, "1B000000", 0)):
+        yield f"a projection that leaves {n[1]} and {n[2]}: squared length zero, or as small", mesh([corners([p for p, _, _ in ONE], plain, n)])
+    yield "sides of 1e20 beside small texture: the angle of cosine 0", mesh([corners([(0, 0, 0), (1e20, 0, 0), (0, 3e20, 0)], [(0, 0), (1e-10, 0), (0, 1e-10)])])
+    yield "sides of 1e-23 beside large texture", mesh([corners([(0, 0, 0), (1e-23, 0, 0), (0, 3e-23, 0)], [(0, 0), (1e10, 0), (0, 1e10)])])
+
+
 def tangents():
     """Orientation, what counts, quads that disagree."""
     yield "a mirrored texture beside a plain one", mesh([ONE, corners([(1, 0, 0), (1, 1, 0), (0, 1, 0)], [(1, 0), (0, 0), (0, 1)])])
@@ -226,6 +246,7 @@ def tangents():
     yield "a group_with_any second of larger area, mirrored", mesh([corners([(0, 0, 0), (0, 1, 0), (2, 0, 0), (1, 0, 0)], [(0, 0), (1, 0), (0, 2), (3, 1)])])
     for n in ((1, "00100000", 0), (1, 0, "807FFFFF"), (1, "00800000", "80400000"), (1, "00800001", 0)):
         yield f"a projection that leaves no more than {n[1]} and {n[2]}", mesh([corners([p for p, _, _ in ONE], [(0, 0), (1, 0), (0, 1)], n)])
+    yield from no_direction()
     crossed = [(0, 0), (1, 0), (0, 1), (1, 1)]
     yield "a quad whose texture crosses: equal areas, the first decides", mesh([corners(SQUARE, crossed)])
     yield "a bent quad whose texture crosses", mesh([corners(raised(0.5, 0, 0.25, 0), crossed)])
@@ -474,7 +495,9 @@ def numbers():
     for e in ("7E800000", "7F000000", MOST):
         yield f"positions of size {e}", mesh([corners([(0, 0, 0), (e, 0, 0), (0, e, 0)], [(0, 0), (1, 0), (0, 1)])])
         yield f"texture of size {e}", mesh([corners([p for p, _, _ in ONE], [(0, 0), (e, 0), (0, e)])])
-    yield "normals of the largest size: NaN in the answer", mesh([corners([p for p, _, _ in ONE], [(0, 0), (1, 0), (0, 1)], (MOST, MOST, MOST))])
+    yield "normals of the largest size", mesh([corners([p for p, _, _ in ONE], [(0, 0), (1, 0), (0, 1)], (MOST, MOST, MOST))])
+    for far, wide in ((2e18, 2e-38), (1e19, "01000000"), (-1e19, "01000000")):
+        yield f"corners on a line up to {far:g}: an infinite magnitude at an angle of zero, NaN in the answer", mesh([corners([(0, 0, 0), (far / 2, 0, 0), (far, 0, 0)], [(0, 0), (1, 0), (0, wide)])])
     yield "normals whose square is beyond the numbers", mesh([corners([p for p, _, _ in ONE], [(0, 0), (1, 0), (0, 1)], ("5F800000", 0, 1))])
     yield "positions that differ beyond the numbers", mesh([corners([("FF7FFFFF", 0, 0), (MOST, 0, 0), (0, 1, 0)], [(0, 0), (1, 0), (0, 1)])])
     for e in ("00800001", "1A000000", "1F000000"):

@@ -4,7 +4,7 @@ import subprocess
 import tempfile
 
 # the requests in force, as the oracle names them
-RULES = "e8,e3"
+RULES = open("tools/rules").read().strip()
 
 
 def build_oracle():

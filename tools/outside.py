@@ -19,7 +19,7 @@ sys.path.insert(0, os.path.dirname(os.path.abspath(__file__)))
 import samples
 from oracle import RULES
 
-KINDS = ("mesh", "zeros", "refused")
+KINDS = ("mesh", "zeros", "refused", "extreme", "needle")
 
 
 def read_meshes(data):
@@ -92,7 +92,7 @@ def main():
         open(f"{room}/crates.txt", "a").write("outside: definition bits root angle math tangent\n")
         ran = subprocess.run(["rt", "check", "outside"], cwd=room, capture_output=True, text=True, env=dict(os.environ, RT_CUT="0"))
         said = ran.stdout + ran.stderr
-        wrong = sorted(set(re.findall(r"error: `((?:mesh|zeros|refused)-\d+)`", said)))
+        wrong = sorted(set(re.findall(rf"error: `((?:{'|'.join(KINDS)})-\d+)`", said)))
         if ran.returncode and not wrong:
             print(said[-3000:])
         print(f"{compared} meshes compared with the oracle, {len(wrong)} differed {' '.join(wrong)}")

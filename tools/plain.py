@@ -57,7 +57,8 @@ SLIPS = {
         "orientation the other way round", "00800000 counts", "all but zero counts", "s and t without the sign",
         "no triangle is group_with_any", "group_with_any by area alone", "group_with_any where neither magnitude counts",
         "triangles of a quad may disagree", "the second triangle decides", "the first triangle decides", "of equal areas the second decides",
-        "a group_with_any second decides", "magnitudes not divided by the area", "s and t exchanged", "small vectors become zero", "small vectors are scaled",
+        "a group_with_any second decides", "magnitudes not divided by the area", "s and t exchanged", "a vector without direction is kept", "squared length zero passes",
+        "squared length infinite passes", "squared length NaN passes", "no direction is not group_with_any", "group_with_any where neither s nor t has a direction",
     ],
     "step 4, welding": ["nothing is welded", "welded by nearness", "welded by comparison", "welded by position", "welded without normals", "welded without texture"],
     "step 5, links": [
@@ -193,10 +194,18 @@ class Numbers:
     def length(self, v):
         return self.root(self.dot(v, v))
 
-    def unit(self, v):
-        if any(self.counts(x) for x in v) or (self.slip == "small vectors are scaled" and any(v)):
+    def direction(self, v):
+        """v at unit length, or None: no component counts, or the squared length is zero, infinite or NaN."""
+        q = self.dot(v, v)
+        passes = math.isfinite(q) and q != 0
+        passes |= (self.slip == "squared length zero passes" and q == 0) or (self.slip == "squared length infinite passes" and math.isinf(q))
+        passes |= self.slip == "squared length NaN passes" and q != q
+        if passes and any(self.counts(x) for x in v):
             return self.scale(self.divide(1.0, self.length(v)), v)
-        return (0.0, 0.0, 0.0) if self.slip == "small vectors become zero" else v
+        return None
+
+    def unit(self, v):
+        return self.direction(v) or (v if self.slip == "a vector without direction is kept" else (0.0, 0.0, 0.0))
 
     def flat(self, v, n):
         """v without its part along n, at unit length."""
@@ -370,6 +379,8 @@ class Frames:
             t.ms, t.mt = n.divide(n.length(s), over), n.divide(n.length(u), over)
             counts = (n.counts(t.ms), n.counts(t.mt))
             t.any = not (any(counts) if self.on("group_with_any where neither magnitude counts") else all(counts))
+            none = (n.direction(s) is None, n.direction(u) is None)
+            t.any |= (all(none) if self.on("group_with_any where neither s nor t has a direction") else any(none)) and not self.on("no direction is not group_with_any")
             t.any &= not self.on("group_with_any by area alone")
         t.any &= not self.on("no triangle is group_with_any")
 

@@ -4,17 +4,19 @@
 `python3 tools/replay.py [ORACLE]` in the repository. ORACLE is the program `oracle` of ../shared/oracle; without it, cargo builds it in target/oracle.
 The meshes are tools/meshes.py's and, for slips that fewer than three of them show, random ones that show them. tools/plain.py says which slips a
 mesh shows: those with which the call would answer otherwise. It is held to the oracle on every mesh first. Nothing here is left to chance: a second
-run writes the same bytes."""
+run writes the same bytes.
+
+`python3 tools/replay.py --moved e6` writes nothing: it prints the meshes that request E6 answers otherwise than before (docs/DIFFERENCES.md)."""
 import itertools
 import random
 import re
 import sys
 
 from meshes import MINUS_0, UP, all_meshes, mesh, word
-from oracle import ask, build_oracle
+from oracle import RULES, ask, build_oracle
 from plain import GROUPS, SLIPS, outcome, shows
 
-COUNT = 340
+COUNT = 365
 WANTED = 3
 TRIES = 30000
 
@@ -157,7 +159,20 @@ def write_table(told):
     open("docs/REPLAY.md", "w").write(parts[0] + table(told) + parts[-1])
 
 
+def moved(oracle, chosen, request):
+    """Prints the meshes whose answers a request moves: the first slot that it moves without it, with it."""
+    meshes = [m for _, _, m in chosen]
+    without = ",".join(r for r in RULES.split(",") if r != request)
+    for k, (before, after) in enumerate(zip(ask(oracle, meshes, without), ask(oracle, meshes))):
+        slots = [i for i in range(after[2]) if before[3][10 * i : 10 * i + 10] != after[3][10 * i : 10 * i + 10]]
+        if before != after:
+            was, now = (" ".join(f"{w:X}" for w in a[3][10 * slots[0] : 10 * slots[0] + 10]) for a in (before, after))
+            print(f"| {k} | {chosen[k][1]} | {len(slots)} of {after[2]} | {slots[0]}: `{was}` | `{now}` |")
+
+
 def main():
+    if len(sys.argv) == 3 and sys.argv[1] == "--moved":
+        return moved(build_oracle(), choose(), sys.argv[2])
     oracle = sys.argv[1] if len(sys.argv) > 1 else build_oracle()
     chosen = choose()
     told = {s: 0 for ss in SLIPS.values() for s in ss}

@@ -148,6 +148,11 @@ SIDES = standing([LEFT_BELOW, RIGHT_BELOW, LEFT_ABOVE, RIGHT_ABOVE])
 def north(z):
     return frame((0, 1, z), (0, 0, 1), 1, 1, 1)
 
+# a triangle whose s has an infinite squared length, so that it has no direction (request E6)
+FAR = [((0, 0, 0), UP, (0, 0)), ((1e20, 0, 0), UP, (1, 0)), ((0, 1, 0), UP, (0, 1))]
+FAR_ALONE = Mesh([FAR])
+FAR_TRIANGLE = "Triangles′.make 0 false 3 " + " ".join(f"(Triangles′.nook {i} {corner(*c)})" for i, c in enumerate(FAR))
+
 # whole calls: a name, a comment, the call or a part of it, what it is
 WHOLE = [
     ("sample-1", "sample 1", SAMPLE_1.call(), SAMPLE_1.taken(EAST_FRAME * 3)),
@@ -168,6 +173,7 @@ WHOLE = [
     ),
     ("earlier", "'if the two are equal by float comparison, the earlier stays as it is'", EARLIER.call(), EARLIER.taken(north(MINUS_LEAST) * 3 + north(0) * 2 + ABSENT + north(0) * 2)),
     ("sides", "'the side before the corner first': the sign of a zero in slot 8 tells", f"take 10 (drop 80 ({SIDES.call()} .answer))", words(north(MINUS_0))),
+    ("far", "request E6: a triangle whose s is none starts no group, so it is absent; before it was there, with a zero direction and an infinite magnitude", FAR_ALONE.call(), FAR_ALONE.taken(ABSENT * 3)),
     ("point-alone", "a face whose corners are all one: absent", POINT_ALONE.call(), POINT_ALONE.taken(ABSENT * 3)),
     ("point-shared", "the same behind sample 1, whose first corner it shares: it copies that corner's frame. So demand 3 counts corners of degenerate faces too", POINT_SHARED.call(), POINT_SHARED.taken(EAST_FRAME * 6)),
 ]
@@ -235,6 +241,15 @@ STARRED = [
     ("12: a NaN in a face of 5 is no ground for 4; in a face of 3 it is, and 4 is given if 1 to 3 don't apply", is_number(f"{nan_mesh([5])} .number", 0)),
     ("", is_number(f"{nan_mesh([3])} .number", 4)),
     ("", is_number(f"{nan_mesh([5, 3])} .place", 7)),
+    ("E6: no component counts, though none is zero: no direction, and the zero vector without a sign", is_true(f"Step4Order′.sameVector (Vector′.unitOf {vector(('80800000', '80000001', '80000000'))}) {vector((0, 0, 0))}")),
+    ("E6: squared length zero, though a component counts", is_true(f"Step4Order′.sameVector (Vector′.unitOf {vector((-1e-30, 0, 0))}) {vector((0, 0, 0))}")),
+    ("E6: squared length infinite", is_true(f"Step4Order′.sameVector (Vector′.unitOf {vector((1e20, 0, 0))}) {vector((0, 0, 0))}")),
+    ("E6: squared length NaN", is_true(f"Step4Order′.sameVector (Vector′.unitOf {vector((1, '7fc00000', 0))}) {vector((0, 0, 0))}")),
+    ("a tiny squared length has a direction, though not of unit length", is_word(f"Vector′.unitOf {vector((1e-22, 0, 0))} .x", 0x3F81_3D57)),
+    ("E6: a triangle whose s is none, by an infinite squared length, is `group_with_any`, though its area and both magnitudes count", is_true(f"{FAR_TRIANGLE} .any")),
+    ("", is_true("Vector′.counts (Step3Tangents′.turn " + " ".join(corner(*c) for c in FAR) + ")")),
+    ("", is_true(f"Vector′.counts ({FAR_TRIANGLE} .tangent .«s_magnitude»)")),
+    ("", is_true(f"Vector′.counts ({FAR_TRIANGLE} .tangent .«t_magnitude»)")),
     ("slip 'Welding by float comparison: -0.0 and 0.0 would join': they compare equal", is_true(f"Vector′.equals {vector((0, 0, 0))} {vector(('80000000', 0, 0))}")),
     ("slip '`>` for the position diagonals: the tie goes the wrong way': neither diagonal of the square is longer", is_false(f"lt (Step1Cut′.apart² {corner(*square(0, 1)[2])} {corner(*square(0, 1)[0])}) (Step1Cut′.apart² {corner(*square(0, 1)[3])} {corner(*square(0, 1)[1])})")),
     ("slip 'Summing a subgroup in walk order: last bits change': in triangle order the frame above, in walk order another", is_true(f"sameWords ({summed([0, 1, 2])}) {words(FAN_FRAME)}")),

@@ -70,8 +70,15 @@ fn counts(x: f32) -> bool {
     x.abs() > f32::MIN_POSITIVE
 }
 
+/// The vector at unit length, or none: no component counts, or the squared length is zero, infinite or NaN (request E6).
+fn direction(a: Vector) -> Option<Vector> {
+    let squared = dot(a, a);
+    let none = !a.into_iter().any(counts) || squared == 0.0 || !squared.is_finite();
+    (!none).then(|| scale(a, 1.0 / squared.sqrt()))
+}
+
 fn unit(a: Vector) -> Vector {
-    if a.into_iter().any(counts) { scale(a, 1.0 / dot(a, a).sqrt()) } else { a }
+    direction(a).unwrap_or([0.0; 3])
 }
 
 #[derive(Clone, Copy)]
@@ -116,7 +123,7 @@ fn triangle(face: usize, second: bool, missing: usize, which: [usize; 3], corner
     );
     let area = t1[0] * t2[1] - t1[1] * t2[0];
     let (d1, d2) = (sub(b.place, a.place), sub(c.place, a.place));
-    let (mut s, mut t, mut magnitudes) = ([0.0; 3], [0.0; 3], [0.0; 2]);
+    let (mut s, mut t, mut magnitudes, mut points) = ([0.0; 3], [0.0; 3], [0.0; 2], false);
     if !degenerate && counts(area) {
         let raw_s = sub(scale(d1, t2[1]), scale(d2, t1[1]));
         let (x, y) = (scale(d1, -t2[0]), scale(d2, t1[0]));
@@ -125,8 +132,9 @@ fn triangle(face: usize, second: bool, missing: usize, which: [usize; 3], corner
         s = scale(unit(raw_s), sign);
         t = scale(unit(raw_t), sign);
         magnitudes = [raw_s, raw_t].map(|v| dot(v, v).sqrt() / area.abs());
+        points = direction(raw_s).is_some() && direction(raw_t).is_some();
     }
-    let any = !degenerate && !(counts(area) && counts(magnitudes[0]) && counts(magnitudes[1]));
+    let any = !degenerate && !(points && counts(magnitudes[0]) && counts(magnitudes[1]));
     let orientation = !degenerate && area > 0.0;
     Triangle { face, second, missing, which, corners, degenerate, marked: false, any, orientation, area: area.abs(), s, t, magnitudes }
 }

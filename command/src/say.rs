@@ -2,6 +2,7 @@
 use crate::cause::cause;
 use crate::state::{BAD, Known, State, Tally};
 use crate::stop::Status;
+use dokphalun::Record;
 use std::fmt::Display;
 use std::io::{IsTerminal, Write, stderr, stdout};
 use std::path::Path;
@@ -66,7 +67,7 @@ pub fn faces(known: &Known) {
             let corners: Vec<String> = corners.iter().map(usize::to_string).collect();
             let why = match state {
                 State::Absent => cause(known.surface, face, starts[face]),
-                State::NoDirection => "a direction is zero or no finite number",
+                State::NoDirection => undirected(known, face),
                 _ => "not on the card: nothing is known",
             };
             let which = format!("face {face}, corner {}", corners.join(" "));
@@ -77,6 +78,24 @@ pub fn faces(known: &Known) {
         let size = known.surface.sizes[face];
         let why = format!("{size} corners, and only faces of 3 or 4 are read");
         loud("NO SLOT", format!("face {face}: {why} ({})", spot(face)));
+    }
+}
+
+/// Why a face's frames have no direction. In a frame that is made here it is zero; a card of an older edition can hold others.
+fn undirected(known: &Known, face: usize) -> &'static str {
+    let finite = |record: &Record| match record {
+        Record::Present(frame) => {
+            let numbers = frame.tangent.iter().chain(&frame.bitangent);
+            numbers.copied().all(f32::is_finite)
+        }
+        _ => true,
+    };
+    let mut slots = known.slots().filter(|(place, _)| place.face == face);
+    match slots.all(|(_, record)| finite(record)) {
+        true => {
+            "a direction is zero: a normal lies along it, or numbers are too large or too small for single precision"
+        }
+        false => "a direction is no finite number: the card is of an older edition",
     }
 }
 

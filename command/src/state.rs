@@ -8,7 +8,7 @@ use dokphalun::{Place, Record, slots, takes_slots};
 pub enum State {
     /// It has a frame.
     Present,
-    /// It has a frame in which a direction is zero or no finite number.
+    /// It has a frame in which a direction is zero; on a card of an older edition it may be no finite number.
     NoDirection,
     /// It has no frame.
     Absent,

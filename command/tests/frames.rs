@@ -69,7 +69,7 @@ fn a_frame_without_a_direction_is_not_good() {
     let ran = room.run("frames a.ply -o a.card --report a.csv --picture a.svg");
     ran.ends(
         3,
-        "NO DIRECTION  face 0, corner 0 1 2 3: a direction is zero or no finite number",
+        "NO DIRECTION  face 0, corner 0 1 2 3: a direction is zero: a normal lies along it, or",
     );
     assert!(
         room.text("a.csv")
@@ -79,6 +79,25 @@ fn a_frame_without_a_direction_is_not_good() {
         room.text("a.svg")
             .contains("4 NO DIRECTION; 0 of 4 slots present")
     );
+}
+
+#[test]
+fn a_face_too_large_for_single_precision_is_absent() {
+    let room = Room::new("far");
+    let head = "ply\nformat ascii 1.0\nelement vertex 3\n";
+    let names = ["x", "y", "z", "nx", "ny", "nz", "u", "v"];
+    let properties = names
+        .map(|name| format!("property float {name}\n"))
+        .concat();
+    let face = "element face 1\nproperty list uchar int vertex_indices\nend_header\n";
+    let rows = "0 0 0 0 0 1 0 0\n1e20 0 0 0 0 1 1 0\n0 1 0 0 0 1 0 1\n3 0 1 2\n";
+    room.put("far.ply", format!("{head}{properties}{face}{rows}"));
+    let ran = room.run("frames far.ply -o far.card --report far.csv");
+    ran.ends(
+        3,
+        "ABSENT        face 0, corner 0 1 2: its texture or its sides are too small or too large for single precision",
+    );
+    assert!(room.text("far.csv").contains("\n0,0,0,ABSENT,,,,,,,,,\n"));
 }
 
 #[test]

@@ -13,6 +13,8 @@ pub struct Seen {
     pub number: u32,
     /// The first 10S words that the call has to leave.
     pub frames: Vec<u32>,
+    /// True where the frames to compare with were the altered copy's (request E6).
+    pub amended: bool,
     /// True for a shuffle whose faces were compared with the same faces alone.
     pub shuffled: bool,
     /// The first word that differed, if one did.
@@ -24,6 +26,7 @@ pub fn examine(case: &Case, spoil: Option<Spoil>) -> Seen {
     let mut seen = Seen {
         number: 0,
         frames: vec![],
+        amended: false,
         shuffled: false,
         difference: None,
     };
@@ -33,7 +36,9 @@ pub fn examine(case: &Case, spoil: Option<Spoil>) -> Seen {
 
 /// Compares a case: an error is the first difference.
 fn differing(case: &Case, spoil: Option<Spoil>, seen: &mut Seen) -> Result<(), String> {
-    let theirs = theirs::left::<Document>(&case.mesh)?;
+    let expected = theirs::left::<Document>(&case.mesh)?;
+    let theirs = expected.left;
+    seen.amended = expected.amended;
     seen.number = theirs.outcome.number;
     seen.frames = theirs.answer[..10 * theirs.outcome.slots as usize].to_vec();
     if let Some(foreseen) = case
@@ -190,7 +195,7 @@ fn as_alone(
     let mut alone = vec![];
     for mesh in parts {
         let ours = spoiled(mesh, spoil)?;
-        same(mesh, &ours, &theirs::left::<Document>(mesh)?)
+        same(mesh, &ours, &theirs::left::<Document>(mesh)?.left)
             .map_err(|what| format!("one of the two alone: {what}"))?;
         alone.push(ours.answer);
     }

@@ -1,7 +1,8 @@
 //! The proved frames beside those of the Rust crate, word for word, and their times.
 
-// build.rs leaves it where it is found by name
+// build.rs leaves both where they are found by name
 extern crate bevy_mikktspace;
+extern crate mikktspace_altered;
 
 pub mod compare;
 pub mod kinds;

@@ -16,6 +16,16 @@ impl Ops for Document {
     }
 }
 
+impl mikktspace_altered::Ops for Document {
+    fn sqrt(x: f32) -> f32 {
+        root(x)
+    }
+
+    fn acos(x: f32) -> f32 {
+        angle(x)
+    }
+}
+
 /// IEEE 754 square root, nearest, over whole numbers. Of a negative, NaN; of -0.0, -0.0.
 pub fn root(x: f32) -> f32 {
     let pattern = x.to_bits();

@@ -10,6 +10,8 @@ pub struct Tally {
     pub differed: u64,
     /// Accepted, and refused with 1 to 6.
     numbers: [u64; 7],
+    /// Left out beside the crate and compared with its altered copy: a vector without a direction was met (request E6).
+    amended: u64,
     faces: u64,
     shuffles: u64,
     slots: u64,
@@ -17,6 +19,10 @@ pub struct Tally {
     mirrored: u64,
     not_a_number: u64,
     infinite: u64,
+    /// Slots with a direction that is no finite number: none since request E6.
+    boundless: u64,
+    /// The greatest component of a direction, in size.
+    greatest: f32,
 }
 
 impl Tally {
@@ -25,6 +31,7 @@ impl Tally {
         self.compared += 1;
         self.differed += u64::from(seen.difference.is_some());
         self.numbers[seen.number as usize] += 1;
+        self.amended += u64::from(seen.amended);
         self.faces += case.mesh.sizes.len() as u64;
         self.shuffles += u64::from(seen.shuffled);
         seen.frames
@@ -40,6 +47,11 @@ impl Tally {
         self.mirrored += u64::from(slot[0] == 1 && slot[9] == 0);
         self.not_a_number += u64::from(numbers().any(f32::is_nan));
         self.infinite += u64::from(numbers().any(f32::is_infinite));
+        self.boundless += u64::from(numbers().take(6).any(|x| !x.is_finite()));
+        self.greatest = numbers()
+            .take(6)
+            .map(f32::abs)
+            .fold(self.greatest, f32::max);
     }
 
     /// Adds the counts of another run.
@@ -47,6 +59,7 @@ impl Tally {
         let pairs = [
             (&mut self.compared, other.compared),
             (&mut self.differed, other.differed),
+            (&mut self.amended, other.amended),
             (&mut self.faces, other.faces),
             (&mut self.shuffles, other.shuffles),
             (&mut self.slots, other.slots),
@@ -54,8 +67,10 @@ impl Tally {
             (&mut self.mirrored, other.mirrored),
             (&mut self.not_a_number, other.not_a_number),
             (&mut self.infinite, other.infinite),
+            (&mut self.boundless, other.boundless),
         ];
         pairs.into_iter().for_each(|(sum, more)| *sum += more);
+        self.greatest = self.greatest.max(other.greatest);
         self.numbers
             .iter_mut()
             .zip(other.numbers)
@@ -76,6 +91,7 @@ impl Display for Tally {
             line,
             "{accepted} accepted, refused with 1 to 6: {refused:?}; "
         )?;
+        write!(line, "{} of them beside the altered copy; ", self.amended)?;
         write!(
             line,
             "{} faces, {} slots: {} absent, {} mirrored, ",
@@ -83,8 +99,8 @@ impl Display for Tally {
         )?;
         write!(
             line,
-            "{} with a NaN, {} with an infinity",
-            self.not_a_number, self.infinite
+            "{} with a NaN, {} with an infinity, {} of them in a direction, whose components are up to {}",
+            self.not_a_number, self.infinite, self.boundless, self.greatest
         )?;
         if self.shuffles > 0 {
             write!(

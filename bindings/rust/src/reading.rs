@@ -32,7 +32,8 @@ impl Frame {
         }
     }
 
-    /// Whether both directions are there: finite, and not zero. A mesh of extreme numbers can have frames without.
+    /// Whether both directions are there: finite, and not zero. A mesh of extreme numbers can have frames in which one is zero;
+    /// one that is not finite can only stand on a card of an older edition (request E6).
     pub fn directed(&self) -> bool {
         [self.tangent, self.bitangent].iter().all(|direction| {
             direction.iter().all(|number| number.is_finite())

@@ -4,7 +4,7 @@ use lib.Ieee as Ieee
 use lib.Ieee.{Float}
 use Rattle.bits.specs.Single.{_-ᶠ_, _*ᶠ_, _/ᶠ_, zeroᶠ, oneᶠ, minusOneᶠ}
 use Rattle.math.specs.declared.Vec3.{Vec3}
-use Rattle.math.specs.Vector.{added, subtracted, scaledBy, lengthOf, unitOf, abs, counts}
+use Rattle.math.specs.Vector.{added, subtracted, scaledBy, lengthOf, unitOf, abs, counts, points}
 use Rattle.tangent.specs.declared.RawTangentSpace.{RawTangentSpace}
 use Rattle.tangent.specs.Space.{zeroTangent}
 use Rattle.definition.specs.declared.Corner.{Corner}
@@ -33,12 +33,12 @@ tangentAt w s t =
     record { s = scaledBy (unitOf s) k; t = scaledBy (unitOf t) k; «s_magnitude» = lengthOf s /ᶠ abs w; «t_magnitude» = lengthOf t /ᶠ abs w }
 
 -- the first-order tangent of a sound triangle: the zero tangent where w, twice the signed area, doesn't count (a NaN doesn't)
-unfoldable pub firstOrder : Corner → Corner → Corner → RawTangentSpace
-firstOrder c d e = let r = tangentAt (turn c d e) (rawS c d e) (rawT c d e) in cond (counts (turn c d e)) r zeroTangent
+unfoldable pub firstOrder : Float → Vec3 → Vec3 → RawTangentSpace
+firstOrder w s t = let r = tangentAt w s t in cond (counts w) r zeroTangent
 
--- `group_with_any` of a sound triangle: w or one of its two magnitudes doesn't count (a NaN doesn't)
-unfoldable pub unsure : Float → RawTangentSpace → Bool
-unsure w g = not (counts w && counts (g .«s_magnitude») && counts (g .«t_magnitude»))
+-- `group_with_any` of a sound triangle: w or one of its two magnitudes doesn't count (a NaN doesn't); request E6: 'a triangle whose s or t has none is also `group_with_any`'
+unfoldable pub unsure : Float → Vec3 → Vec3 → RawTangentSpace → Bool
+unsure w s t g = not (counts w && counts (g .«s_magnitude») && counts (g .«t_magnitude») && points s && points t)
 
 -- `calculate_texture_area`: twice the area in the texture
 unfoldable pub area : Triangle → Float

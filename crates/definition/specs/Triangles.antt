@@ -11,7 +11,7 @@ use Rattle.definition.specs.declared.Triangle.{Triangle}
 use Rattle.definition.specs.Mesh.{Face}
 use Rattle.definition.specs.Step1Cut.{cut02}
 use Rattle.definition.specs.Step2Degenerate.{flat, exactlyOne}
-use Rattle.definition.specs.Step3Tangents.{turn, firstOrder, unsure, quadWay}
+use Rattle.definition.specs.Step3Tangents.{turn, rawS, rawT, firstOrder, unsure, quadWay}
 
 -- corner number i of its face, with its values
 abbrev pub nook : ℕ → Corner → Kept
@@ -21,7 +21,10 @@ nook i c = record { which = i; corner = c }
 unfoldable pub make : ℕ → Bool → ℕ → Kept → Kept → Kept → Triangle
 make f second missing a b c =
     let d = flat (a .corner) (b .corner) (c .corner) in
-    let g = cond d zeroTangent (firstOrder (a .corner) (b .corner) (c .corner)) in
+    let w = turn (a .corner) (b .corner) (c .corner) in
+    let s = rawS (a .corner) (b .corner) (c .corner) in
+    let t = rawT (a .corner) (b .corner) (c .corner) in
+    let g = cond d zeroTangent (firstOrder w s t) in
     record {
       face = f;
       second = second;
@@ -31,8 +34,8 @@ make f second missing a b c =
       c = c;
       degenerate = d;
       marked = false;
-      any = not d && unsure (turn (a .corner) (b .corner) (c .corner)) g;
-      orientation = not d && Ieee.lt zeroᶠ (turn (a .corner) (b .corner) (c .corner));
+      any = not d && unsure w s t g;
+      orientation = not d && Ieee.lt zeroᶠ w;
       tangent = g;
     }
 

@@ -48,7 +48,7 @@ either-held : (b : Bool) (z y : Sum) → HeldSpace (z .weighted) → HeldSpace (
 either-held true z y h k = h
 either-held false z y h k = k
 
-run-held : (c : Corner) (l : List Triangle) (z : Sum) → HeldSpace (z .weighted) → HeldSpace (run (contribute c) z l .weighted)
+pub run-held : (c : Corner) (l : List Triangle) (z : Sum) → HeldSpace (z .weighted) → HeldSpace (run (contribute c) z l .weighted)
 unfolding run contribute
 run-held c [] z h = h
 run-held c (t ∷ l) z h = run-held c l (cond (t .any) z (addSpot z (cornerIn c t))) (either-held (t .any) z (addSpot z (cornerIn c t)) h (spot-held z (cornerIn c t) h))
@@ -57,8 +57,8 @@ finish-held : (z : Sum) → HeldSpace (z .weighted) → HeldSpace (finish z)
 unfolding finish
 finish-held z h =
     record {
-      s-held = unit-held (z .weighted .s) (h .s-held);
-      t-held = unit-held (z .weighted .t) (h .t-held);
+      s-held = unit-held (z .weighted .s);
+      t-held = unit-held (z .weighted .t);
       s-magnitude-held = cond-fits binary32 (Ieee.lt zeroᶠ (z .angles)) (z .weighted .«s_magnitude» /ᶠ z .angles) (z .weighted .«s_magnitude») (div-fits binary32 (z .weighted .«s_magnitude») (z .angles)) (h .s-magnitude-held);
       t-magnitude-held = cond-fits binary32 (Ieee.lt zeroᶠ (z .angles)) (z .weighted .«t_magnitude» /ᶠ z .angles) (z .weighted .«t_magnitude») (div-fits binary32 (z .weighted .«t_magnitude») (z .angles)) (h .t-magnitude-held);
     }

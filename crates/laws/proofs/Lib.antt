@@ -26,3 +26,4 @@ pub mod Reached
 pub mod OneGroup
 pub mod Verdict
 pub mod Old
+pub mod Finite

@@ -1,11 +1,12 @@
 -- Sums and multiples are held, whatever they are made of, and so is a held vector at unit length. Assumes nothing.
-use mathlib.Core.Bool.{Bool, true, false, cond, _||_}
+use mathlib.Core.Bool.{Bool, true, false, cond}
 use lib.Ieee.{Float, binary32}
 use lib.Ieee.Fits.{add-fits, sub-fits, mul-fits}
 use Rattle.bits.specs.Single.{oneᶠ, _/ᶠ_}
 use Rattle.bits.proofs.Back.{number-fits}
 use Rattle.math.specs.declared.Vec3.{Vec3}
-use Rattle.math.specs.Vector.{origin, added, subtracted, scaledBy, lengthOf, counts, unitOf}
+use Rattle.math.specs.declared.Direction.the-variants.{Nowhere, Along}
+use Rattle.math.specs.Vector.{origin, added, subtracted, scaledBy, lengthOf, points, direction, orZero, unitOf}
 use Rattle.math.specs.Held.{HeldVec}
 
 pub origin-held : HeldVec origin
@@ -23,10 +24,11 @@ pub scaled-held : (u : Vec3) (k : Float) → HeldVec (scaledBy u k)
 unfolding scaledBy
 scaled-held u k = record { x-held = mul-fits binary32 k (u .x); y-held = mul-fits binary32 k (u .y); z-held = mul-fits binary32 k (u .z) }
 
-held-either : (b : Bool) {u v : Vec3} → HeldVec u → HeldVec v → HeldVec (cond b u v)
-held-either true h k = h
-held-either false h k = k
-
-pub unit-held : (u : Vec3) → HeldVec u → HeldVec (unitOf u)
-unfolding unitOf
-unit-held u h = held-either (counts (u .x) || counts (u .y) || counts (u .z)) (scaled-held u (oneᶠ /ᶠ lengthOf u)) h
+-- the zero vector or a multiple, whatever it was made of
+pub unit-held : (u : Vec3) → HeldVec (unitOf u)
+unfolding unitOf direction orZero
+unit-held u = go (points u)
+  where
+    go : (b : Bool) → HeldVec (orZero (cond b (Along (scaledBy u (oneᶠ /ᶠ lengthOf u))) Nowhere))
+    go true = scaled-held u (oneᶠ /ᶠ lengthOf u)
+    go false = origin-held

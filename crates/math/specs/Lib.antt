@@ -1,2 +1,3 @@
 pub mod Vector
 pub mod Held
+pub mod Finite

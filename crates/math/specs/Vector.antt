@@ -3,9 +3,11 @@ use mathlib.Core.Bool.{Bool, false, cond, _&&_, _||_}
 use lib.Ieee as Ieee
 use lib.Ieee.{Float, nan, inf, fin}
 use Rattle.bits.specs.Single.{_+ᶠ_, _-ᶠ_, _*ᶠ_, _/ᶠ_, zeroᶠ, oneᶠ}
-use Rattle.bits.specs.Word.{number}
+use Rattle.bits.specs.Word.{number, isFinite}
 use Rattle.root.specs.Root.{sqrt}
 use Rattle.math.specs.declared.Vec3.{Vec3}
+use Rattle.math.specs.declared.Direction.{Direction}
+use Rattle.math.specs.declared.Direction.the-variants.{Nowhere, Along}
 
 -- the vector with these three components
 abbrev pub vec : Float → Float → Float → Vec3
@@ -53,6 +55,23 @@ abs (fin s m e) = fin false m e
 unfoldable pub counts : Float → Bool
 counts x = Ieee.lt (number 0x0080_0000) (abs x)
 
--- 'A vector with no component above zero in step 3's sense isn't brought to unit length but kept as it is'; any other is scaled by 1 over its length
+-- of a squared length: neither zero, infinite nor NaN
+unfoldable pub spans : Float → Bool
+spans q = cond (Ieee.eq q zeroᶠ) false (isFinite q)
+
+-- a component counts, and the squared length spans; request E6: no direction 'exactly when no component counts, or the squared length is zero, infinite or NaN'
+unfoldable pub points : Vec3 → Bool
+points u = cond (counts (u .x) || counts (u .y) || counts (u .z)) (spans (dot u u)) false
+
+-- 'Bringing to unit length shall answer with a direction or with the plain word that there is none': the vector scaled by 1 over its length
+unfoldable pub direction : Vec3 → Direction
+direction u = cond (points u) (Along (scaledBy u (oneᶠ /ᶠ lengthOf u))) Nowhere
+
+-- 'Every caller uses the zero vector for none'
+unfoldable pub orZero : Direction → Vec3
+orZero Nowhere = origin
+orZero (Along v) = v
+
+-- a vector brought to unit length, as its callers have it
 unfoldable pub unitOf : Vec3 → Vec3
-unitOf u = cond (counts (u .x) || counts (u .y) || counts (u .z)) (scaledBy u (oneᶠ /ᶠ lengthOf u)) u
+unitOf u = orZero (direction u)

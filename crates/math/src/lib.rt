@@ -9,6 +9,12 @@ pub struct Vec3 {
     pub z: f32,
 }
 
+// Where a vector points: along another, at unit length, or nowhere.
+pub enum Direction {
+    Nowhere,
+    Along(Vec3),
+}
+
 impl Vec3 {
     pub const ZERO: Vec3 = Vec3 {
         x: 0.0,
@@ -87,14 +93,34 @@ impl Vec3 {
         root::sqrt(self.length_squared())
     }
 
-    // To unit length, unless no component counts.
+    // A component counts, and the squared length is neither zero, infinite nor NaN.
+    pub fn points(self) -> bool
+        ensures { λ r. ⌜ r ≡ spec.points self ⌝ }
+    {
+        if not_zero(self.x) || not_zero(self.y) || not_zero(self.z) {
+            spans(self.length_squared())
+        } else {
+            false
+        }
+    }
+
+    // To unit length, or the plain word that there is no direction.
+    pub fn direction(self) -> Direction
+        ensures { λ r. ⌜ r ≡ spec.direction self ⌝ }
+    {
+        if self.points() {
+            return Direction::Along(self.scale(1.0 / self.length()));
+        }
+        Direction::Nowhere
+    }
+
+    // To unit length, and the zero vector where there is no direction.
     pub fn normalized_or_zero(self) -> Self
         ensures { λ r. ⌜ r ≡ spec.unitOf self ⌝ }
     {
-        if not_zero(self.x) || not_zero(self.y) || not_zero(self.z) {
-            self.scale(1.0 / self.length())
-        } else {
-            self // small numbers and signs of zero included
+        match self.direction() {
+            Direction::Nowhere => Vec3::ZERO,
+            Direction::Along(v) => v,
         }
     }
 
@@ -117,6 +143,13 @@ pub fn fabsf(x: f32) -> f32
     } else {
         x
     }
+}
+
+// Of a squared length: neither zero, infinite nor NaN.
+fn spans(q: f32) -> bool
+    ensures { λ r. ⌜ r ≡ spec.spans q ⌝ }
+{
+    if q == 0.0 { false } else { bits::is_finite(q) }
 }
 
 // Strictly above 2 ^ -126, bits 00800000, in size.

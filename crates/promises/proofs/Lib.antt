@@ -15,4 +15,6 @@ pub mod PackedValue
 pub mod PackedSlots
 pub mod PackedFound
 pub mod PackedWritten
+pub mod PackedAnswers
 pub mod Packed
+pub mod Directions

@@ -22,6 +22,7 @@ use Rattle.packed.proofs.Outcomes.{read-done, pack-kept, pack-past, read-kept, 
 use Rattle.promises.proofs.PackedValue.{value}
 use Rattle.promises.proofs.PackedSlots.{told, accepts, back}
 use Rattle.promises.proofs.PackedWritten.{written}
+use Rattle.promises.proofs.PackedAnswers.{packed-answers}
 
 -- the amount of a component is its units
 component-amount : (w : ℕ) → units (cut w) ≡ amount (component w)
@@ -87,6 +88,7 @@ packed-promised =
       value = value;
       rounded = rounded;
       told = told;
+      answers = packed-answers;
       accepts = accepts;
       written = written;
       back = back;

@@ -39,7 +39,7 @@ some-exponent s x t h =
     whole = omega arith
 
 -- from the bits
-fields : (w : ℕ) → ofBits binary32 w ≡ ofFields binary32 (negative w) (size w / 8388608) (w % 8388608)
+pub fields : (w : ℕ) → ofBits binary32 w ≡ ofFields binary32 (negative w) (size w / 8388608) (w % 8388608)
 unfolding ofBits
 fields w = refl
 

@@ -13,3 +13,4 @@ pub mod Cosines
 pub mod Cards
 pub mod Appends
 pub mod Packed
+pub mod Directions

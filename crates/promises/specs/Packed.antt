@@ -17,6 +17,10 @@ use Rattle.packed.specs.Reader.{readWords, accepted, wide, absentWords, readSev
 use Rattle.packed.specs.Contract.{Packs, Unpacks}
 use Rattle.packed.specs.declared.Packed.{Packed}
 use Rattle.packed.specs.declared.Unpacked.{Unpacked}
+use Rattle.view.specs.Answer.{HasSlot}
+use Rattle.promises.specs.Calls.{Call}
+use Rattle.promises.specs.Directions.{slotIn}
+use Rattle.promises.specs.PublicCall.{Made}
 
 -- 'The distance from c, so cut, is at most half a unit', ties are even, the number is the only one that is so, its sign is c's, and its range; of every component and both signs
 pub record Rounded (w n : ℕ) : Type 0 where
@@ -38,6 +42,12 @@ pub record Holds (slot ns : List ℕ) : Type 0 where
   pub no-nothing : (i : ℕ) → i < 6 → getD ns i 0 ≡ nothing → ⊥
   pub one : getD slot 9 0 ≡ 1 → getD ns 6 0 ≡ 1
   pub minus-one : getD slot 9 0 ≡ 0 → getD ns 6 0 ≡ 0xffff
+
+-- a slot of an accepted call's answer, packed: an absent one as absent; one that is there as absent exactly where one of its six components is beyond 3F800008, which is then a finite number; else with its numbers. So no NaN and no infinity is among the grounds
+pub data PackedAnswer (slot : List ℕ) : Type 0 where
+  absent : slot ≡ replicate answer.slotWords 0 → packedSlot slot ≡ replicate 7 nothing → PackedAnswer slot
+  too-far : getD slot 0 0 ≡ 1 → (i : ℕ) → i < 6 → 0x3f80_0008 < size (getD slot (1 + i) 0) → size (getD slot (1 + i) 0) < 0x7f80_0000 → packedSlot slot ≡ replicate 7 nothing → PackedAnswer slot
+  there : getD slot 0 0 ≡ 1 → ((i : ℕ) → i < 6 → size (getD slot (1 + i) 0) ≤ 0x3f80_0008) → Holds slot (packedSlot slot) → PackedAnswer slot
 
 -- the eight words that are read of a slot with a frame: 1, each component's number, and the orientation word
 pub record ReadsBack (slot ws : List ℕ) : Type 0 where
@@ -80,6 +90,8 @@ pub record PackedPromised : Type 0 where
   pub rounded : (w : ℕ) → Rounded w (component w)
   -- what is absent is seven times -32,768, and nothing else is
   pub told : (slot : List ℕ) → (Lacks slot × (packedSlot slot ≡ replicate 7 nothing)) ⊎ ((Lacks slot → ⊥) × Holds slot (packedSlot slot))
+  -- and of the answer of an accepted call (request E6): a slot that is there is packed as absent only for a finite component beyond 3F800008
+  pub answers : (x : Call) (m : Made x) → m .returned .number ≡ 0 → (f i : ℕ) → HasSlot (x .mesh .sizes) f i → PackedAnswer (slotIn (x .mesh .sizes) f i (m .answer))
   -- the reader accepts every seven that is written
   pub accepts : (slot : List ℕ) → accepted (packedSlot slot) ≡ true
   -- and none other: every seven that it accepts is written for some slot

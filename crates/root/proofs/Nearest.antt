@@ -122,7 +122,7 @@ above-zero (fin false m e) n c N v = lt-ltb (0 * down e) (m * up e * 1) (more (d
 not-infinite : (x : Float) (n c : ℕ) → HasValue x false n c → x ≡ inf false → ⊥
 not-infinite x n c v e = subst (λ (y : Float). HasValue y false n c) e v
 
-read : (x : Float) (n c : ℕ) → T (fits binary32 x) → 0 < n → HasValue x false n c → (s : ℕ) × (h : ℕ) × Read x s h
+pub read : (x : Float) (n c : ℕ) → T (fits binary32 x) → 0 < n → HasValue x false n c → (s : ℕ) × (h : ℕ) × Read x s h
 unfolding ofBits
 read x n c f N v =
     let b = toBits binary32 x in

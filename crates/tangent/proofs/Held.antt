@@ -10,7 +10,7 @@ use Rattle.bits.specs.Single.{_+ᶠ_, halfᶠ}
 use Rattle.bits.proofs.Back.{number-fits}
 use Rattle.math.specs.Vector as math
 use Rattle.math.specs.Held.{HeldVec}
-use Rattle.math.proofs.Held.{origin-held, added-held, unit-held}
+use Rattle.math.proofs.Held.{origin-held, unit-held}
 use Rattle.tangent.specs.declared.RawTangentSpace.{RawTangentSpace}
 use Rattle.tangent.specs.declared.Reading.{Reading}
 use Rattle.tangent.specs.declared.Reading.the-variants.{Absent, Single, Combined}
@@ -21,25 +21,26 @@ use Rattle.tangent.specs.Held.{HeldSpace, HeldReading, absent, single, c
 pub zero-held : HeldSpace zeroTangent
 zero-held = record { s-held = origin-held; t-held = origin-held; s-magnitude-held = number-fits 0; t-magnitude-held = number-fits 0 }
 
+-- what two that differ are combined to
+abbrev pub mixed : RawTangentSpace → RawTangentSpace → RawTangentSpace
+mixed a b =
+    record {
+      s = math.unitOf (math.added (a .s) (b .s));
+      t = math.unitOf (math.added (a .t) (b .t));
+      «s_magnitude» = mean (a .«s_magnitude») (b .«s_magnitude»);
+      «t_magnitude» = mean (a .«t_magnitude») (b .«t_magnitude»);
+    }
+
 pub combine-held : (a b : RawTangentSpace) → HeldSpace a → HeldSpace (combine a b)
 unfolding combine mean
 combine-held a b h = go (equals a b)
   where
-    mixed : RawTangentSpace
-    mixed =
-        record {
-          s = math.unitOf (math.added (a .s) (b .s));
-          t = math.unitOf (math.added (a .t) (b .t));
-          «s_magnitude» = mean (a .«s_magnitude») (b .«s_magnitude»);
-          «t_magnitude» = mean (a .«t_magnitude») (b .«t_magnitude»);
-        }
-
-    go : (t : Bool) → HeldSpace (cond t a mixed)
+    go : (t : Bool) → HeldSpace (cond t a (mixed a b))
     go true = h
     go false =
         record {
-          s-held = unit-held (math.added (a .s) (b .s)) (added-held (a .s) (b .s));
-          t-held = unit-held (math.added (a .t) (b .t)) (added-held (a .t) (b .t));
+          s-held = unit-held (math.added (a .s) (b .s));
+          t-held = unit-held (math.added (a .t) (b .t));
           s-magnitude-held = mul-fits binary32 halfᶠ (a .«s_magnitude» +ᶠ b .«s_magnitude»);
           t-magnitude-held = mul-fits binary32 halfᶠ (a .«t_magnitude» +ᶠ b .«t_magnitude»);
         }

@@ -1,3 +1,4 @@
 pub mod Space
 pub mod Slot
 pub mod Held
+pub mod Finite

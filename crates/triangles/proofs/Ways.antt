@@ -7,7 +7,7 @@ use lib.Ieee.{Float, lt, le}
 use Rattle.tangent.specs.declared.RawTangentSpace.{RawTangentSpace}
 use Rattle.math.specs.declared.Vec3.{Vec3}
 use Rattle.bits.specs.Single.{zeroᶠ}
-use Rattle.math.specs.Vector.{counts, equals}
+use Rattle.math.specs.Vector.{counts, points, equals}
 use Rattle.tangent.specs.Space.{zeroTangent}
 use Rattle.definition.specs.declared.Corner.{Corner}
 use Rattle.definition.specs.declared.Kept.{Kept}
@@ -43,36 +43,44 @@ module _ (c d e : Corner) (x : Bool) (p : x ≡ equals (c .place) (d .place)) wh
   unfolding flat
   flat-3 h y q k z r = cc
 
-module _ (c d e : Corner) (w : Float) (p : w ≡ turn c d e) (x : Bool) (q : x ≡ counts w) where
-  pub order-1 : x ≡ true → (s t : Vec3) → s ≡ rawS c d e → t ≡ rawT c d e → (g : RawTangentSpace) → g ≡ tangentAt w s t → g ≡ firstOrder c d e
+module _ (w : Float) (s t : Vec3) (x : Bool) (q : x ≡ counts w) where
+  pub order-1 : x ≡ true → (g : RawTangentSpace) → g ≡ tangentAt w s t → g ≡ firstOrder w s t
   unfolding firstOrder
-  order-1 h s t k l g m = cc
+  order-1 h g m = cc
 
-  pub order-2 : x ≡ false → zeroTangent ≡ firstOrder c d e
+  pub order-2 : x ≡ false → zeroTangent ≡ firstOrder w s t
   unfolding firstOrder
   order-2 h = cc
 
-module _ (w : Float) (g : RawTangentSpace) (x : Bool) (p : x ≡ counts w) where
-  pub unsure-1 : x ≡ true → (y : Bool) → y ≡ counts (g .«s_magnitude») → y ≡ true → (z : Bool) → z ≡ counts (g .«t_magnitude») → not z ≡ unsure w g
+module _ (w : Float) (s t : Vec3) (g : RawTangentSpace) where
+  pub unsure-1 : (x y z u v : Bool) → x ≡ counts w → x ≡ true → y ≡ counts (g .«s_magnitude») → y ≡ true → z ≡ counts (g .«t_magnitude») → z ≡ true → u ≡ points s → u ≡ true → v ≡ points t → not v ≡ unsure w s t g
   unfolding unsure
-  unsure-1 h y q k z r = cc
+  unsure-1 x y z u v a b c d e f i j k = cc
 
-  pub unsure-2 : x ≡ true → (y : Bool) → y ≡ counts (g .«s_magnitude») → y ≡ false → true ≡ unsure w g
+  pub unsure-2 : (x y z u : Bool) → x ≡ counts w → x ≡ true → y ≡ counts (g .«s_magnitude») → y ≡ true → z ≡ counts (g .«t_magnitude») → z ≡ true → u ≡ points s → u ≡ false → true ≡ unsure w s t g
   unfolding unsure
-  unsure-2 h y q k = cc
+  unsure-2 x y z u a b c d e f i j = cc
 
-  pub unsure-3 : x ≡ false → true ≡ unsure w g
+  pub unsure-3 : (x y z : Bool) → x ≡ counts w → x ≡ true → y ≡ counts (g .«s_magnitude») → y ≡ true → z ≡ counts (g .«t_magnitude») → z ≡ false → true ≡ unsure w s t g
   unfolding unsure
-  unsure-3 h = cc
+  unsure-3 x y z a b c d e f = cc
+
+  pub unsure-4 : (x y : Bool) → x ≡ counts w → x ≡ true → y ≡ counts (g .«s_magnitude») → y ≡ false → true ≡ unsure w s t g
+  unfolding unsure
+  unsure-4 x y a b c d = cc
+
+  pub unsure-5 : (x : Bool) → x ≡ counts w → x ≡ false → true ≡ unsure w s t g
+  unfolding unsure
+  unsure-5 x a b = cc
 
 module _ (f : ℕ) (o : Bool) (m : ℕ) (a b c : Kept) (x : Bool) (p : x ≡ flat (a .corner) (b .corner) (c .corner)) where
   pub make-1 : x ≡ true → _≡_ {A = Triangle} (record { face = f; second = o; missing = m; a = a; b = b; c = c; degenerate = true; marked = false; any = false; orientation = false; tangent = zeroTangent }) (make f o m a b c)
   unfolding make
   make-1 h = cc
 
-  pub make-2 : x ≡ false → (w : Float) → w ≡ turn (a .corner) (b .corner) (c .corner) → (g : RawTangentSpace) → g ≡ firstOrder (a .corner) (b .corner) (c .corner) → (u : Bool) → u ≡ unsure w g → _≡_ {A = Triangle} (record { face = f; second = o; missing = m; a = a; b = b; c = c; degenerate = false; marked = false; any = u; orientation = lt zeroᶠ w; tangent = g }) (make f o m a b c)
+  pub make-2 : x ≡ false → (w : Float) → w ≡ turn (a .corner) (b .corner) (c .corner) → (s t : Vec3) → s ≡ rawS (a .corner) (b .corner) (c .corner) → t ≡ rawT (a .corner) (b .corner) (c .corner) → (g : RawTangentSpace) → g ≡ firstOrder w s t → (u : Bool) → u ≡ unsure w s t g → _≡_ {A = Triangle} (record { face = f; second = o; missing = m; a = a; b = b; c = c; degenerate = false; marked = false; any = u; orientation = lt zeroᶠ w; tangent = g }) (make f o m a b c)
   unfolding make
-  make-2 h w e g k u l = cc
+  make-2 h w e s t i j g k u l = cc
 
 xor-true : (b : Bool) → xor true b ≡ not b
 unfolding xor

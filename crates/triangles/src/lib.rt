@@ -126,28 +126,28 @@ fn tangent_at(w: f32, s: Vec3, t: Vec3) -> RawTangentSpace
     }
 }
 
-// The first-order tangent: the zero tangent where twice the signed area doesn't count.
-fn first_order(c: Corner, d: Corner, e: Corner) -> RawTangentSpace
-    ensures { λ r. ⌜ r ≡ tangents.firstOrder c d e ⌝ }
+// The first-order tangent from the same: the zero tangent where twice the signed area doesn't count.
+fn first_order(w: f32, s: Vec3, t: Vec3) -> RawTangentSpace
+    ensures { λ r. ⌜ r ≡ tangents.firstOrder w s t ⌝ }
 {
-    let w = turn(c, d, e);
     if math::not_zero(w) {
-        let s = raw_s(c, d, e);
-        let t = raw_t(c, d, e);
         return tangent_at(w, s, t);
     }
     RawTangentSpace::ZERO
 }
 
-// `group_with_any`: twice the signed area, or one of the two magnitudes, doesn't count.
-fn unsure(w: f32, g: RawTangentSpace) -> bool
-    ensures { λ r. ⌜ r ≡ tangents.unsure w g ⌝ }
+// `group_with_any`: twice the signed area, or one of the two magnitudes, doesn't count, or one of the raw directions is none.
+fn unsure(w: f32, s: Vec3, t: Vec3, g: RawTangentSpace) -> bool
+    ensures { λ r. ⌜ r ≡ tangents.unsure w s t g ⌝ }
 {
     if math::not_zero(w) {
         if math::not_zero(g.s_magnitude) {
-            return !math::not_zero(g.t_magnitude);
+            if math::not_zero(g.t_magnitude) {
+                if s.points() {
+                    return !t.points();
+                }
+            }
         }
-        return true;
     }
     true
 }
@@ -175,8 +175,10 @@ pub fn make(face: u32, second: bool, missing: u32, a: Kept, b: Kept, c: Kept) ->
         };
     }
     let w = turn(p, q, r);
-    let tangent = first_order(p, q, r);
-    let any = unsure(w, tangent);
+    let s = raw_s(p, q, r);
+    let t = raw_t(p, q, r);
+    let tangent = first_order(w, s, t);
+    let any = unsure(w, s, t, tangent);
     Triangle {
         face,
         second,

@@ -10,7 +10,7 @@ use std::process::exit;
 use std::time::Instant;
 
 const USAGE: &str = "usage: run [--seed N] [--count N] [--kind K].. [--gate] [--spoil WORD] [--file FILE] [--to FOLDER]
-  K is one, mesh, zeros, magnitudes, refused, limits, largest, fans, big or shuffle; all of them unless one is named
+  K is one, mesh, zeros, magnitudes, extreme, needle, refused, limits, largest, fans, big or shuffle; all of them unless one is named
   --gate     a few thousand of each kind, then every spoiled word has to be caught
   --spoil    alters one word of ours: orientation, magnitude, absent, past-answer, work, past-work, number, place,
              slots, refused-answer, refused-work or shuffled

@@ -1,9 +1,11 @@
 //! The kinds of cases.
 mod big;
+mod extreme;
 mod faces;
 mod largest;
 mod limits;
 mod magnitudes;
+mod needle;
 mod numbers;
 mod one;
 mod refused;
@@ -45,7 +47,7 @@ impl Kind {
 }
 
 /// Every kind.
-pub const KINDS: [Kind; 10] = [
+pub const KINDS: [Kind; 12] = [
     Kind {
         name: "one",
         all: Some(one::ALL),
@@ -73,6 +75,20 @@ pub const KINDS: [Kind; 10] = [
         usual: 100_000,
         gate: 20_000,
         make: magnitudes::make,
+    },
+    Kind {
+        name: "extreme",
+        all: None,
+        usual: 100_000,
+        gate: 20_000,
+        make: extreme::make,
+    },
+    Kind {
+        name: "needle",
+        all: None,
+        usual: 100_000,
+        gate: 20_000,
+        make: needle::make,
     },
     Kind {
         name: "refused",

@@ -16,6 +16,12 @@ returns c =
 turn-requires : tie.Need-turn-requires
 turn-requires c κs = search needs
 
+raw-s-requires : tie.Need-raw-s-requires
+raw-s-requires c κs = search needs
+
+raw-t-requires : tie.Need-raw-t-requires
+raw-t-requires c κs = search needs
+
 first-order-requires : tie.Need-first-order-requires
 first-order-requires c κs = search needs
 
@@ -25,13 +31,23 @@ unsure-requires c κs = search needs
 returns-2 : tie.Need-returns-2
 returns-2 c =
     let g = c .before in
-    let w = g .before in
+    let t = g .before in
+    let s = t .before in
+    let w = s .before in
     let i = w .before in
     let a = i .before in
     let x = a .before .before .before .before .args in
-    make-2 (x .face) (x .second) (x .missing) (x .a) (x .b) (x .c) _ (a .flat .ensures) (i .if1 .left) _ (w .turn .ensures) _ (g .first-order .ensures) _ (c .unsure .ensures)
+    make-2 (x .face) (x .second) (x .missing) (x .a) (x .b) (x .c) _ (a .flat .ensures) (i .if1 .left) _ (w .turn .ensures) _ _ (s .raw-s .ensures) (t .raw-t .ensures) _ (g .first-order .ensures) _ (c .unsure .ensures)
 
 pub make-spec : {M : Type 1} → statement M
 make-spec =
     tie.close
-    (tie.spec flat-requires returns turn-requires first-order-requires unsure-requires returns-2)
+    (tie.spec
+    flat-requires
+    returns
+    turn-requires
+    raw-s-requires
+    raw-t-requires
+    first-order-requires
+    unsure-requires
+    returns-2)
