@@ -57,9 +57,13 @@ addRow rows w r z = cond (eqb (cell rows anyColumn (r / 3) w) 1) z (weighedBy z 
 unfoldable pub addMarked : ℕ → List ℕ → ℕ → Sum → Sum
 addMarked rows w p z = cond (eqb (cell rows joinedColumn p w) 1) (addRow rows w (cell rows orderColumn p w) z) z
 
--- the same, whether or not it is marked where all are taken
+-- the p-th in triangle order is taken: where all are, or where it is marked
+unfoldable pub takenAt : ℕ → Bool → List ℕ → ℕ → Bool
+takenAt rows all w p = all || eqb (cell rows joinedColumn p w) 1
+
+-- its contribution then
 unfoldable pub addTaken : ℕ → Bool → List ℕ → ℕ → Sum → Sum
-addTaken rows all w p z = cond all (addRow rows w (cell rows orderColumn p w) z) (addMarked rows w p z)
+addTaken rows all w p z = cond (takenAt rows all w p) (addRow rows w (cell rows orderColumn p w) z) z
 
 -- the sum of all n from a place on, or of the marked ones, made a tangent space
 unfoldable pub takenSum : ℕ → Bool → ℕ → ℕ → List ℕ → RawTangentSpace

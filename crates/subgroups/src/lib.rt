@@ -113,26 +113,26 @@ fn add_row(work: &[u32], rows: usize, r: usize, z: Sum) -> Sum
     sums::weigh(z, angle, g)
 }
 
-// The contribution of the p-th in triangle order, if it is marked.
-fn add_marked(work: &[u32], rows: usize, p: usize, z: Sum) -> Sum
-    requires { ⌜ (p < rows) × (cell rows orderColumn p (now work) < rows) × (columns * rows ≤ length (now work)) ⌝ }
-    ensures { λ y. ⌜ y ≡ spec.addMarked rows (now (work .entry)) p z ⌝ }
+// Whether the p-th in triangle order is taken: where all are, or where it is marked.
+fn taken(work: &[u32], rows: usize, all: bool, p: usize) -> bool
+    requires { ⌜ (p < rows) × (columns * rows ≤ length (now work)) ⌝ }
+    ensures { λ b. ⌜ b ≡ spec.takenAt rows all (now (work .entry)) p ⌝ }
 {
-    if work[table::JOINED * rows + p] != 1 {
-        return z;
+    if all {
+        return true;
     }
-    add_row(work, rows, work[table::ORDER * rows + p] as usize, z)
+    work[table::JOINED * rows + p] == 1
 }
 
-// The contribution of the p-th in triangle order, if all are taken or it is marked.
+// The contribution of the p-th in triangle order, if it is taken. One call of `add_row`, so that it is compiled in place.
 fn add_taken(work: &[u32], rows: usize, all: bool, p: usize, z: Sum) -> Sum
     requires { ⌜ (p < rows) × (cell rows orderColumn p (now work) < rows) × (columns * rows ≤ length (now work)) ⌝ }
     ensures { λ y. ⌜ y ≡ spec.addTaken rows all (now (work .entry)) p z ⌝ }
 {
-    if all {
+    if taken(work, rows, all, p) {
         return add_row(work, rows, work[table::ORDER * rows + p] as usize, z);
     }
-    add_marked(work, rows, p, z)
+    z
 }
 
 // The sum of all members, or of the marked ones, made a tangent space.

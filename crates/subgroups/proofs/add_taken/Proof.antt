@@ -1,8 +1,12 @@
 -- `subgroups::add_taken` meets its contract. Assumes nothing.
+use mathlib.Core.Path.{sym, _∙_}
 use Rattle.subgroups.specs.Subgroups.{addTaken}
 use borrow.Author.Needs.{needs}
 use Rattle.subgroups.proofs.add_taken.Statement.{statement}
 use Rattle.subgroups.proofs.add_taken.Tie as tie
+
+taken-requires : tie.Need-taken-requires
+taken-requires c κs = search needs
 
 mul-add-row : tie.Need-mul-add-row
 mul-add-row c = search needs
@@ -24,17 +28,15 @@ add-row-requires c κs = search needs
 
 returns : tie.Need-returns
 unfolding addTaken
-returns c = simp (c .before .before .if1 .taken) (c .add-row .ensures)
-
-add-marked-requires : tie.Need-add-marked-requires
-add-marked-requires c κs = search needs
+returns c = simp (sym (c .before .before .before .taken .ensures) ∙ c .before .before .if1 .taken) (c .add-row .ensures)
 
 returns-2 : tie.Need-returns-2
 unfolding addTaken
-returns-2 c = simp (c .before .if1 .left) (c .add-marked .ensures)
+returns-2 c = simp (sym (c .before .taken .ensures) ∙ c .if1 .left)
 
 pub add-taken-spec : {M : Type 1} → statement M
 add-taken-spec =
     tie.close
     (tie.spec
-    mul-add-row add-add-row mul-add-row-2 shared-slice-read-add-row cast-add-row add-row-requires returns add-marked-requires returns-2)
+    taken-requires mul-add-row add-add-row mul-add-row-2 shared-slice-read-add-row cast-add-row add-row-requires returns
+    returns-2)

@@ -1,5 +1,5 @@
 -- `subgroups::evaluate_tangent_space` meets its contract. Assumes nothing.
-use Rattle.subgroups.specs.Subgroups.{takenSum, addTaken, evaluated}
+use Rattle.subgroups.specs.Subgroups.{takenSum, addTaken, takenAt, addMarked, evaluated}
 use borrow.Author.Needs.{needs}
 use Rattle.subgroups.proofs.evaluate_tangent_space.Statement.{statement}
 use Rattle.subgroups.proofs.evaluate_tangent_space.Tie as tie
@@ -8,7 +8,7 @@ sum-taken-requires : tie.Need-sum-taken-requires
 sum-taken-requires c κs = search needs
 
 returns : tie.Need-returns
-unfolding takenSum addTaken evaluated
+unfolding takenSum addTaken takenAt addMarked evaluated
 returns c = c .sum-taken .ensures
 
 pub evaluate-tangent-space-spec : {M : Type 1} → statement M

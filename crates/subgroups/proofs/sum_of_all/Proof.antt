@@ -1,5 +1,5 @@
 -- `subgroups::sum_of_all` meets its contract. Assumes nothing.
-use Rattle.subgroups.specs.Subgroups.{takenSum, addTaken}
+use Rattle.subgroups.specs.Subgroups.{takenSum, addTaken, takenAt}
 use Rattle.subgroups.specs.Spans.{summed}
 use borrow.Author.Needs.{needs}
 use Rattle.subgroups.proofs.sum_of_all.Statement.{statement}
@@ -9,7 +9,7 @@ sum-taken-requires : tie.Need-sum-taken-requires
 sum-taken-requires c κs = search needs
 
 returns : tie.Need-returns
-unfolding takenSum addTaken summed
+unfolding takenSum addTaken takenAt summed
 returns c = c .sum-taken .ensures
 
 pub sum-of-all-spec : {M : Type 1} → statement M
