@@ -25,6 +25,12 @@ extern "C" {
 #define DOKPHALUN_SLOT_WORDS 10
 /* The words of work that a face needs. */
 #define DOKPHALUN_WORK_WORDS 128
+/* The entries a face of the lists that dokphalun_frames_by_islands works in besides. */
+#define DOKPHALUN_ORDER_WORDS 4
+#define DOKPHALUN_OWN_NUMBERS 32
+#define DOKPHALUN_OWN_FRAME_WORDS 40
+/* What a face is given that is in no island. */
+#define DOKPHALUN_NO_ISLAND UINT32_MAX
 /* The bytes of a card of so many records: 12 to a block of 512. */
 #define DOKPHALUN_CARD_BYTES(records) (((size_t)(records) + 11) / 12 * 512)
 
@@ -46,6 +52,16 @@ struct dokphalun_outcome {
     uint32_t number;
     uint32_t place;
     uint32_t slots;
+};
+
+/* What dokphalun_labels says: number 0, place 0 and how many islands there are; or a refusal's number, its place and 0.
+ *   1, 2, 4, 6  as dokphalun_frames
+ *   9  the list of labels is shorter than one a face
+ */
+struct dokphalun_labelled {
+    uint32_t number;
+    uint32_t place;
+    uint32_t islands;
 };
 
 /* What dokphalun_card_write says: number 0 and how many bytes it wrote; or a refusal's number and 0.
@@ -115,6 +131,33 @@ DOKPHALUN_ASK struct dokphalun_outcome dokphalun_frames(
     float threshold,
     uint32_t *answer, size_t answer_words,
     uint32_t *work, size_t work_words);
+
+/* The islands of a mesh. Two faces of 3 or 4 are in one if a chain of faces, each sharing a welded corner with the next, leads
+ * from one to the other. Each such face gets the lowest face number of its island, every other face DOKPHALUN_NO_ISLAND. */
+DOKPHALUN_ASK struct dokphalun_labelled dokphalun_labels(
+    const uint8_t *sizes, size_t faces,
+    const float *positions, size_t position_numbers,
+    const float *normals, size_t normal_numbers,
+    const float *texture, size_t texture_numbers,
+    uint32_t *labels, size_t label_words,
+    uint32_t *work, size_t work_words);
+
+/* The same words as from dokphalun_frames, made one island at a time. It works in five lists besides: labels (one entry a face, left
+ * as dokphalun_labels leaves it), order (DOKPHALUN_ORDER_WORDS a face), own_sizes (one), own_numbers (DOKPHALUN_OWN_NUMBERS) and
+ * own_frames (DOKPHALUN_OWN_FRAME_WORDS); the last four are left zero so far. Refusal 9, after all others: one of the five is too short. */
+DOKPHALUN_ASK struct dokphalun_outcome dokphalun_frames_by_islands(
+    const uint8_t *sizes, size_t faces,
+    const float *positions, size_t position_numbers,
+    const float *normals, size_t normal_numbers,
+    const float *texture, size_t texture_numbers,
+    float threshold,
+    uint32_t *answer, size_t answer_words,
+    uint32_t *work, size_t work_words,
+    uint32_t *labels, size_t label_words,
+    uint32_t *order, size_t order_words,
+    uint8_t *own_sizes, size_t own_faces,
+    float *own_numbers, size_t own_number_count,
+    uint32_t *own_frames, size_t own_frame_words);
 
 /* Answer words to the bytes of a card. */
 DOKPHALUN_ASK struct dokphalun_written dokphalun_card_write(

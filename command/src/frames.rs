@@ -6,7 +6,12 @@ use crate::state::{Known, State, Tally};
 use crate::stop::{Status, Stop};
 use crate::surface::Surface;
 use dokphalun::{BLOCK_BYTES, Buffers, Record, Refusal};
+use std::num::NonZeroUsize;
 use std::path::PathBuf;
+use std::thread::available_parallelism;
+
+/// From more faces than this on a mesh of several islands is made on all cores.
+const ONE_CORE: usize = 4096;
 
 /// What is asked for.
 pub struct AskedFrames {
@@ -21,7 +26,7 @@ pub fn run(asked: &AskedFrames) -> Result<Status, Stop> {
     let surface = load(&asked.mesh)?;
     let mut buffers = Buffers::new();
     let answer = buffers
-        .frames(surface.mesh(), asked.threshold)
+        .frames_on(surface.mesh(), asked.threshold, threads(&surface))
         .map_err(|refusal| refused(asked, &surface, refusal))?;
     let mut card = Vec::new();
     answer.write_card(&mut card).map_err(|refusal| Stop {
@@ -37,11 +42,24 @@ pub fn run(asked: &AskedFrames) -> Result<Status, Stop> {
     asked
         .papers
         .write(&known, &asked.mesh, Some((&asked.card, &card)))?;
-    Ok(summary(asked, &known, card.len() / BLOCK_BYTES))
+    Ok(summary(
+        asked,
+        &known,
+        card.len() / BLOCK_BYTES,
+        answer.parts(),
+    ))
+}
+
+/// On how many threads the frames of a mesh are made.
+fn threads(surface: &Surface) -> NonZeroUsize {
+    match surface.sizes.len() > ONE_CORE {
+        true => available_parallelism().unwrap_or(NonZeroUsize::MIN),
+        false => NonZeroUsize::MIN,
+    }
 }
 
 /// Prints what came out; the result is the exit status.
-fn summary(asked: &AskedFrames, known: &Known, blocks: usize) -> Status {
+fn summary(asked: &AskedFrames, known: &Known, blocks: usize, parts: usize) -> Status {
     let tally = Tally::of(known.records);
     let surface = known.surface;
     let total = tally.all();
@@ -49,6 +67,9 @@ fn summary(asked: &AskedFrames, known: &Known, blocks: usize) -> Status {
     say::line("faces", surface.sizes.len());
     say::line("corners", surface.positions.len());
     say::line("slots", total);
+    if parts > 1 {
+        say::line("parts", format!("{parts}, of whole islands, one a core"));
+    }
     say::tally(&tally, &[State::Absent, State::NoDirection]);
     say::faces(known);
     let (records, blocks) = (say::counted(total, "record"), say::counted(blocks, "block"));

@@ -186,3 +186,37 @@ fn what_cannot_be_written_leaves_nothing() {
         .ends(7, ". is not written");
     assert_eq!(room.names(), ["a.ply"]);
 }
+
+/// An OBJ file of so many triangles; each starts so far to the right of the one before, and has texture of its own.
+fn triangles(count: usize, apart: usize) -> String {
+    let mut text = String::from("vn 0 0 1\n");
+    for i in 0..count {
+        let x = i * apart;
+        text += &format!("v {x} {i} 0\nv {} {i} 0\nv {x} {} 0\n", x + 1, i + 1);
+        text += &format!("vt {x} {i}\nvt {} {i}\nvt {x} {}\n", x + 1, i + 1);
+        let [a, b, c] = [1, 2, 3].map(|k| 3 * i + k);
+        text += &format!("f {a}/{a}/1 {b}/{b}/1 {c}/{c}/1\n");
+    }
+    text
+}
+
+#[test]
+fn the_islands_of_a_large_mesh_are_made_on_all_cores() {
+    let cores = std::thread::available_parallelism().map_or(1, usize::from);
+    let room = Room::new("islands");
+    // (faces, how far apart, whether it is made in parts)
+    for (faces, apart, parts) in [(4097, 3, cores > 1), (4096, 3, false), (4097, 0, false)] {
+        let mesh = triangles(faces, apart);
+        room.put("mesh.obj", &mesh);
+        let ran = room.run("frames mesh.obj -o mesh.card");
+        ran.ends(0, &format!("all {} slots are present", 3 * faces));
+        let said = format!("parts         {cores}, of whole islands, one a core\n");
+        assert_eq!(ran.said.contains(&said), parts, "{}", ran.said);
+        // the same words as from one call
+        let surface = command::obj::read(mesh.as_bytes()).expect("it is not read");
+        let (mut buffers, mut card) = (dokphalun::Buffers::new(), vec![]);
+        let answer = buffers.frames(surface.mesh(), -1.0).expect("it is refused");
+        answer.write_card(&mut card).unwrap();
+        assert!(room.get("mesh.card") == Some(card));
+    }
+}

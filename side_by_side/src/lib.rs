@@ -5,6 +5,7 @@ extern crate bevy_mikktspace;
 extern crate mikktspace_altered;
 
 pub mod compare;
+pub mod islands;
 pub mod kinds;
 pub mod mesh;
 pub mod ops;

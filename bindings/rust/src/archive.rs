@@ -9,6 +9,14 @@ pub struct Outcome {
     pub slots: u32,
 }
 
+/// What `dokphalun_labels` says: the number of a refusal and its place, or 0 and 0; and how many islands there are.
+#[repr(C)]
+pub struct Labelled {
+    pub number: u32,
+    pub place: u32,
+    pub islands: u32,
+}
+
 /// What the calls of cards and of packed frames say: a refusal's number, or 0; and a number of bytes, of numbers, or a place.
 #[repr(C)]
 pub struct Said {
@@ -34,6 +42,28 @@ unsafe extern "C" {
         threshold: f32,
         answer: *mut u32, answer_words: usize,
         work: *mut u32, work_words: usize,
+    ) -> Outcome;
+    fn dokphalun_labels(
+        sizes: *const u8, faces: usize,
+        positions: *const f32, position_numbers: usize,
+        normals: *const f32, normal_numbers: usize,
+        texture: *const f32, texture_numbers: usize,
+        labels: *mut u32, label_words: usize,
+        work: *mut u32, work_words: usize,
+    ) -> Labelled;
+    fn dokphalun_frames_by_islands(
+        sizes: *const u8, faces: usize,
+        positions: *const f32, position_numbers: usize,
+        normals: *const f32, normal_numbers: usize,
+        texture: *const f32, texture_numbers: usize,
+        threshold: f32,
+        answer: *mut u32, answer_words: usize,
+        work: *mut u32, work_words: usize,
+        labels: *mut u32, label_words: usize,
+        order: *mut u32, order_words: usize,
+        own_sizes: *mut u8, own_faces: usize,
+        own_numbers: *mut f32, own_number_count: usize,
+        own_frames: *mut u32, own_frame_words: usize,
     ) -> Outcome;
     fn dokphalun_card_write(answer: *const u32, answer_words: usize, card: *mut u8, card_bytes: usize) -> Said;
     fn dokphalun_card_read(card: *const u8, card_bytes: usize, total: u32, answer: *mut u32, answer_words: usize) -> Said;
@@ -63,6 +93,79 @@ pub fn frames(mesh: Mesh, threshold: f32, answer: &mut [u32], work: &mut [u32]) 
             answer.len(),
             work.as_mut_ptr(),
             work.len(),
+        )
+    }
+}
+
+/// The island of each face into a lent list.
+pub fn labels(mesh: Mesh, labels: &mut [u32], work: &mut [u32]) -> Labelled {
+    let (positions, normals) = (mesh.positions.as_flattened(), mesh.normals.as_flattened());
+    let texture = mesh.texture.as_flattened();
+    // SAFETY: as above.
+    unsafe {
+        dokphalun_labels(
+            mesh.sizes.as_ptr(),
+            mesh.sizes.len(),
+            positions.as_ptr(),
+            positions.len(),
+            normals.as_ptr(),
+            normals.len(),
+            texture.as_ptr(),
+            texture.len(),
+            labels.as_mut_ptr(),
+            labels.len(),
+            work.as_mut_ptr(),
+            work.len(),
+        )
+    }
+}
+
+/// The lists that `frames_by_islands` works in besides.
+#[derive(Debug, Default)]
+pub struct Own {
+    pub labels: Vec<u32>,
+    pub order: Vec<u32>,
+    pub sizes: Vec<u8>,
+    pub numbers: Vec<f32>,
+    pub frames: Vec<u32>,
+}
+
+/// The frames of a mesh into lent lists, one island after the other.
+pub fn frames_by_islands(
+    mesh: Mesh,
+    threshold: f32,
+    answer: &mut [u32],
+    work: &mut [u32],
+    own: &mut Own,
+) -> Outcome {
+    let (positions, normals) = (mesh.positions.as_flattened(), mesh.normals.as_flattened());
+    let texture = mesh.texture.as_flattened();
+    // SAFETY: as above.
+    unsafe {
+        dokphalun_frames_by_islands(
+            mesh.sizes.as_ptr(),
+            mesh.sizes.len(),
+            positions.as_ptr(),
+            positions.len(),
+            normals.as_ptr(),
+            normals.len(),
+            texture.as_ptr(),
+            texture.len(),
+            threshold,
+            answer.as_mut_ptr(),
+            answer.len(),
+            work.as_mut_ptr(),
+            work.len(),
+            own.labels.as_mut_ptr(),
+            own.labels.len(),
+            own.order.as_mut_ptr(),
+            own.order.len(),
+            own.sizes.as_mut_ptr(),
+            own.sizes.len(),
+            own.numbers.as_mut_ptr(),
+            own.numbers.len(),
+            own.frames.as_mut_ptr(),
+            own.frames.len(),
         )
     }
 }

@@ -1,6 +1,7 @@
 //! The lists that are lent to the archive, kept from call to call.
-use crate::archive;
+use crate::archive::{self, Own};
 use crate::card::{Card, write_card};
+use crate::islands::Batch;
 use crate::mesh::{MOST_FACES, Mesh, Place, slots, takes_slots};
 use crate::reading::{Reading, SLOT_WORDS};
 use crate::refusal::{CardRefusal, Refusal};
@@ -11,8 +12,12 @@ const WORK_WORDS: usize = 128;
 /// The lists that are lent to the archive. They grow to what the largest call needed, and are used again.
 #[derive(Debug, Default)]
 pub struct Buffers {
-    answer: Vec<u32>,
-    work: Vec<u32>,
+    pub(crate) answer: Vec<u32>,
+    pub(crate) work: Vec<u32>,
+    /// The islands' own lists.
+    pub(crate) own: Own,
+    /// What is handed to each thread.
+    pub(crate) batches: Vec<Batch>,
 }
 
 impl Buffers {
@@ -25,12 +30,18 @@ impl Buffers {
     pub fn frames<'a>(&'a mut self, mesh: Mesh<'a>, threshold: f32) -> Result<Answer<'a>, Refusal> {
         self.lend(mesh.sizes);
         let outcome = archive::frames(mesh, threshold, &mut self.answer, &mut self.work);
-        match Refusal::of(&outcome, mesh.sizes) {
+        match Refusal::of(outcome.number, outcome.place, mesh.sizes) {
             Some(refusal) => Err(refusal),
-            None => Ok(Answer {
-                sizes: mesh.sizes,
-                words: &self.answer,
-            }),
+            None => Ok(self.answer(mesh.sizes, 1)),
+        }
+    }
+
+    /// The answer of faces of these sizes, made in so many parts.
+    pub(crate) fn answer<'a>(&'a self, sizes: &'a [u8], parts: usize) -> Answer<'a> {
+        Answer {
+            sizes,
+            words: &self.answer,
+            parts,
         }
     }
 
@@ -50,7 +61,7 @@ impl Buffers {
     }
 
     /// Makes both lists as long as faces of these sizes need; past the limit, where all is refused, no longer than at it.
-    fn lend(&mut self, sizes: &[u8]) {
+    pub(crate) fn lend(&mut self, sizes: &[u8]) {
         let sizes = &sizes[..sizes.len().min(MOST_FACES)];
         let with_slots = sizes.iter().filter(|&&size| takes_slots(size));
         let slots: usize = with_slots.map(|&size| usize::from(size)).sum();
@@ -66,6 +77,7 @@ impl Buffers {
 pub struct Answer<'a> {
     sizes: &'a [u8],
     words: &'a [u32],
+    parts: usize,
 }
 
 impl<'a> Answer<'a> {
@@ -85,6 +97,11 @@ impl<'a> Answer<'a> {
     /// How many slots there are. A reader of the card has to be told this number.
     pub fn total(&self) -> u32 {
         (self.words.len() / SLOT_WORDS) as u32
+    }
+
+    /// In how many parts it was made, each on a thread of its own.
+    pub fn parts(&self) -> usize {
+        self.parts
     }
 
     /// The ten words of each slot, as the archive wrote them. An absent slot is ten zeros: ask word 0 first.

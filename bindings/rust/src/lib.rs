@@ -6,6 +6,7 @@
 mod archive;
 mod buffers;
 mod card;
+mod islands;
 mod mesh;
 mod packed;
 mod reading;
@@ -13,6 +14,7 @@ mod refusal;
 
 pub use buffers::{Answer, Buffers};
 pub use card::{BLOCK_BYTES, BLOCK_RECORDS, Card, Next, append_blocks, next_block, write_card};
+pub use islands::Islands;
 pub use mesh::{MOST_FACES, MOST_SLOTS, Mesh, Place, corners, slots, takes_slots};
 pub use packed::{PACKED_NUMBERS, Packed, pack, unpack};
 pub use reading::{Frame, Reading, Record};

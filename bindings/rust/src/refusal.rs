@@ -1,5 +1,4 @@
 //! Why a call was not done.
-use crate::archive::Outcome;
 use crate::mesh::{MOST_FACES, Place, corners};
 use std::error::Error;
 use std::fmt;
@@ -20,14 +19,15 @@ pub enum Refusal {
     AnswerTooShort,
     /// 6: the work list is too short.
     WorkTooShort,
+    /// 9: a list of the islands' own is too short.
+    OwnTooShort,
     /// A number that this crate does not know: the archive is newer.
     Unknown { number: u32, place: u32 },
 }
 
 impl Refusal {
-    /// The refusal of a mesh with faces of these sizes, if it was one.
-    pub(crate) fn of(outcome: &Outcome, sizes: &[u8]) -> Option<Refusal> {
-        let (number, place) = (outcome.number, outcome.place);
+    /// The refusal of a mesh with faces of these sizes, if it was one: its number and its place.
+    pub(crate) fn of(number: u32, place: u32, sizes: &[u8]) -> Option<Refusal> {
         let unknown = Refusal::Unknown { number, place };
         Some(match number {
             0 => return None,
@@ -39,6 +39,7 @@ impl Refusal {
                 .map_or(unknown, Refusal::NotFinite),
             5 => Refusal::AnswerTooShort,
             6 => Refusal::WorkTooShort,
+            9 => Refusal::OwnTooShort,
             _ => unknown,
         })
     }
@@ -52,6 +53,7 @@ impl Refusal {
             Refusal::NotFinite(_) => 4,
             Refusal::AnswerTooShort => 5,
             Refusal::WorkTooShort => 6,
+            Refusal::OwnTooShort => 9,
             Refusal::Unknown { number, .. } => *number,
         }
     }
@@ -79,6 +81,9 @@ impl Refusal {
             }
             Refusal::AnswerTooShort => "lend ten words for each corner of a face of 3 or 4",
             Refusal::WorkTooShort => "lend 128 words for each face",
+            Refusal::OwnTooShort => {
+                "lend the lists of the islands at the lengths of docs/PROGRAMMERS.md"
+            }
             Refusal::Unknown { .. } => "use the bindings that came with this archive",
         }
     }
@@ -98,6 +103,7 @@ impl fmt::Display for Refusal {
             Refusal::NotFinite(place) => write!(f, "{place} holds a NaN or an infinity"),
             Refusal::AnswerTooShort => f.write_str("the answer list is too short"),
             Refusal::WorkTooShort => f.write_str("the work list is too short"),
+            Refusal::OwnTooShort => f.write_str("a list of the islands' own is too short"),
             Refusal::Unknown { place, .. } => write!(f, "not known here (place {place})"),
         }
     }

@@ -1,6 +1,8 @@
 // The archive: the public calls for programs in other languages. `rt staticlib dokphalun` writes libdokphalun.a.
 // A list is handed over as a pointer to its first element and a number of elements.
 ghost use Rattle.mikktspace.specs.Contract.{Contract};
+ghost use Rattle.labels.specs.Labels.{Labels};
+ghost use Rattle.apart.specs.Call.{lists, Contract as Islands};
 ghost use Rattle.appends.specs.Contract.{Follows, Appends};
 ghost use Rattle.cards.specs.Contract.{Writes, Reads};
 ghost use Rattle.packed.specs.Contract.{Packs, Unpacks};
@@ -8,6 +10,7 @@ use appends::Appended;
 use appends::Next;
 use cards::Found;
 use cards::Written;
+use labels::Labelled;
 use mikktspace::Outcome;
 use packed::Packed;
 use packed::Unpacked;
@@ -26,6 +29,55 @@ pub extern "C" fn dokphalun_frames(
     ensures { λ r. ⌜ Contract (now (sizes .entry)) (now (positions .entry)) (now (normals .entry)) (now (texture .entry)) threshold (now (answer .entry)) (now (work .entry)) r (now (answer .exit)) (now (work .exit)) ⌝ }
 {
     mikktspace::generate_tangent_space(sizes, positions, normals, texture, threshold, answer, work)
+}
+
+// See labels::label_faces.
+#[no_mangle]
+pub extern "C" fn dokphalun_labels(
+    sizes: &[u8],
+    positions: &[f32],
+    normals: &[f32],
+    coordinates: &[f32],
+    labels: &mut [u32],
+    work: &mut [u32],
+) -> Labelled
+    ensures { λ r. ⌜ Labels (now (sizes .entry)) (now (positions .entry)) (now (normals .entry)) (now (coordinates .entry)) (now (labels .entry)) (now (work .entry)) r (now (labels .exit)) (now (work .exit)) ⌝ }
+{
+    labels::label_faces(sizes, positions, normals, coordinates, labels, work)
+}
+
+// See apart::frames_by_islands.
+#[no_mangle]
+pub extern "C" fn dokphalun_frames_by_islands(
+    sizes: &[u8],
+    positions: &[f32],
+    normals: &[f32],
+    coordinates: &[f32],
+    threshold: f32,
+    answer: &mut [u32],
+    work: &mut [u32],
+    labels: &mut [u32],
+    chains: &mut [u32],
+    own_sizes: &mut [u8],
+    own_numbers: &mut [f32],
+    own_frames: &mut [u32],
+) -> Outcome
+    ensures { λ r. ⌜ Islands (now (sizes .entry)) (now (positions .entry)) (now (normals .entry)) (now (coordinates .entry)) threshold (now (answer .entry)) (now (work .entry)) (lists (now (labels .entry)) (now (chains .entry)) (now («own_sizes» .entry)) (now («own_numbers» .entry)) (now («own_frames» .entry))) r (now (answer .exit)) (now (work .exit)) (lists (now (labels .exit)) (now (chains .exit)) (now («own_sizes» .exit)) (now («own_numbers» .exit)) (now («own_frames» .exit))) ⌝ }
+{
+    apart::frames_by_islands(
+        sizes,
+        positions,
+        normals,
+        coordinates,
+        threshold,
+        answer,
+        work,
+        labels,
+        chains,
+        own_sizes,
+        own_numbers,
+        own_frames,
+    )
 }
 
 // See cards::write.

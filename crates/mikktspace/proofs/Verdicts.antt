@@ -1,16 +1,17 @@
 -- The desk's verdict as the code has it: a number of 0 is no refusal. Assumes nothing.
-use Prim.Native.Nat.{ℕ, _≤_, _<_, min}
+use Prim.Native.Nat.{ℕ, _+_, _*_, _≤_, _<_, min}
 use native.Mathlib.Omega.{arith}
-use mathlib.Core.Path.{_≡_, refl, ap, _∙_}
-use mathlib.Core.List.{List}
+use mathlib.Core.Path.{_≡_, refl, sym, ap, _∙_}
+use mathlib.Core.List.{List, _++_}
 use mathlib.Core.Option.{Option, none, some}
-use lib.ListN.{length, take}
-use lib.Seq.{take-all}
+use lib.ListN.{length, take, drop, replicate}
+use lib.Seq.{take-all, drop-drop}
 use lib.Ieee.{Float}
-use Rattle.definition.specs.Limits.{faceLimit}
+use Rattle.definition.specs.Limits.{faceLimit, workWords}
 use Rattle.definition.specs.Handed.{slotCount}
 use Rattle.definition.specs.Desk.{Row, verdict}
 use Rattle.definition.specs.Outcome.{Result, answered}
+use Rattle.table.specs.Columns.{columns, rowsOf}
 use Rattle.laws.proofs.Part.{Each, each-none, each-some}
 use Rattle.laws.proofs.Closed.{Found}
 use Rattle.laws.proofs.Verdict.{verdict-numbered}
@@ -39,3 +40,9 @@ no-refusal sizes ps ns ts h answer work e = go (verdict sizes ps ns ts h answer 
 -- so few faces are all counted
 pub all-slots : (sizes : List ℕ) (n : ℕ) → length sizes ≤ faceLimit → n ≡ slotCount (take (min 65536 faceLimit) sizes) → n ≡ slotCount sizes
 all-slots sizes n h e = e ∙ ap slotCount (take-all 65536 sizes h)
+
+-- a work list that is as it was past its columns, cleared so far as a face has words
+pub cleared-past : (n : ℕ) (w z y : List ℕ) → drop (columns * rowsOf n) z ≡ drop (columns * rowsOf n) w → y ≡ replicate (workWords * n) 0 ++ drop (workWords * n) z → y ≡ replicate (workWords * n) 0 ++ drop (workWords * n) w
+cleared-past n w z y past q =
+    let k : columns * rowsOf n + 2 * n ≡ workWords * n = omega arith in
+    q ∙ ap (λ l. replicate (workWords * n) 0 ++ l) (sym (drop-drop (2 * n) (columns * rowsOf n) z ∙ ap (λ x. drop x z) k) ∙ (ap (drop (2 * n)) past ∙ (drop-drop (2 * n) (columns * rowsOf n) w ∙ ap (λ x. drop x w) k)))

@@ -6,7 +6,6 @@ use mathlib.Core.List.{List, [], _∷_, _++_}
 use mathlib.Core.Option.{none}
 use lib.Dec.{T}
 use lib.ListN.{length, getD, drop, replicate, length-append, List·getD-append}
-use lib.Seq.{drop-drop}
 use lib.Ieee.{Float, nan, binary32, fits}
 use Rattle.tangent.specs.declared.Reading.the-variants.{Absent}
 use Rattle.tangent.specs.Slot.{slotWords}
@@ -44,6 +43,7 @@ use Rattle.spaces.specs.Spaces.{reachAll}
 use Rattle.spaces.proofs.Ranged.{ranged}
 use Rattle.spaces.proofs.Shown.{all-reached}
 use Rattle.copies.specs.Copies.{Copied}
+use Rattle.mikktspace.proofs.Verdicts.{cleared-past}
 
 module _ (sizes : List ℕ) (ps ns ts : List Float) (c : Counts) (w u v : List ℕ) where
   abbrev rows : ℕ
@@ -135,7 +135,4 @@ module _ (sizes : List ℕ) (ps ns ts : List Float) (c : Counts) (w u v : List �
 
       -- the work list is as it was past what is cleared
       pub cleared : (y : List ℕ) → y ≡ replicate (workWords * length sizes) 0 ++ drop (workWords * length sizes) z → y ≡ replicate (workWords * length sizes) 0 ++ drop (workWords * length sizes) w
-      cleared y q =
-          let n : columns * rows + 2 * length sizes ≡ workWords * length sizes = omega arith in
-          let past : drop (columns * rows) z ≡ drop (columns * rows) w = J .rest ∙ (O .rest ∙ L .only .rest) in
-          q ∙ ap (λ l. replicate (workWords * length sizes) 0 ++ l) (sym (drop-drop (2 * length sizes) (columns * rows) z ∙ ap (λ k. drop k z) n) ∙ (ap (drop (2 * length sizes)) past ∙ (drop-drop (2 * length sizes) (columns * rows) w ∙ ap (λ k. drop k w) n)))
+      cleared y q = cleared-past (length sizes) w z y (J .rest ∙ (O .rest ∙ L .only .rest)) q

@@ -31,7 +31,7 @@ join [] = []
 join (w ∷ ws) = w ++ join ws
 
 -- the words of each face, by the definition
-unfoldable faceWords : Call → List (List ℕ)
+unfoldable pub faceWords : Call → List (List ℕ)
 faceWords x = map (flatMap slot.words) (frames (x .threshold) (meshOf (x .mesh)))
 
 joined : (rs : List (List Reading)) → answerWords rs ≡ join (map (flatMap slot.words) rs)
@@ -76,7 +76,7 @@ answer-is x e =
     ∙ ap (λ (l : List ℕ). l ++ drop (slotWords * slotCount (x .mesh .sizes)) (x .answer)) (joined (frames (x .threshold) (meshOf (x .mesh))))
 
 -- what is answered for a face is what the definition has for it
-face-is : (x : Call) (z : Result) → Answers x z → z .number ≡ 0 → (n : ℕ) → n < length (x .mesh .sizes) → faceAnswer (x .mesh .sizes) (z .answer) n ≡ getD (faceWords x) n []
+pub face-is : (x : Call) (z : Result) → Answers x z → z .number ≡ 0 → (n : ℕ) → n < length (x .mesh .sizes) → faceAnswer (x .mesh .sizes) (z .answer) n ≡ getD (faceWords x) n []
 unfolding faceAnswer Accepted
 face-is x z q e n h =
     ap (λ (l : List ℕ). take (slotWords * slotsOf (getD (x .mesh .sizes) n 0)) (drop (slotWords * slotsBefore (x .mesh .sizes) n) l)) (ap (λ (y : Result). y .answer) q ∙ answer-is x (sym (ap (λ (y : Result). y .number) q) ∙ e))

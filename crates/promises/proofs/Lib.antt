@@ -18,3 +18,6 @@ pub mod PackedWritten
 pub mod PackedAnswers
 pub mod Packed
 pub mod Directions
+pub mod ClosedFaces
+pub mod Islands
+pub mod Labels

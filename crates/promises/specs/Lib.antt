@@ -14,3 +14,6 @@ pub mod Cards
 pub mod Appends
 pub mod Packed
 pub mod Directions
+pub mod ClosedFaces
+pub mod Islands
+pub mod Labels

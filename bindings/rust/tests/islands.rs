@@ -1,0 +1,137 @@
+//! Islands: their numbers, frames one island at a time, and frames on several threads.
+use dokphalun::{Answer, Buffers, Mesh, Place, Refusal};
+use std::num::NonZeroUsize;
+
+/// Corners, by face.
+#[derive(Default)]
+struct Faces {
+    sizes: Vec<u8>,
+    positions: Vec<[f32; 3]>,
+    normals: Vec<[f32; 3]>,
+    texture: Vec<[f32; 2]>,
+}
+
+impl Faces {
+    /// A face whose corners stand at these places of a bulging sheet.
+    fn push(&mut self, corners: &[[f32; 2]]) {
+        self.sizes.push(corners.len() as u8);
+        for &[x, y] in corners {
+            self.positions.push([x, y, 0.1 * (3.0 * x).sin() * y.cos()]);
+            self.normals.push([0.0, 0.0, 1.0]);
+            self.texture.push([x * 0.5, y * 0.25]);
+        }
+    }
+
+    /// A square of so many by so many quads; their corners are apart by a half, so that corners of one square are welded exactly.
+    fn square(&mut self, side: usize, left: f32) {
+        for i in 0..side * side {
+            let (x, y) = (left + (i % side) as f32 * 0.5, (i / side) as f32 * 0.5);
+            self.push(&[[x, y], [x + 0.5, y], [x + 0.5, y + 0.5], [x, y + 0.5]]);
+        }
+    }
+
+    fn mesh(&self) -> Mesh<'_> {
+        Mesh {
+            sizes: &self.sizes,
+            positions: &self.positions,
+            normals: &self.normals,
+            texture: &self.texture,
+        }
+    }
+}
+
+/// Squares of several sizes, a face of five and a degenerate triangle between them.
+fn archipelago() -> Faces {
+    let mut faces = Faces::default();
+    for (i, side) in [3, 1, 7, 2, 5, 4, 6, 1].into_iter().enumerate() {
+        faces.square(side, 100.0 * i as f32);
+        faces.push(&[[0.0; 2]; 5]);
+        faces.push(&[[-1.0 - i as f32, 0.0]; 3]);
+    }
+    faces
+}
+
+/// The words of an answer.
+fn words(answer: Result<Answer, Refusal>) -> Vec<u32> {
+    answer.expect("it is refused").words().to_vec()
+}
+
+/// So many threads.
+fn threads(count: usize) -> NonZeroUsize {
+    NonZeroUsize::new(count).expect("at least one")
+}
+
+#[test]
+fn each_face_is_given_the_lowest_number_of_its_island() {
+    let mut faces = Faces::default();
+    faces.push(&[[5.0, 0.0], [6.0, 0.0], [5.0, 1.0]]);
+    faces.push(&[[0.0, 0.0], [1.0, 0.0], [0.0, 1.0]]);
+    faces.push(&[[0.0, 0.0]; 5]);
+    faces.push(&[[9.0, 9.0]; 3]);
+    faces.push(&[[6.0, 0.0], [7.0, 0.0], [1.0, 0.0], [6.0, 1.0]]);
+    faces.push(&[[20.0, 0.0], [21.0, 0.0], [20.0, 1.0]]);
+    let mut buffers = Buffers::new();
+    let islands = buffers.islands(faces.mesh()).expect("it is refused");
+    let given: Vec<Option<usize>> = islands.of_faces().collect();
+    assert_eq!(given, [Some(0), Some(0), None, Some(3), Some(0), Some(5)]);
+    assert_eq!(islands.count(), 3);
+}
+
+#[test]
+fn islands_refuse_as_frames_do() {
+    let mut faces = archipelago();
+    faces.positions[7] = [f32::NAN; 3];
+    let refusal = Buffers::new().islands(faces.mesh()).unwrap_err();
+    assert_eq!(refusal, Refusal::NotFinite(Place { face: 1, corner: 3 }));
+    faces.positions.pop();
+    let refusal = Buffers::new().islands(faces.mesh()).unwrap_err();
+    assert_eq!(refusal, Refusal::UnequalLists);
+}
+
+#[test]
+fn the_words_are_the_same_by_islands_and_on_any_number_of_threads() {
+    let faces = archipelago();
+    for threshold in [-1.0, 0.999] {
+        let whole = words(Buffers::new().frames(faces.mesh(), threshold));
+        let mut buffers = Buffers::new();
+        assert_eq!(
+            words(buffers.frames_by_islands(faces.mesh(), threshold)),
+            whole
+        );
+        for count in (1..=8).chain([8, 3, 1, 40]) {
+            let answer = buffers.frames_on(faces.mesh(), threshold, threads(count));
+            let answer = answer.expect("it is refused");
+            assert_eq!(answer.parts(), count.min(16), "{count} threads");
+            assert_eq!(answer.words(), whole, "{count} threads");
+        }
+    }
+}
+
+#[test]
+fn one_island_is_one_part() {
+    let mut faces = Faces::default();
+    faces.square(9, 0.0);
+    let whole = words(Buffers::new().frames(faces.mesh(), -1.0));
+    let mut buffers = Buffers::new();
+    let answer = buffers.frames_on(faces.mesh(), -1.0, threads(4)).unwrap();
+    assert_eq!((answer.parts(), answer.words()), (1, &whole[..]));
+    let nothing = Faces::default();
+    let answer = buffers.frames_on(nothing.mesh(), -1.0, threads(4));
+    assert_eq!(words(answer), []);
+}
+
+#[test]
+fn refusals_are_the_whole_mesh_s_on_any_number_of_threads() {
+    let mut faces = archipelago();
+    faces.normals[200][1] = f32::INFINITY;
+    let mut buffers = Buffers::new();
+    for threshold in [-1.0, f32::NAN] {
+        let whole = Buffers::new().frames(faces.mesh(), threshold).unwrap_err();
+        for count in 1..=3 {
+            let on = buffers.frames_on(faces.mesh(), threshold, threads(count));
+            assert_eq!(on.unwrap_err(), whole);
+        }
+        let by = buffers.frames_by_islands(faces.mesh(), threshold);
+        assert_eq!(by.unwrap_err(), whole);
+    }
+}

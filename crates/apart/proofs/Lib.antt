@@ -1,0 +1,12 @@
+pub mod Lists
+pub mod Ordering
+pub mod Walking
+pub mod Gathering
+pub mod Call
+pub mod Making
+pub mod Turns
+pub mod Putting
+pub mod Frames
+pub mod Whole
+pub mod Preparing
+pub mod Finishing

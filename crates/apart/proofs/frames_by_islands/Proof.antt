@@ -1,0 +1,107 @@
+-- Proof that `frames_by_islands` meets its contract. Assumes nothing.
+use mathlib.Core.Path.{_≡_, sym, _∙_, ap}
+use mathlib.Core.Option.{none}
+use native.Mathlib.Omega.{arith}
+use denote.Ref.{now}
+use lib.ListN.{length}
+use Rattle.definition.specs.Desk.{verdict}
+use Rattle.laws.proofs.Verdict.{fine}
+use Rattle.mikktspace.proofs.Verdicts.{no-refusal}
+use Rattle.apart.specs.Call.{Own, lists, short}
+use Rattle.apart.proofs.Finishing.{leaving-same, table-leaves, nine-leaves, taken-leaves}
+use borrow.Author.Needs.{needs}
+use Rattle.apart.proofs.frames_by_islands.Statement.{statement}
+use Rattle.apart.proofs.frames_by_islands.Tie as tie
+
+-- the lists of its own that are lent
+abbrev own : tie.Start → Own
+own s = let a = s .args in lists (now (a .labels)) (now (a .order)) (now (a .own-sizes)) (now (a .own-numbers)) (now (a .own-frames))
+
+abbrev start : tie.After-judge → tie.Start
+start c = c .before .before .before .before .before .before .before .before .before .before .before .before
+
+-- past the first test there is no refusal of the table
+accepted : (c : tie.Else1) → let a = start (c .before .before) .args in verdict (now (a .sizes)) (now (a .places)) (now (a .normals)) (now (a .texture)) (a .threshold) (length (now (a .answer))) (length (now (a .work))) ≡ none
+accepted c =
+    let j = c .before .before in
+    let a = start j .args in
+    no-refusal (now (a .sizes)) (now (a .places)) (now (a .normals)) (now (a .texture)) (a .threshold) (length (now (a .answer))) (length (now (a .work))) (let e = ap (λ x. x .number) (j .judge .ensures) in omega (arith, e, c .if1 .left))
+
+judge-requires : tie.Need-judge-requires
+judge-requires c κs = search needs
+
+said-requires : tie.Need-said-requires
+said-requires c κs = search needs
+
+returns : tie.Need-returns
+returns c =
+    let j = c .before .before .before in
+    let s = start j in
+    let a = s .args in
+    let e = j .judge .ensures in
+    table-leaves (now (a .sizes)) (now (a .places)) (now (a .normals)) (now (a .texture)) (a .threshold) (now (a .answer)) (now (a .work)) (own s) _ (c .said .ensures ∙ (λ i. record { number = e i .number; place = e i .place; slots = 0 })) (λ q. let n = ap (λ x. x .number) e in omega (arith, n, q, c .before .if1 .taken))
+
+is-short-requires : tie.Need-is-short-requires
+is-short-requires c κs = fine _ _ _ _ _ _ _ (accepted c) .few
+
+said-requires-2 : tie.Need-said-requires-2
+said-requires-2 c κs = search needs
+
+returns-2 : tie.Need-returns-2
+unfolding short
+returns-2 c =
+    let i = c .before .before in
+    let j = i .before in
+    let s = start (j .before .before) in
+    let a = s .args in
+    nine-leaves (now (a .sizes)) (now (a .places)) (now (a .normals)) (now (a .texture)) (a .threshold) (now (a .answer)) (now (a .work)) (own s) _ (c .said2 .ensures) (accepted j) (sym (i .is-short .ensures) ∙ c .before .if2 .taken)
+
+make-frames-requires : tie.Need-make-frames-requires
+unfolding short
+make-frames-requires c κs =
+    let x = c .before .before .before .before .before .before .before in
+    let i = x .before in
+    (accepted (i .before), sym (i .is-short .ensures) ∙ x .if2 .left)
+
+said-requires-3 : tie.Need-said-requires-3
+said-requires-3 c κs = search needs
+
+same-length : tie.Need-same-length
+same-length c = search needs
+
+same-length-2 : tie.Need-same-length-2
+same-length-2 c = search needs
+
+same-length-3 : tie.Need-same-length-3
+same-length-3 c = search needs
+
+same-length-4 : tie.Need-same-length-4
+same-length-4 c = search needs
+
+same-length-5 : tie.Need-same-length-5
+same-length-5 c = search needs
+
+same-length-6 : tie.Need-same-length-6
+same-length-6 c = search needs
+
+same-length-7 : tie.Need-same-length-7
+same-length-7 c = search needs
+
+returns-3 : tie.Need-returns-3
+unfolding short
+returns-3 c =
+    let m = c .before .before .before .before .before .before .before .before .before .before .before .before .before .before .before in
+    let x = m .before .before .before .before .before .before .before .before in
+    let i = x .before in
+    let j = i .before in
+    let s = start (j .before .before) in
+    let a = s .args in
+    leaving-same _ _ _ _ _ (c .said3 .ensures) ∙ m .make-frames .ensures ∙ taken-leaves (now (a .sizes)) (now (a .places)) (now (a .normals)) (now (a .texture)) (a .threshold) (now (a .answer)) (now (a .work)) (own s) (accepted j) (sym (i .is-short .ensures) ∙ x .if2 .left)
+
+pub frames-by-islands-spec : {M : Type 1} → statement M
+frames-by-islands-spec =
+    tie.close
+    (tie.spec
+    judge-requires said-requires returns is-short-requires said-requires-2 returns-2 make-frames-requires
+    said-requires-3 same-length same-length-2 same-length-3 same-length-4 same-length-5 same-length-6 same-length-7
+    returns-3)

@@ -1,0 +1,9 @@
+pub mod Chains
+pub mod Agree
+pub mod Together
+pub mod Sizes
+pub mod Listing
+pub mod Meaning
+pub mod Weaving
+pub mod Labels
+pub mod Samples

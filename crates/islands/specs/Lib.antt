@@ -1,0 +1,4 @@
+pub mod Islands
+pub mod Together
+pub mod Rows
+pub mod Nine

@@ -1,0 +1,61 @@
+-- The verdict of the call for labels, as its code has it. Assumes nothing.
+use Prim.Native.Nat.{ℕ, _*_, _≤_, _<_}
+use native.Mathlib.Omega.{arith}
+use mathlib.Core.Path.{_≡_, refl, sym, ap, _∙_}
+use mathlib.Core.Bool.{Bool, true, false, cond, true≢false}
+use mathlib.Core.List.{List}
+use mathlib.Core.Option.{Option, none, some, Option·none-ne-some, Option·some-injective}
+use lib.Dec.{ltb}
+use lib.ListN.{length}
+use lib.Ieee.{Float}
+use borrow.Author.Tests.{ltb-false}
+use Rattle.definition.specs.Desk.{Row}
+use Rattle.bits.specs.Single.{zeroᶠ}
+use Rattle.laws.proofs.Part.{Each, each-none, each-some}
+use Rattle.laws.proofs.Closed.{Found}
+use Rattle.laws.proofs.Verdict.{verdict-numbered}
+use Rattle.desk.specs.Verdict.{told}
+use Rattle.islands.specs.Nine.{nine, afterwards}
+use Rattle.labels.specs.declared.Labelled.{Labelled}
+use Rattle.labels.specs.Labels.{Leaving, left, answered, labelsVerdict, deskVerdict, longestAnswer}
+
+pub left-same : (r s : Labelled) (l w : List ℕ) → r ≡ s → left r l w ≡ left s l w
+left-same r s l w e = ap (λ x. left x l w) e
+
+-- a refusal of the table: what the call leaves behind
+pub refused : (o : Option Row) (b : Bool) (z : Leaving) (l w : List ℕ) → (told o .number ≡ 0 → ⊥) → left (record { number = told o .number; place = told o .place; islands = 0 }) l w ≡ answered (afterwards o b) z l w
+unfolding told answered left afterwards
+refused none b z l w h = absurd (h refl)
+refused (some r) b z l w h = refl
+
+-- refusal 9
+pub too-short : (o : Option Row) (b : Bool) (z : Leaving) (l w : List ℕ) → o ≡ none → b ≡ true → left (record { number = 9; place = 0; islands = 0 }) l w ≡ answered (afterwards o b) z l w
+unfolding answered left afterwards
+too-short o b z l w e h = sym (ap (λ x. answered (afterwards x b) z l w) e ∙ ap (λ x. answered (afterwards none x) z l w) h)
+
+-- neither
+pub passes : (o : Option Row) (b : Bool) → o ≡ none → b ≡ false → afterwards o b ≡ none
+unfolding afterwards
+passes o b e h = ap (λ x. afterwards x b) e ∙ ap (afterwards none) h
+
+-- where nothing is refused the table has no row, and the list is long enough
+pub passed : (o : Option Row) (b : Bool) → afterwards o b ≡ none → (o ≡ none) × (b ≡ false)
+unfolding afterwards
+passed (some r) b e = absurd (Option·none-ne-some r (sym e))
+passed none true e = absurd (Option·none-ne-some nine (sym e))
+passed none false e = (refl, refl)
+
+-- the same of the lists
+pub passed-labels : (sizes : List ℕ) (ps ns ts : List Float) (labels work : ℕ) → labelsVerdict sizes ps ns ts labels work ≡ none → (deskVerdict sizes ps ns ts work ≡ none) × (length sizes ≤ labels)
+unfolding labelsVerdict
+passed-labels sizes ps ns ts labels work e = let p = passed _ _ e in (p .0, ltb-false labels (length sizes) (p .1))
+
+-- the number of a row that is given is not 0
+pub given-number : (sizes : List ℕ) (ps ns ts : List Float) (labels work : ℕ) (r : Row) → labelsVerdict sizes ps ns ts labels work ≡ some r → 0 < r .number
+unfolding labelsVerdict afterwards
+given-number sizes ps ns ts labels work r e = go (deskVerdict sizes ps ns ts work) (verdict-numbered sizes ps ns ts zeroᶠ longestAnswer work) (ltb labels (length sizes)) e
+  where
+    go : (o : Option Row) → Each (Found (λ r. r .applies) (λ r. (0 < r .number) × (r .number ≤ 6))) o → (b : Bool) → afterwards o b ≡ some r → 0 < r .number
+    go none each-none true e = let q = ap (λ x. x .number) (Option·some-injective nine r e) in omega (arith, q)
+    go none each-none false e = absurd (Option·none-ne-some r e)
+    go (some s) (each-some f) b e = let q = ap (λ x. x .number) (Option·some-injective s r e) in omega (arith, q, f .known .0)

@@ -1,0 +1,75 @@
+-- Request E9: the islands' numbers by themselves, as a public call leaves them, for every input whatever. Definitions only.
+use Prim.Native.Nat.{ℕ, zero, suc, _+_, _*_}
+use mathlib.Core.Path.{_≡_}
+use mathlib.Core.Bool.{cond}
+use mathlib.Core.List.{List, _++_}
+use mathlib.Core.Option.{Option, none, some}
+use lib.Dec.{eqb, ltb}
+use lib.ListN.{length, drop, replicate}
+use lib.Ieee.{Float}
+use Rattle.bits.specs.Single.{zeroᶠ}
+use Rattle.tangent.specs.Slot.{slotWords}
+use Rattle.definition.specs.Limits.{faceLimit, workWords}
+use Rattle.definition.specs.Handed.{meshFrom}
+use Rattle.definition.specs.Desk.{Row, verdict}
+use Rattle.islands.specs.Islands.{islandOf}
+use Rattle.islands.specs.Rows.{labelled}
+use Rattle.islands.specs.Nine.{afterwards}
+use Rattle.labels.specs.declared.Labelled.{Labelled}
+
+-- the words of the longest answer list that a mesh can need
+abbrev pub longestAnswer : ℕ
+longestAnswer = slotWords * (4 * faceLimit)
+
+-- the table for a call that has no threshold and no answer list: it is asked with 0 and the longest one, so that rows 3 and 5 never apply
+abbrev pub deskVerdict : List ℕ → List Float → List Float → List Float → ℕ → Option Row
+deskVerdict sizes ps ns ts work = verdict sizes ps ns ts zeroᶠ longestAnswer work
+
+-- the table, and then 9 where the list for the numbers has fewer than one a face
+unfoldable pub labelsVerdict : List ℕ → List Float → List Float → List Float → ℕ → ℕ → Option Row
+labelsVerdict sizes ps ns ts labels work = afterwards (deskVerdict sizes ps ns ts work) (ltb labels (length sizes))
+
+-- how many of the faces before n have their own number: one of each island, its lowest
+unfoldable pub ownNumbers : ℕ → (ℕ → ℕ) → ℕ
+ownNumbers zero l = 0
+ownNumbers (suc n) l = let r = ownNumbers n l in r + cond (eqb (l n) n) 1 0
+
+-- how many islands a mesh has
+unfoldable pub islandCount : List ℕ → List Float → List Float → List Float → ℕ
+islandCount sizes ps ns ts = ownNumbers (length sizes) (islandOf (meshFrom ps ns ts 0 sizes))
+
+-- all that the call leaves behind: what it returns, and the two lists
+pub record Leaving : Type 0 where
+  pub number : ℕ
+  pub place : ℕ
+  pub islands : ℕ
+  pub labels : List ℕ
+  pub work : List ℕ
+
+unfoldable pub left : Labelled → List ℕ → List ℕ → Leaving
+left r labels work = record { number = r .number; place = r .place; islands = r .islands; labels = labels; work = work }
+
+-- acceptance: each face's number, and the work list as one call for frames leaves it
+unfoldable pub acceptedLabels : List ℕ → List Float → List Float → List Float → List ℕ → List ℕ → Leaving
+acceptedLabels sizes ps ns ts labels work =
+    record {
+      number = 0;
+      place = 0;
+      islands = islandCount sizes ps ns ts;
+      labels = labelled sizes ps ns ts labels;
+      work = replicate (workWords * length sizes) 0 ++ drop (workWords * length sizes) work;
+    }
+
+-- a refusal returns its number and its place, and alters nothing
+unfoldable pub answered : Option Row → Leaving → List ℕ → List ℕ → Leaving
+answered none taken labels work = taken
+answered (some r) taken labels work = record { number = r .number; place = r .place; islands = 0; labels = labels; work = work }
+
+-- what the call leaves behind, for every input
+unfoldable pub labelsOutcome : List ℕ → List Float → List Float → List Float → List ℕ → List ℕ → Leaving
+labelsOutcome sizes ps ns ts labels work =
+    answered (labelsVerdict sizes ps ns ts (length labels) (length work)) (acceptedLabels sizes ps ns ts labels work) labels work
+
+-- The contract of the public call. Handed in: face sizes, positions, normals and texture coordinates; lent: the list for the numbers l and the work list w, which it leaves as m and v; returned: r.
+abbrev pub Labels : List ℕ → List Float → List Float → List Float → List ℕ → List ℕ → Labelled → List ℕ → List ℕ → Type 0
+Labels sizes ps ns ts l w r m v = left r m v ≡ labelsOutcome sizes ps ns ts l w
