@@ -4,7 +4,7 @@
  * smooth steel: so ask every slot with dokphalun_slot, and never take its words for numbers yourself.
  *
  * A list is a pointer to its first element and a number of elements. The pointer is not null, not even for a list of no
- * elements. A lent list (answer, work, card) stands apart from every other list of the call. Any numbers whatever may be
+ * elements. A lent list (answer, work, card, our own links) stands apart from every other list of the call. Any numbers whatever may be
  * handed in; each call ends, and a refusal alters no list. A call needs some 8 KiB of stack.
  */
 #ifndef DOKPHALUN_H
@@ -29,6 +29,9 @@ extern "C" {
 #define DOKPHALUN_ORDER_WORDS 4
 #define DOKPHALUN_OWN_NUMBERS 32
 #define DOKPHALUN_OWN_FRAME_WORDS 40
+/* The words a face of the lists that dokphalun_links writes: links and groups, and orientations. */
+#define DOKPHALUN_LINK_WORDS 6
+#define DOKPHALUN_ORIENTATION_WORDS 2
 /* What a face is given that is in no island. */
 #define DOKPHALUN_NO_ISLAND UINT32_MAX
 /* The bytes of a card of so many records: 12 to a block of 512. */
@@ -62,6 +65,41 @@ struct dokphalun_labelled {
     uint32_t number;
     uint32_t place;
     uint32_t islands;
+};
+
+/* What dokphalun_examine says: three times 0, the lists are accepted; or a refusal's number, 0 and its place; or 0, the number
+ * of the first objection that applies and its lowest place. Refusals 1, 2, 4 and 6 are those of dokphalun_frames.
+ * A row is a corner of a sound triangle, and the side that runs from it to the triangle's next corner: row 3t + i is of corner i
+ * (0, 1, 2) of sound triangle t. Two corners are welded where all eight numbers are the same to the bit. docs/EXAMINER.md has
+ * an example of each.
+ *   1   a list is not 3N, 3N and N words long, N the number of sound triangles; place 0, 1, 2: links, groups, orientations
+ *   2   a side is linked to a row that is not there; place is its row
+ *   3   a side is linked to one that does not have the same two welded ends, run the opposite way; its row
+ *   4   a side is linked to one that is not linked back to it; its row
+ *   5   a side is unlinked, and so is another with the same two welded ends, run the opposite way; its row
+ *   6   an orientation is neither 0 nor 1; place is the triangle
+ *   7   a triangle that is not group_with_any has another orientation than step 3 gives it; the triangle
+ *   8   a corner of a triangle that is not group_with_any is in no group; place is its row
+ *   9   a corner is in a group with a lower row to whose corner it is not welded; its row
+ *   10  a corner is in a group with a lower row whose triangle has the other orientation; its row
+ *   11  a side links two triangles of one orientation, neither group_with_any, and the corners that meet at an end of it are not
+ *       in one group; its row
+ *   12  a corner is in a group with a lower row from which no chain of linked sides that end in the corner leads to it; its row
+ */
+struct dokphalun_examined {
+    uint32_t refusal;
+    uint32_t objection;
+    uint32_t place;
+};
+
+/* What dokphalun_links says: number 0, place 0 and N, how many triangles are sound; or a refusal's number, its place and 0.
+ *   1, 2, 4, 6  as dokphalun_frames
+ *   9  links or groups are shorter than DOKPHALUN_LINK_WORDS a face, or orientations than DOKPHALUN_ORIENTATION_WORDS
+ */
+struct dokphalun_handed {
+    uint32_t number;
+    uint32_t place;
+    uint32_t sound;
 };
 
 /* What dokphalun_card_write says: number 0 and how many bytes it wrote; or a refusal's number and 0.
@@ -158,6 +196,34 @@ DOKPHALUN_ASK struct dokphalun_outcome dokphalun_frames_by_islands(
     uint8_t *own_sizes, size_t own_faces,
     float *own_numbers, size_t own_number_count,
     uint32_t *own_frames, size_t own_frame_words);
+
+/* Examines lists that somebody else made for a mesh. Its N sound triangles are those of which no two positions are equal: faces
+ * in order, one of a face of 3, two of a quad, cut by the shorter diagonal of its texture, where equal of its positions.
+ *   links         3N words: 0 where the side of the row is not linked, else the row of the side beyond, plus 1
+ *   groups        3N words: 0 where the corner of the row is in no group, else its group by any number
+ *   orientations  N words: 1 where the texture runs round the triangle as its corners do, else 0
+ * Work is as for dokphalun_frames, and is left zero so far unless the mesh is refused. */
+DOKPHALUN_ASK struct dokphalun_examined dokphalun_examine(
+    const uint8_t *sizes, size_t faces,
+    const float *positions, size_t position_numbers,
+    const float *normals, size_t normal_numbers,
+    const float *texture, size_t texture_numbers,
+    const uint32_t *links, size_t link_words,
+    const uint32_t *groups, size_t group_words,
+    const uint32_t *orientations, size_t orientation_words,
+    uint32_t *work, size_t work_words);
+
+/* The same lists as our own frames of a mesh rest on: the first 3N, 3N and N words are written, and those past them are left as they
+ * were. They are always accepted by dokphalun_examine. */
+DOKPHALUN_ASK struct dokphalun_handed dokphalun_links(
+    const uint8_t *sizes, size_t faces,
+    const float *positions, size_t position_numbers,
+    const float *normals, size_t normal_numbers,
+    const float *texture, size_t texture_numbers,
+    uint32_t *links, size_t link_words,
+    uint32_t *groups, size_t group_words,
+    uint32_t *orientations, size_t orientation_words,
+    uint32_t *work, size_t work_words);
 
 /* Answer words to the bytes of a card. */
 DOKPHALUN_ASK struct dokphalun_written dokphalun_card_write(

@@ -12,6 +12,8 @@ mod desk;
 mod distance;
 mod files;
 mod plain;
+#[path = "../../side_by_side/src/plain_steps.rs"]
+mod plain_steps;
 mod steps;
 mod walks;
 

@@ -1,8 +1,8 @@
-//! Steps 1 to 6 of the proved archive beside a plain model, written from document 01: every word that stands for a triangle, a link or a group.
+//! Steps 1 to 6 of the proved archive beside a plain model: every word that stands for a triangle, a link or a group.
 use crate::desk::judged;
 use crate::files::{Call, Words};
+use crate::plain_steps::{Model, model};
 use crate::word;
-use std::collections::HashMap;
 use std::fs::read;
 use std::hint::black_box;
 use std::thread::{Builder, scope};
@@ -51,218 +51,6 @@ const GROUP: usize = 12;
 const MET: usize = 13;
 const ORDER: usize = 17;
 const BEGIN: usize = 19;
-
-type Vector = [f32; 3];
-
-fn sub(a: Vector, b: Vector) -> Vector {
-    [a[0] - b[0], a[1] - b[1], a[2] - b[2]]
-}
-
-fn scale(a: Vector, k: f32) -> Vector {
-    a.map(|x| x * k)
-}
-
-fn dot(a: Vector, b: Vector) -> f32 {
-    a[0] * b[0] + a[1] * b[1] + a[2] * b[2]
-}
-
-fn counts(x: f32) -> bool {
-    x.abs() > f32::MIN_POSITIVE
-}
-
-/// The vector at unit length, or none: no component counts, or the squared length is zero, infinite or NaN (request E6).
-fn direction(a: Vector) -> Option<Vector> {
-    let squared = dot(a, a);
-    let none = !a.into_iter().any(counts) || squared == 0.0 || !squared.is_finite();
-    (!none).then(|| scale(a, 1.0 / squared.sqrt()))
-}
-
-fn unit(a: Vector) -> Vector {
-    direction(a).unwrap_or([0.0; 3])
-}
-
-#[derive(Clone, Copy)]
-struct Corner {
-    place: Vector,
-    normal: Vector,
-    texture: [f32; 2],
-}
-
-impl Corner {
-    /// The bits of its eight numbers.
-    fn bits(&self) -> [u32; 8] {
-        let (p, n, t) = (self.place, self.normal, self.texture);
-        [p[0], p[1], p[2], n[0], n[1], n[2], t[0], t[1]].map(f32::to_bits)
-    }
-}
-
-#[derive(Clone)]
-struct Triangle {
-    face: usize,
-    second: bool,
-    missing: usize,
-    which: [usize; 3],
-    corners: [Corner; 3],
-    degenerate: bool,
-    marked: bool,
-    any: bool,
-    orientation: bool,
-    area: f32,
-    s: Vector,
-    t: Vector,
-    magnitudes: [f32; 2],
-}
-
-/// Steps 2 and 3 of one triangle.
-fn triangle(face: usize, second: bool, missing: usize, which: [usize; 3], corners: [Corner; 3]) -> Triangle {
-    let [a, b, c] = corners;
-    let degenerate = a.place == b.place || b.place == c.place || c.place == a.place;
-    let (t1, t2) = (
-        [b.texture[0] - a.texture[0], b.texture[1] - a.texture[1]],
-        [c.texture[0] - a.texture[0], c.texture[1] - a.texture[1]],
-    );
-    let area = t1[0] * t2[1] - t1[1] * t2[0];
-    let (d1, d2) = (sub(b.place, a.place), sub(c.place, a.place));
-    let (mut s, mut t, mut magnitudes, mut points) = ([0.0; 3], [0.0; 3], [0.0; 2], false);
-    if !degenerate && counts(area) {
-        let raw_s = sub(scale(d1, t2[1]), scale(d2, t1[1]));
-        let (x, y) = (scale(d1, -t2[0]), scale(d2, t1[0]));
-        let raw_t = [x[0] + y[0], x[1] + y[1], x[2] + y[2]];
-        let sign = if area > 0.0 { 1.0 } else { -1.0 };
-        s = scale(unit(raw_s), sign);
-        t = scale(unit(raw_t), sign);
-        magnitudes = [raw_s, raw_t].map(|v| dot(v, v).sqrt() / area.abs());
-        points = direction(raw_s).is_some() && direction(raw_t).is_some();
-    }
-    let any = !degenerate && !(points && counts(magnitudes[0]) && counts(magnitudes[1]));
-    let orientation = !degenerate && area > 0.0;
-    Triangle { face, second, missing, which, corners, degenerate, marked: false, any, orientation, area: area.abs(), s, t, magnitudes }
-}
-
-/// Steps 1 to 3 of one face.
-fn pieces(face: usize, corners: &[Corner]) -> Vec<Triangle> {
-    let make = |second, missing: usize| {
-        let kept: Vec<usize> = (0..4).filter(|&i| i != missing).collect();
-        triangle(face, second, missing, [kept[0], kept[1], kept[2]], [corners[kept[0]], corners[kept[1]], corners[kept[2]]])
-    };
-    match corners.len() {
-        3 => vec![make(false, 3)],
-        4 => {
-            let across = |i: usize, j: usize| {
-                let (x, y) = (corners[i].texture[0] - corners[j].texture[0], corners[i].texture[1] - corners[j].texture[1]);
-                x * x + y * y
-            };
-            let apart = |i: usize, j: usize| {
-                let d = sub(corners[i].place, corners[j].place);
-                dot(d, d)
-            };
-            let (a, b) = (across(2, 0), across(3, 1));
-            let cut02 = if a < b || b < a { a < b } else { apart(3, 1) >= apart(2, 0) };
-            let (mut x, mut y) = if cut02 { (make(false, 3), make(true, 1)) } else { (make(false, 2), make(true, 0)) };
-            if x.degenerate != y.degenerate {
-                x.marked = true;
-                y.marked = true;
-            } else if !x.degenerate && x.orientation != y.orientation {
-                let way = if y.any || x.area >= y.area { x.orientation } else { y.orientation };
-                x.orientation = way;
-                y.orientation = way;
-            }
-            vec![x, y]
-        }
-        _ => vec![],
-    }
-}
-
-/// What the plain model says of steps 1 to 6: triangles in their order, how many are sound, vertices and links by row; each corner's group, and the members of each group as they were met.
-struct Model {
-    triangles: Vec<Triangle>,
-    sound: usize,
-    vertices: Vec<usize>,
-    links: Vec<u32>,
-    corner_starts: Vec<usize>,
-    slot_starts: Vec<usize>,
-    group: Vec<u32>,
-    members: Vec<Vec<usize>>,
-}
-
-fn model(call: &Call) -> Model {
-    let [positions, normals, texture] = call.numbers();
-    let corner = |i: usize| Corner {
-        place: [positions[3 * i], positions[3 * i + 1], positions[3 * i + 2]],
-        normal: [normals[3 * i], normals[3 * i + 1], normals[3 * i + 2]],
-        texture: [texture[2 * i], texture[2 * i + 1]],
-    };
-    let (mut all, mut corner_starts, mut slot_starts) = (vec![], vec![], vec![]);
-    let (mut corners, mut slots) = (0, 0);
-    for (face, &size) in call.sizes.iter().enumerate() {
-        corner_starts.push(corners);
-        slot_starts.push(slots);
-        let n = usize::from(size);
-        if n == 3 || n == 4 {
-            all.extend(pieces(face, &(corners..corners + n).map(corner).collect::<Vec<Corner>>()));
-            slots += n;
-        }
-        corners += n;
-    }
-    let (mut triangles, broken): (Vec<Triangle>, Vec<Triangle>) = all.into_iter().partition(|t| !t.degenerate);
-    let sound = triangles.len();
-    triangles.extend(broken);
-    let bits: Vec<[u32; 8]> = triangles.iter().flat_map(|t| t.corners.iter().map(Corner::bits)).collect();
-    let mut first = HashMap::new();
-    let vertices: Vec<usize> = bits.iter().enumerate().map(|(r, b)| *first.entry(b).or_insert(r)).collect();
-    let end = |r: usize| r - r % 3 + (r + 1) % 3;
-    let key = |r: usize| {
-        let (a, b) = (vertices[r], vertices[end(r)]);
-        (a.min(b), a.max(b), r / 3)
-    };
-    let mut sides: Vec<usize> = (0..3 * sound).collect();
-    sides.sort_by_key(|&r| key(r));
-    let mut links = vec![0u32; 3 * sound];
-    for (i, &r) in sides.iter().enumerate() {
-        let opposite = |&&u: &&usize| links[u] == 0 && vertices[u] == vertices[end(r)] && vertices[end(u)] == vertices[r];
-        let ends = |r: usize| (key(r).0, key(r).1);
-        let mut later = sides[i + 1..].iter().take_while(|&&u| ends(u) == ends(r));
-        if links[r] == 0
-            && let Some(&u) = later.find(opposite)
-        {
-            links[r] = u as u32 + 1;
-            links[u] = r as u32 + 1;
-        }
-    }
-    let mut model = Model { triangles, sound, vertices, links, corner_starts, slot_starts, group: vec![0; 3 * sound], members: vec![] };
-    for r in 0..3 * sound {
-        if !model.triangles[r / 3].any && model.group[r] == 0 {
-            model.members.push(vec![]);
-            let way = model.triangles[r / 3].orientation;
-            walk(&mut model, r, way);
-        }
-    }
-    model
-}
-
-/// The walk of the last group, of orientation `way`, enters corner r: the side before the corner first, and over a side to the same corner beyond.
-fn walk(m: &mut Model, r: usize, way: bool) {
-    let t = r / 3;
-    if m.group[r] != 0 {
-        return;
-    }
-    if m.triangles[t].any && m.group[3 * t..3 * t + 3] == [0; 3] {
-        m.triangles[t].orientation = way;
-    }
-    if m.triangles[t].orientation != way {
-        return;
-    }
-    m.group[r] = m.members.len() as u32;
-    m.members.last_mut().unwrap().push(r);
-    for side in [3 * t + (r + 2) % 3, r] {
-        if m.links[side] != 0 {
-            let beyond = (m.links[side] as usize - 1) / 3;
-            if let Some(same) = (3 * beyond..3 * beyond + 3).find(|&c| m.vertices[c] == m.vertices[r]) {
-                walk(m, same, way);
-            }
-        }
-    }
-}
 
 /// The archive's columns, and how many triangles are sound and there are, how many groups and members.
 fn columns(call: &Call) -> (Vec<u32>, [usize; 4]) {
@@ -358,7 +146,7 @@ fn check_all(meshes: &str) -> bool {
         if judged(&call).0 != 0 {
             continue;
         }
-        let m = model(&call);
+        let m = model(&call.sizes, &call.numbers());
         if let Some(what) = wrong(&call, &m) {
             if differed == 0 {
                 println!("mesh {compared}: {what}");
@@ -401,7 +189,7 @@ fn within<T: Send>(kib: usize, run: impl FnOnce() -> T + Send) -> T {
 /// Runs the deepest walk of as many faces as are accepted in a thread of so many KiB, and compares it with the model, whose walk calls itself: the largest group has two corners a face.
 pub fn deep(kib: usize) -> bool {
     let call = deepest(MOST_FACES);
-    let m = within(MODEL_KIB, || model(&call));
+    let m = within(MODEL_KIB, || model(&call.sizes, &call.numbers()));
     let largest = m.members.iter().map(Vec::len).max().unwrap();
     let what = within(kib, || wrong(&call, &m));
     println!("the deepest walk of {MOST_FACES} faces in a thread of {kib} KiB: a group of {largest} corners; {}", what.as_deref().unwrap_or("as the model has it"));

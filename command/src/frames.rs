@@ -7,7 +7,7 @@ use crate::stop::{Status, Stop};
 use crate::surface::Surface;
 use dokphalun::{BLOCK_BYTES, Buffers, Record, Refusal};
 use std::num::NonZeroUsize;
-use std::path::PathBuf;
+use std::path::{Path, PathBuf};
 use std::thread::available_parallelism;
 
 /// From more faces than this on a mesh of several islands is made on all cores.
@@ -27,7 +27,12 @@ pub fn run(asked: &AskedFrames) -> Result<Status, Stop> {
     let mut buffers = Buffers::new();
     let answer = buffers
         .frames_on(surface.mesh(), asked.threshold, threads(&surface))
-        .map_err(|refusal| refused(asked, &surface, refusal))?;
+        .map_err(|refusal| {
+            let card = asked.card.display();
+            let left =
+                format!("Nothing was written: {card} is as it was, and no corner has a reading");
+            refused(&asked.mesh, &surface, refusal, &left)
+        })?;
     let mut card = Vec::new();
     answer.write_card(&mut card).map_err(|refusal| Stop {
         status: Status::Unwritten,
@@ -85,9 +90,9 @@ fn summary(asked: &AskedFrames, known: &Known, blocks: usize, parts: usize) -> S
     status
 }
 
-/// What is said of a refused mesh: number, place, what stands there, and what to do.
-fn refused(asked: &AskedFrames, surface: &Surface, refusal: Refusal) -> Stop {
-    let mut what = format!("{}: {refusal}", asked.mesh.display());
+/// What is said of a refused mesh: number, place, what stands there, what to do, and what was left.
+pub fn refused(mesh: &Path, surface: &Surface, refusal: Refusal, left: &str) -> Stop {
+    let mut what = format!("{}: {refusal}", mesh.display());
     if let Some(place) = refusal.place() {
         if let Some(spot) = surface.spots.get(place.face) {
             what.push_str(&format!(" (the face is at {spot} of the file)"));
@@ -99,11 +104,7 @@ fn refused(asked: &AskedFrames, surface: &Surface, refusal: Refusal) -> Stop {
             ));
         }
     }
-    let card = asked.card.display();
-    what.push_str(&format!(
-        ".\nWhat to do: {}.\nNothing was written: {card} is as it was, and no corner has a reading",
-        refusal.remedy()
-    ));
+    what.push_str(&format!(".\nWhat to do: {}.\n{left}", refusal.remedy()));
     let status = Status::Refused;
     Stop { status, what }
 }

@@ -1,7 +1,10 @@
 //! The parts of the command `dokphalun`; README.md of the repository says what it does.
 pub mod cause;
 pub mod demo;
+pub mod examine;
 pub mod frames;
+pub mod links;
+pub mod listsfile;
 pub mod meshfile;
 pub mod obj;
 pub mod options;

@@ -1,6 +1,6 @@
-//! The command `dokphalun`: tangent frames of a scanned mesh to a card, a report and a picture.
+//! The command `dokphalun`: tangent frames of a scanned mesh to a card, a report and a picture; and a partner's lists examined.
 use command::options::{self, Task};
-use command::{demo, frames, read, stop::Stop};
+use command::{demo, examine, frames, links, read, stop::Stop};
 use std::io::{Write, stderr};
 use std::process::ExitCode;
 
@@ -8,6 +8,8 @@ fn main() -> ExitCode {
     let done = options::task(std::env::args_os().skip(1)).and_then(|task| match task {
         Task::Frames(asked) => frames::run(&asked),
         Task::Read(asked) => read::run(&asked),
+        Task::Links(asked) => links::run(&asked),
+        Task::Examine(asked) => examine::run(&asked),
         Task::Demo(folder) => demo::run(&folder),
         Task::Help => Ok(options::help()),
     });

@@ -1,5 +1,7 @@
 //! The words of the command line.
+use crate::examine::AskedExamine;
 use crate::frames::AskedFrames;
+use crate::links::AskedLinks;
 use crate::papers::Papers;
 use crate::read::AskedRead;
 use crate::stop::{Status, Stop};
@@ -18,17 +20,26 @@ const HELP: &str = "dokphalun: tangent frames of a scanned mesh. An absent readi
       Tangents of one corner are joined up to an angle; by default there is no limit (180 degrees, cosine -1).
   dokphalun read CARD --total N [--mesh MESH] [--report CSV] [--picture SVG]
       What is on a card of N records: present, absent, lost, and torn bytes; with the mesh, which faces are concerned.
+  dokphalun links MESH -o LISTS
+      Writes our own links, groups and orientations of the mesh's sound triangles, as text.
+  dokphalun examine MESH LISTS
+      Whether somebody else's links, groups and orientations are accepted, or the first objection to them and its place.
   dokphalun demo [FOLDER]
-      Makes a tank, and runs both on it. It leaves mesh, card, report and pictures in FOLDER (dokphalun-demo).
+      Makes a tank, and runs `frames` and `read` on it. It leaves mesh, card, report and pictures in FOLDER (dokphalun-demo).
 
-Exit status: 0 every slot is present. 2 the command line is not understood. 3 some corner has no frame. 4 the mesh is refused.
-5 a file cannot be read. 6 a card has lost records or torn bytes. 7 a file cannot be written.
+Exit status: 0 every slot is present; or lists are written, or accepted. 2 the command line is not understood. 3 some corner has no frame. 4 the mesh is refused.
+5 a file cannot be read. 6 a card has lost records or torn bytes. 7 a file cannot be written. 8 lists are not accepted.
 ";
+
+/// The first words that are known.
+const KNOWN: &str = "frames, read, links, examine or demo";
 
 /// What is asked for.
 pub enum Task {
     Frames(AskedFrames),
     Read(AskedRead),
+    Links(AskedLinks),
+    Examine(AskedExamine),
     Demo(PathBuf),
     Help,
 }
@@ -103,6 +114,17 @@ impl Words {
         number.ok_or_else(wrong).map(Some)
     }
 
+    /// The only two plain words.
+    fn both(&self, what: &str) -> Result<[PathBuf; 2], Stop> {
+        match &self.plain[..] {
+            [first, second] => Ok([first, second].map(PathBuf::from)),
+            _ => Err(Stop::usage(format!(
+                "{what} are wanted, and {} are named",
+                self.plain.len()
+            ))),
+        }
+    }
+
     /// The only plain word.
     fn only(&self, what: &str) -> Result<PathBuf, Stop> {
         match &self.plain[..] {
@@ -118,11 +140,13 @@ impl Words {
 /// What the words ask for.
 pub fn task(mut words: impl Iterator<Item = OsString>) -> Result<Task, Stop> {
     let Some(first) = words.next() else {
-        return Err(Stop::usage("frames, read or demo?"));
+        return Err(Stop::usage(format!("{KNOWN}?")));
     };
     match first.to_str() {
         Some("frames") => frames(words).map(Task::Frames),
         Some("read") => read(words).map(Task::Read),
+        Some("links") => links(words).map(Task::Links),
+        Some("examine") => examine(words).map(Task::Examine),
         Some("demo") => {
             let words = Words::sort(words, &[])?;
             match words.plain.is_empty() {
@@ -132,7 +156,7 @@ pub fn task(mut words: impl Iterator<Item = OsString>) -> Result<Task, Stop> {
         }
         Some("help" | "--help" | "-h") => Ok(Task::Help),
         _ => Err(Stop::usage(format!(
-            "{} is not known: frames, read or demo?",
+            "{} is not known: {KNOWN}?",
             first.display()
         ))),
     }
@@ -175,6 +199,26 @@ fn read(words: impl Iterator<Item = OsString>) -> Result<AskedRead, Stop> {
     }
     apart([Some(&asked.card), asked.mesh.as_ref()], &asked.papers)?;
     Ok(asked)
+}
+
+/// The words after `links`.
+fn links(words: impl Iterator<Item = OsString>) -> Result<AskedLinks, Stop> {
+    let words = Words::sort(words, &["-o"])?;
+    let no_lists = || Stop::usage("-o LISTS is wanted");
+    let asked = AskedLinks {
+        mesh: words.only("mesh")?,
+        lists: words.path("-o").ok_or_else(no_lists)?,
+    };
+    apart([Some(&asked.mesh), Some(&asked.lists)], &Papers::default())?;
+    Ok(asked)
+}
+
+/// The words after `examine`.
+fn examine(words: impl Iterator<Item = OsString>) -> Result<AskedExamine, Stop> {
+    let words = Words::sort(words, &[])?;
+    let [mesh, lists] = words.both("a mesh and lists")?;
+    apart([Some(&mesh), Some(&lists)], &Papers::default())?;
+    Ok(AskedExamine { mesh, lists })
 }
 
 /// The cosine that is asked for. One that is not finite is left to the archive, which refuses it.

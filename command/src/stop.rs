@@ -5,7 +5,7 @@ use std::path::Path;
 /// The exit statuses. Only 0 is good.
 #[derive(Clone, Copy, Debug, PartialEq, Eq)]
 pub enum Status {
-    /// Every slot is present.
+    /// Every slot is present; or lists are written, or accepted.
     Good = 0,
     /// The command line is not understood.
     Usage = 2,
@@ -19,6 +19,8 @@ pub enum Status {
     Lost = 6,
     /// A file cannot be written.
     Unwritten = 7,
+    /// A partner's lists are not accepted.
+    Objected = 8,
 }
 
 /// Why a run ends early.

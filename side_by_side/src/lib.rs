@@ -5,11 +5,14 @@ extern crate bevy_mikktspace;
 extern crate mikktspace_altered;
 
 pub mod compare;
+pub mod examiner;
 pub mod islands;
 pub mod kinds;
 pub mod mesh;
 pub mod ops;
 pub mod ours;
+pub mod partner;
+pub mod plain_steps;
 pub mod random;
 pub mod runner;
 pub mod shapes;

@@ -1,5 +1,5 @@
 //! The calls of the archive: the only place that is not checked by Rust. Each list passes as a pointer and a number of elements.
-use crate::Mesh;
+use crate::{Lists, Mesh, OwnLinks};
 
 /// What `dokphalun_frames` says: the number of a refusal and its place, or 0 and 0; and how many slots were written.
 #[repr(C)]
@@ -15,6 +15,22 @@ pub struct Labelled {
     pub number: u32,
     pub place: u32,
     pub islands: u32,
+}
+
+/// What `dokphalun_examine` says: the number of a refusal or 0; then that of an objection or 0; and the place of either.
+#[repr(C)]
+pub struct Examined {
+    pub refusal: u32,
+    pub objection: u32,
+    pub place: u32,
+}
+
+/// What `dokphalun_links` says: the number of a refusal and its place, or 0 and 0; and how many triangles are sound.
+#[repr(C)]
+pub struct Handed {
+    pub number: u32,
+    pub place: u32,
+    pub sound: u32,
 }
 
 /// What the calls of cards and of packed frames say: a refusal's number, or 0; and a number of bytes, of numbers, or a place.
@@ -65,6 +81,26 @@ unsafe extern "C" {
         own_numbers: *mut f32, own_number_count: usize,
         own_frames: *mut u32, own_frame_words: usize,
     ) -> Outcome;
+    fn dokphalun_examine(
+        sizes: *const u8, faces: usize,
+        positions: *const f32, position_numbers: usize,
+        normals: *const f32, normal_numbers: usize,
+        texture: *const f32, texture_numbers: usize,
+        links: *const u32, link_words: usize,
+        groups: *const u32, group_words: usize,
+        orientations: *const u32, orientation_words: usize,
+        work: *mut u32, work_words: usize,
+    ) -> Examined;
+    fn dokphalun_links(
+        sizes: *const u8, faces: usize,
+        positions: *const f32, position_numbers: usize,
+        normals: *const f32, normal_numbers: usize,
+        texture: *const f32, texture_numbers: usize,
+        links: *mut u32, link_words: usize,
+        groups: *mut u32, group_words: usize,
+        orientations: *mut u32, orientation_words: usize,
+        work: *mut u32, work_words: usize,
+    ) -> Handed;
     fn dokphalun_card_write(answer: *const u32, answer_words: usize, card: *mut u8, card_bytes: usize) -> Said;
     fn dokphalun_card_read(card: *const u8, card_bytes: usize, total: u32, answer: *mut u32, answer_words: usize) -> Said;
     fn dokphalun_card_next(long: usize, total: u32) -> Placed;
@@ -166,6 +202,60 @@ pub fn frames_by_islands(
             own.numbers.len(),
             own.frames.as_mut_ptr(),
             own.frames.len(),
+        )
+    }
+}
+
+/// What is found of a partner's lists.
+pub fn examine(mesh: Mesh, lists: Lists, work: &mut [u32]) -> Examined {
+    let (positions, normals) = (mesh.positions.as_flattened(), mesh.normals.as_flattened());
+    let texture = mesh.texture.as_flattened();
+    // SAFETY: as above.
+    unsafe {
+        dokphalun_examine(
+            mesh.sizes.as_ptr(),
+            mesh.sizes.len(),
+            positions.as_ptr(),
+            positions.len(),
+            normals.as_ptr(),
+            normals.len(),
+            texture.as_ptr(),
+            texture.len(),
+            lists.links.as_ptr(),
+            lists.links.len(),
+            lists.groups.as_ptr(),
+            lists.groups.len(),
+            lists.orientations.as_ptr(),
+            lists.orientations.len(),
+            work.as_mut_ptr(),
+            work.len(),
+        )
+    }
+}
+
+/// Our own lists into lent ones.
+pub fn links(mesh: Mesh, own: &mut OwnLinks, work: &mut [u32]) -> Handed {
+    let (positions, normals) = (mesh.positions.as_flattened(), mesh.normals.as_flattened());
+    let texture = mesh.texture.as_flattened();
+    // SAFETY: as above.
+    unsafe {
+        dokphalun_links(
+            mesh.sizes.as_ptr(),
+            mesh.sizes.len(),
+            positions.as_ptr(),
+            positions.len(),
+            normals.as_ptr(),
+            normals.len(),
+            texture.as_ptr(),
+            texture.len(),
+            own.links.as_mut_ptr(),
+            own.links.len(),
+            own.groups.as_mut_ptr(),
+            own.groups.len(),
+            own.orientations.as_mut_ptr(),
+            own.orientations.len(),
+            work.as_mut_ptr(),
+            work.len(),
         )
     }
 }

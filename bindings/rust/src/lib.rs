@@ -7,18 +7,24 @@ mod archive;
 mod buffers;
 mod card;
 mod islands;
+mod lists;
 mod mesh;
+mod objection;
 mod packed;
 mod reading;
 mod refusal;
+mod triangles;
 
 pub use buffers::{Answer, Buffers};
 pub use card::{BLOCK_BYTES, BLOCK_RECORDS, Card, Next, append_blocks, next_block, write_card};
 pub use islands::Islands;
+pub use lists::{Lists, OwnLinks};
 pub use mesh::{MOST_FACES, MOST_SLOTS, Mesh, Place, corners, slots, takes_slots};
+pub use objection::{List, Objection};
 pub use packed::{PACKED_NUMBERS, Packed, pack, unpack};
 pub use reading::{Frame, Reading, Record};
 pub use refusal::{CardRefusal, PackRefusal, Refusal};
+pub use triangles::{Side, Triangle, triangles};
 
 /// The programs of docs/PROGRAMMERS.md, compiled and run.
 #[cfg(doctest)]

@@ -19,7 +19,7 @@ pub enum Refusal {
     AnswerTooShort,
     /// 6: the work list is too short.
     WorkTooShort,
-    /// 9: a list of the islands' own is too short.
+    /// 9: a list that the call takes besides is too short.
     OwnTooShort,
     /// A number that this crate does not know: the archive is newer.
     Unknown { number: u32, place: u32 },
@@ -82,7 +82,7 @@ impl Refusal {
             Refusal::AnswerTooShort => "lend ten words for each corner of a face of 3 or 4",
             Refusal::WorkTooShort => "lend 128 words for each face",
             Refusal::OwnTooShort => {
-                "lend the lists of the islands at the lengths of docs/PROGRAMMERS.md"
+                "lend the lists that the call takes besides at the lengths of docs/PROGRAMMERS.md"
             }
             Refusal::Unknown { .. } => "use the bindings that came with this archive",
         }
@@ -103,7 +103,7 @@ impl fmt::Display for Refusal {
             Refusal::NotFinite(place) => write!(f, "{place} holds a NaN or an infinity"),
             Refusal::AnswerTooShort => f.write_str("the answer list is too short"),
             Refusal::WorkTooShort => f.write_str("the work list is too short"),
-            Refusal::OwnTooShort => f.write_str("a list of the islands' own is too short"),
+            Refusal::OwnTooShort => f.write_str("a list that the call takes besides is too short"),
             Refusal::Unknown { place, .. } => write!(f, "not known here (place {place})"),
         }
     }

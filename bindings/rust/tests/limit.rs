@@ -77,10 +77,13 @@ impl Faces {
         }
     }
 
-    /// The frames of all slots, made in a thread of little stack. None is absent.
+    /// The frames of all slots, made in a thread of little stack. None is absent. Our own links are accepted there.
     fn frames(&self) -> Vec<Frame> {
         let run = || {
             let mut buffers = Buffers::new();
+            let own = buffers.links(self.mesh()).expect("it is refused");
+            assert!(own.orientations.len() >= MOST_FACES);
+            assert_eq!(buffers.examine(self.mesh(), own.lists()), Ok(()));
             let answer = buffers.frames(self.mesh(), -1.0).expect("it is refused");
             answer
                 .readings()

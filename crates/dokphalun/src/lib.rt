@@ -6,10 +6,13 @@ ghost use Rattle.apart.specs.Call.{lists, Contract as Islands};
 ghost use Rattle.appends.specs.Contract.{Follows, Appends};
 ghost use Rattle.cards.specs.Contract.{Writes, Reads};
 ghost use Rattle.packed.specs.Contract.{Packs, Unpacks};
+ghost use Rattle.examine.specs.Contract.{Examines, Hands};
 use appends::Appended;
 use appends::Next;
 use cards::Found;
 use cards::Written;
+use examine::Examined;
+use examine::Handed;
 use labels::Labelled;
 use mikktspace::Outcome;
 use packed::Packed;
@@ -131,4 +134,56 @@ pub extern "C" fn dokphalun_unpack(numbers: &[u16], answer: &mut [u32]) -> Unpac
     ensures { λ r. ⌜ Unpacks (now (numbers .entry)) (now (answer .entry)) r (now (answer .exit)) ⌝ }
 {
     packed::unpack(numbers, answer)
+}
+
+// See examine::examine.
+#[no_mangle]
+pub extern "C" fn dokphalun_examine(
+    sizes: &[u8],
+    positions: &[f32],
+    normals: &[f32],
+    texture: &[f32],
+    links: &[u32],
+    groups: &[u32],
+    orientations: &[u32],
+    work: &mut [u32],
+) -> Examined
+    ensures { λ r. ⌜ Examines (now (sizes .entry)) (now (positions .entry)) (now (normals .entry)) (now (texture .entry)) (now (links .entry)) (now (groups .entry)) (now (orientations .entry)) (now (work .entry)) r (now (work .exit)) ⌝ }
+{
+    examine::examine(
+        sizes,
+        positions,
+        normals,
+        texture,
+        links,
+        groups,
+        orientations,
+        work,
+    )
+}
+
+// See examine::own_links.
+#[no_mangle]
+pub extern "C" fn dokphalun_links(
+    sizes: &[u8],
+    positions: &[f32],
+    normals: &[f32],
+    texture: &[f32],
+    links: &mut [u32],
+    groups: &mut [u32],
+    orientations: &mut [u32],
+    work: &mut [u32],
+) -> Handed
+    ensures { λ r. ⌜ Hands (now (sizes .entry)) (now (positions .entry)) (now (normals .entry)) (now (texture .entry)) (now (links .entry)) (now (groups .entry)) (now (orientations .entry)) (now (work .entry)) r (now (links .exit)) (now (groups .exit)) (now (orientations .exit)) (now (work .exit)) ⌝ }
+{
+    examine::own_links(
+        sizes,
+        positions,
+        normals,
+        texture,
+        links,
+        groups,
+        orientations,
+        work,
+    )
 }

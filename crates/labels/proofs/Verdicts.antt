@@ -17,7 +17,8 @@ use Rattle.laws.proofs.Verdict.{verdict-numbered}
 use Rattle.desk.specs.Verdict.{told}
 use Rattle.islands.specs.Nine.{nine, afterwards}
 use Rattle.labels.specs.declared.Labelled.{Labelled}
-use Rattle.labels.specs.Labels.{Leaving, left, answered, labelsVerdict, deskVerdict, longestAnswer}
+use Rattle.mikktspace.specs.Alone.{deskVerdict, longestAnswer}
+use Rattle.labels.specs.Labels.{Leaving, left, answered, labelsVerdict}
 
 pub left-same : (r s : Labelled) (l w : List ℕ) → r ≡ s → left r l w ≡ left s l w
 left-same r s l w e = ap (λ x. left x l w) e

@@ -7,23 +7,14 @@ use mathlib.Core.Option.{Option, none, some}
 use lib.Dec.{eqb, ltb}
 use lib.ListN.{length, drop, replicate}
 use lib.Ieee.{Float}
-use Rattle.bits.specs.Single.{zeroᶠ}
-use Rattle.tangent.specs.Slot.{slotWords}
-use Rattle.definition.specs.Limits.{faceLimit, workWords}
+use Rattle.definition.specs.Limits.{workWords}
 use Rattle.definition.specs.Handed.{meshFrom}
-use Rattle.definition.specs.Desk.{Row, verdict}
+use Rattle.definition.specs.Desk.{Row}
+use Rattle.mikktspace.specs.Alone.{deskVerdict}
 use Rattle.islands.specs.Islands.{islandOf}
 use Rattle.islands.specs.Rows.{labelled}
 use Rattle.islands.specs.Nine.{afterwards}
 use Rattle.labels.specs.declared.Labelled.{Labelled}
-
--- the words of the longest answer list that a mesh can need
-abbrev pub longestAnswer : ℕ
-longestAnswer = slotWords * (4 * faceLimit)
-
--- the table for a call that has no threshold and no answer list: it is asked with 0 and the longest one, so that rows 3 and 5 never apply
-abbrev pub deskVerdict : List ℕ → List Float → List Float → List Float → ℕ → Option Row
-deskVerdict sizes ps ns ts work = verdict sizes ps ns ts zeroᶠ longestAnswer work
 
 -- the table, and then 9 where the list for the numbers has fewer than one a face
 unfoldable pub labelsVerdict : List ℕ → List Float → List Float → List Float → ℕ → ℕ → Option Row

@@ -6,13 +6,14 @@ use mathlib.Core.List.{List, [], _∷_}
 use lib.Dec.{eqb}
 use lib.ListN.{length, getD, take}
 use Rattle.table.specs.Table.{cell, put, column}
-use Rattle.table.specs.Loop.{listOf}
+use Rattle.table.specs.Loop.{upTo, listOf}
 use Rattle.table.specs.Columns.{vertexColumn, linkColumn, lowerColumn, higherColumn, orderColumn, spareColumn}
 use Rattle.definition.specs.declared.Triangle.{Triangle}
 use Rattle.definition.specs.Mesh.{Third, after}
 use Rattle.view.specs.Frame.{Only}
 use Rattle.view.specs.Rows.{row}
 use Rattle.view.specs.Weld.{Welds}
+use Rattle.sort.specs.Sort.{SortedPart}
 use Rattle.neighbors.specs.Links.{sameEnds}
 
 -- the row of the corner in which the side of row r ends: the next of the same triangle
@@ -60,3 +61,9 @@ pub record Ordered (ss : List Triangle) (os : List ℕ) (K : ℕ → ℕ) : Type
 -- the columns that step 5 writes
 abbrev pub stepColumns : List ℕ
 stepColumns = linkColumn ∷ orderColumn ∷ higherColumn ∷ lowerColumn ∷ spareColumn ∷ []
+
+-- the sides of so many triangles, put in and sorted, from the list w to v
+pub record Sorted (rows tris : ℕ) (w v : List ℕ) : Type 0 where
+  pub put-in : List ℕ
+  pub is : put-in ≡ upTo (3 * tris) (withSide rows) w
+  pub sorted : SortedPart rows 0 (3 * tris) put-in v

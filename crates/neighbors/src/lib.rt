@@ -31,7 +31,7 @@ struct Cursors {
 }
 
 // A word as an index.
-fn wide(x: u32) -> usize
+pub fn wide(x: u32) -> usize
     ensures { λ r. ⌜ r ≡ x ⌝ }
 {
     x as usize
@@ -66,7 +66,7 @@ fn greatest(a: u32, b: u32) -> u32
 }
 
 // The row of the corner in which the side of row r ends.
-fn end_of(r: usize) -> usize
+pub fn end_of(r: usize) -> usize
     requires { ⌜ r < 4294967295 ⌝ }
     ensures { λ e. ⌜ e ≡ sides.endRow r ⌝ }
 {
@@ -102,6 +102,16 @@ fn put_sides(work: &mut [u32], rows: usize, tris: usize)
     }
 }
 
+// All sides of the triangles in their order, none of them linked.
+pub fn order_sides(work: &mut [u32], rows: usize, tris: usize)
+    requires { ⌜ (3 * tris ≤ rows) × (columns * rows ≤ length (now work)) × (rows < 4294967295) ⌝ }
+    ensures { λ _. ⌜ sides.Sorted rows tris (now (work .entry)) (now (work .exit)) ⌝ }
+{
+    let n = 3 * tris;
+    put_sides(work, rows, tris);
+    sort::sort(work, rows, 0, n);
+}
+
 // ---- linking
 
 // The side at place a of the order.
@@ -113,7 +123,7 @@ fn side_at(work: &[u32], rows: usize, n: usize, a: usize) -> usize
 }
 
 // Whether two sides have the same ends.
-fn same_ends(work: &[u32], rows: usize, s: usize, u: usize) -> bool
+pub fn same_ends(work: &[u32], rows: usize, s: usize, u: usize) -> bool
     requires { ⌜ (s < rows) × (u < rows) × (columns * rows ≤ length (now work)) ⌝ }
     ensures { λ r. ⌜ r ≡ spec.sameEnds rows s u (now (work .entry)) ⌝ }
 {

@@ -6,6 +6,7 @@ pub mod Demand3
 pub mod PublicCall
 pub mod OwnLinks
 pub mod OwnColumns
+pub mod OwnLists
 pub mod TwoWalks
 pub mod NarrowAngles
 pub mod Cosines
@@ -21,3 +22,6 @@ pub mod Directions
 pub mod ClosedFaces
 pub mod Islands
 pub mod Labels
+pub mod Examiner
+pub mod OwnGiven
+pub mod ThreeSides

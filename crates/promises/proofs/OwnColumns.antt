@@ -1,8 +1,8 @@
 -- Request E11 of the columns: from what they stand for. Assumes nothing.
-use Prim.Native.Nat.{ℕ, zero, suc, _*_, _+_, _-_, _/_, _≤_, _<_}
+use Prim.Native.Nat.{ℕ, zero, suc, _*_, _+_, _-_, _/_, _%_, _≤_, _<_}
 use native.Mathlib.Omega.{arith}
 use mathlib.Core.Path.{_≡_, refl, sym, ap, _∙_, subst}
-use mathlib.Core.Bool.{true, false, not, _&&_, true≢false}
+use mathlib.Core.Bool.{Bool, true, false, not, _&&_, true≢false}
 use mathlib.Core.List.{List, [], _++_, _∷_, List·Memᴰ, List·Memᴰ·head, List·Memᴰ·tail}
 use mathlib.Core.Option.{Option, none, some, Option·some-injective, Option·none-ne-some}
 use lib.ListN.{length, getD, take, drop, length-append, List·getD-append}
@@ -14,7 +14,7 @@ use Rattle.table.specs.Table.{cell}
 use Rattle.table.specs.Columns.{rowsOf, orientationColumn, anyColumn, vertexColumn, linkColumn, groupColumn, metColumn, beginColumn}
 use Rattle.definition.specs.declared.Corner.{Corner}
 use Rattle.definition.specs.declared.Triangle.{Triangle}
-use Rattle.definition.specs.Handed.{cornerAt, meshFrom}
+use Rattle.definition.specs.Handed.{meshFrom}
 use Rattle.definition.specs.Triangles.{triangles}
 use Rattle.definition.specs.Frames.{numbered}
 use Rattle.definition.specs.Mesh.{Third, one, two, three, kept, Spot, after, before, next, prior, cornerOf, sameSpot, sameTriangle}
@@ -23,7 +23,7 @@ use Rattle.definition.specs.Step5Links.{endOf, opposite, links, beyond}
 use Rattle.definition.specs.Step6Groups.{Mark, marks, cornerIn, overTo, over}
 use Rattle.laws.proofs.Closed.{links-sound}
 use Rattle.laws.proofs.Laws as laws
-use Rattle.laws.proofs.Laws.{mark, some-triangle, tri-refl}
+use Rattle.laws.proofs.Laws.{mark, tri-refl}
 use Rattle.laws.proofs.Reached.{facing-own}
 use Rattle.laws.proofs.Part.{Every, every-nil, every-cons}
 use Rattle.laws.proofs.Sharp as one-triangle
@@ -33,7 +33,7 @@ use Rattle.laws.proofs.Mutual.{Names}
 use Rattle.bits.proofs.Bools.{and-left, and-right}
 use Rattle.laws.proofs.Closed.{first-found, each-map}
 use Rattle.laws.proofs.Enough.{spot-refl}
-use Rattle.view.specs.Rows.{row, spotAt}
+use Rattle.view.specs.Rows.{row, third, spotAt}
 use Rattle.view.specs.Weld.{Welds, Sharp}
 use Rattle.view.specs.Links.{LinkWord, nowhere, towards, Linked}
 use Rattle.view.specs.Groups.{numberOf, Grouping}
@@ -41,14 +41,15 @@ use Rattle.view.proofs.Records.{flag-same}
 use Rattle.view.proofs.Frame.{cell-kept}
 use Rattle.view.proofs.Weld.{welds, sound-welds, vertices-kept}
 use Rattle.view.proofs.Lists.{every-index, index-every}
-use Rattle.view.proofs.Rows.{row-inj, at-inj, row-lt, row-div, spot-row, spot-in}
+use Rattle.view.proofs.Rows.{row-inj, at-inj, row-is, tri-lt, row-lt, row-div, spot-row, spot-in}
 use Rattle.grouped.specs.declared.Counts.{Counts}
 use Rattle.grouped.specs.Grouped.{groupedColumns, Six}
 use Rattle.members.proofs.Ordering.{member-of}
+use Rattle.asked.specs.Meaning.{wayOf}
 use Rattle.promises.specs.OwnLinks as own
 use Rattle.promises.specs.OwnLinks.{OfLinks, OfGroups, Joined, after as over-after, before as over-before}
 use Rattle.promises.proofs.OwnLinks.{of-links, of-groups}
-use Rattle.promises.specs.OwnColumns.{Promised, Leads, LinkWords, Together, GroupWords, MetFrom, start, member, member-before}
+use Rattle.promises.specs.OwnColumns.{Promised, Leads, LinkWords, Together, GroupWords, MetFrom, start, member, member-before, Besides, OwnWords}
 
 -- ---- links
 
@@ -112,6 +113,10 @@ getD-mem : {X : Type 0} (l : List X) (d : X) (i : ℕ) → i < length l → List
 getD-mem [] d i h = absurd (omega arith)
 getD-mem (x ∷ l) d zero h = List·Memᴰ·head refl
 getD-mem (x ∷ l) d (suc i) h = List·Memᴰ·tail (getD-mem l d i (omega arith))
+
+-- one corner has one row
+pub same-row : (ss : List Triangle) (d : Triangle) → Names ss → (t u : ℕ) (i j : Third) → t < length ss → u < length ss → spotAt ss d t i ≡ spotAt ss d u j → row t i ≡ row u j
+same-row ss d N t u i j h k e = eqb-true (row t i) (row u j) (sym (spot-row N d t u i j h k) ∙ (ap (λ s. sameSpot s (spotAt ss d u j)) e ∙ spot-refl (spotAt ss d u j)))
 
 module _ (rows : ℕ) (ss : List Triangle) (d : Triangle) (groups : ℕ) (w : List ℕ) (N : Names ss) (S : Sharp ss d) (W : Welds rows ss d w) (K : Linked rows ss d (links ss) w) (L : OfLinks ss) (H : OfGroups ss)
     (G : Grouping rows ss d (marks ss (links ss)) groups w) (any : (t : ℕ) → t < length ss → cell rows anyColumn t w ≡ flag (getD ss t d .any)) where
@@ -231,9 +236,6 @@ module _ (rows : ℕ) (ss : List Triangle) (d : Triangle) (groups : ℕ) (w : Li
   named o x nowhere b e = absurd (Option·none-ne-some b e)
   named o x (towards v k g) b e = record { tri = v; at = k; below = g; is = Option·some-injective (spotAt ss d v k) b e; word = refl }
 
-  same-row : (t u : ℕ) (i j : Third) → t < length ss → u < length ss → spotAt ss d t i ≡ spotAt ss d u j → row t i ≡ row u j
-  same-row t u i j h k e = eqb-true (row t i) (row u j) (sym (spot-row N d t u i j h k) ∙ (ap (λ s. sameSpot s (spotAt ss d u j)) e ∙ spot-refl (spotAt ss d u j)))
-
   same-index : (t u : ℕ) → t < length ss → u < length ss → getD ss t d ≡ getD ss u d → t ≡ u
   same-index t u h k e = eqb-true t u (sym (index-same N t u d h k) ∙ (ap (λ x. sameTriangle x (getD ss u d)) e ∙ tri-refl (getD ss u d)))
 
@@ -246,7 +248,7 @@ module _ (rows : ℕ) (ss : List Triangle) (d : Triangle) (groups : ℕ) (w : Li
       let b : ℕ = cell rows beginColumn q w in
       let B = G .member b e₀ (G .begun q l) in
       let s : getD ms b e₀ .spot ≡ getD ms j e₀ .spot = G .start q e₀ l ∙ (G .one-start b j e₀ (G .begun q l) h (G .number q l ∙ sym n) ∙ sym e) in
-      start (B .member ∙ (same-row (B .tri) (M .tri) (B .at) (M .at) (B .inside) (M .inside) (sym (B .is) ∙ (s ∙ M .is)) ∙ sym (M .member)))
+      start (B .member ∙ (same-row ss d N (B .tri) (M .tri) (B .at) (M .at) (B .inside) (M .inside) (sym (B .is) ∙ (s ∙ M .is)) ∙ sym (M .member)))
 
   -- a link of a side of the earlier member p, at row r, to a side of member j's triangle
   crossed : (j p t : ℕ) (i : Third) → (h : j < length ms) → t < length ss → (c : Corner) → over (links ss) c (spotAt ss d t i) ≡ some (getD ms j e₀ .spot) → (q : ℕ) × Leads rows w (row t i) q × (q / 3 ≡ cell rows metColumn j w / 3)
@@ -297,13 +299,13 @@ module _ (rows : ℕ) (sizes : List ℕ) (ps ns ts : List Float) (xs : List Tria
   few : length ss ≤ length ys
   few = omega (arith, length-append ss (broken xs))
 
-  welded-words : Welds rows ss d u
+  pub welded-words : Welds rows ss d u
   welded-words = sound-welds rows ss (broken xs) d u (welds rows ys d u (vertices-kept groupedColumns rows ys d (six .linked) u refl (room) (six .only) (six .five .vertices)))
 
-  linked-words : Linked rows ss d (links ss) u
+  pub linked-words : Linked rows ss d (links ss) u
   linked-words t i h = subst (LinkWord ss d (beyond (links ss) (spotAt ss d t i))) (sym (cell-kept groupedColumns rows (six .linked) u (six .only) linkColumn (row t i) refl (omega (arith, row-lt t (length ss) i h, room, few)))) (six .five .linked t i h)
 
-  any-words : (t : ℕ) → t < length ss → cell rows anyColumn t u ≡ flag (getD ss t d .any)
+  pub any-words : (t : ℕ) → t < length ss → cell rows anyColumn t u ≡ flag (getD ss t d .any)
   any-words t h =
       let k : t < length ys = omega (arith, few) in
       cell-kept groupedColumns rows (six .linked) u (six .only) anyColumn t refl (omega (arith, room)) ∙ (six .five .held t k .loose ∙ ap (λ x. flag (x .any)) (List·getD-append ss (broken xs) d t h))
@@ -312,17 +314,84 @@ module _ (rows : ℕ) (sizes : List ℕ) (ps ns ts : List Float) (xs : List Tria
   unfolding cornerOf kept after
   sharp = index-every one-triangle.Sharp ss d (λ t h. record { ab = six .five .sharp .apart t one h; bc = six .five .sharp .apart t two h; ca = six .five .sharp .apart t three h })
 
-  pub both : c .sound ≡ length ss → LinkWords rows (c .sound) u × GroupWords rows (c .sound) (c .members) u
-  both e =
+  -- ---- besides
+
+  -- links in range
+  word-range : (o : Option Spot) (x : ℕ) → LinkWord ss d o x → x ≤ 3 * length ss
+  word-range o x nowhere = omega arith
+  word-range o x (towards v k h) = omega (arith, row-lt v (length ss) k h)
+
+  range : (r : ℕ) → r < 3 * length ss → cell rows linkColumn r u ≤ 3 * length ss
+  range r h = subst (λ x. cell rows linkColumn x u ≤ 3 * length ss) (row-is r) (word-range _ _ (linked-words (r / 3) (third (r % 3)) (tri-lt r (length ss) h)))
+
+  -- three vertices
+  apart : (t : ℕ) (i : Third) → t < length ss → cell rows vertexColumn (row t i) u ≡ cell rows vertexColumn (row t (after i)) u → ⊥
+  apart t i h e = true≢false (sym (eq-eqb _ _ e) ∙ (welded-words t t i (after i) h h ∙ six .five .sharp .apart t i h))
+
+  one-third : (t : ℕ) (i j : Third) → t < length ss → cell rows vertexColumn (row t i) u ≡ cell rows vertexColumn (row t j) u → i ≡ j
+  unfolding after
+  one-third t one one h e = refl
+  one-third t one two h e = absurd (apart t one h e)
+  one-third t one three h e = absurd (apart t three h (sym e))
+  one-third t two one h e = absurd (apart t one h (sym e))
+  one-third t two two h e = refl
+  one-third t two three h e = absurd (apart t two h e)
+  one-third t three one h e = absurd (apart t three h e)
+  one-third t three two h e = absurd (apart t two h (sym e))
+  one-third t three three h e = refl
+
+  sharp-words : (r q : ℕ) → r < 3 * length ss → q < 3 * length ss → r / 3 ≡ q / 3 → cell rows vertexColumn r u ≡ cell rows vertexColumn q u → r ≡ q
+  sharp-words r q h k e v =
+      let s : row (r / 3) (third (q % 3)) ≡ q = ap (λ t. row t (third (q % 3))) e ∙ row-is q in
+      let i = one-third (r / 3) (third (r % 3)) (third (q % 3)) (tri-lt r (length ss) h) (ap (λ x. cell rows vertexColumn x u) (row-is r) ∙ (v ∙ ap (λ x. cell rows vertexColumn x u) (sym s))) in
+      sym (row-is r) ∙ (ap (row (r / 3)) i ∙ s)
+
+  flag-le : (b : Bool) → flag b ≤ 1
+  unfolding flag
+  flag-le true = omega arith
+  flag-le false = omega arith
+
+  abbrev G : Grouping rows ss d (marks ss (links ss)) (c .groups) u
+  G = six .grouping
+
+  met-at : (j : ℕ) → j < c .members → j < length (marks ss (links ss))
+  met-at j h = subst (λ m. j < m) (six .members) h
+
+  e₁ : Mark
+  e₁ = mark (spotAt ss d 0 one) (spotAt ss d 0 one)
+
+  loose : (t : ℕ) → t < length ss → cell rows anyColumn t u ≡ 0 → getD ss t d .any ≡ false
+  unfolding flag
+  loose t h e = flag-same (getD ss t d .any) false (sym (any-words t h) ∙ e)
+
+  besides : Besides rows (length ss) (c .members) (wayOf ss d) u
+  besides =
+      record {
+        range = range;
+        sharp = sharp-words;
+        flags = λ t h. subst (λ x. x ≤ 1) (sym (G .way t h)) (flag-le _);
+        keeps = λ t h e. G .way t h ∙ ap flag (facing-own (marks ss (links ss)) (getD ss t d) (getD ss t d .orientation) (loose t h e));
+        below = λ j h. let M = G .member j e₁ (met-at j h) in subst (λ x. x < 3 * length ss) (sym (M .member)) (row-lt (M .tri) (length ss) (M .at) (M .inside));
+        some = λ j h z. let M = G .member j e₁ (met-at j h) in omega (arith, M .some, z);
+        is-member = λ r h ne. let m = member-of rows ss d (c .groups) u (links ss) (links-sound ss) (six .five .names) G r h ne in (m .0, subst (λ k. m .0 < k) (sym (six .members)) (m .1), m .2);
+        begins = λ j h.
+            let M = G .member j e₁ (met-at j h) in
+            let b = G .begun (numberOf rows u j - 1) (omega (arith, M .some, M .known)) in
+            subst (λ k. cell rows beginColumn (numberOf rows u j - 1) u < k) (sym (six .members)) b;
+      }
+
+  pub own-words : c .sound ≡ length ss → OwnWords rows (c .sound) (c .members) (wayOf ss d) u
+  own-words e =
       let N = six .five .names in
       let A = of-links ss N sharp in
-      let B = of-groups ss N sharp in (
-        subst (λ n. LinkWords rows n u) (sym e) (link-words rows ss d u N welded-words linked-words A),
-        subst (λ n. GroupWords rows n (c .members) u) (sym e) (subst (λ n. GroupWords rows (length ss) n u) (sym (six .members)) (group-words rows ss d (c .groups) u N (six .five .sharp) welded-words linked-words A B (six .grouping) any-words)),
-      )
+      let B = of-groups ss N sharp in
+      subst (λ n. OwnWords rows n (c .members) (wayOf ss d) u) (sym e)
+      (record {
+        links = link-words rows ss d u N welded-words linked-words A;
+        groups = subst (λ n. GroupWords rows (length ss) n u) (sym (six .members)) (group-words rows ss d (c .groups) u N (six .five .sharp) welded-words linked-words A B (six .grouping) any-words);
+        besides = besides;
+      })
 
 pub own-columns : Promised
 unfolding Promised
-own-columns sizes ps ns ts c w u l good =
-    let d = some-triangle (cornerAt ps ns ts 0) in
-    both (rowsOf (length sizes)) sizes ps ns ts (triangles (numbered 0 (meshFrom ps ns ts 0 sizes))) d c u (l .stands good d) (l .fits) (l .sound-count)
+own-columns sizes ps ns ts c w u l good d = own-words (rowsOf (length sizes)) sizes ps ns ts (triangles (numbered 0 (meshFrom ps ns ts 0 sizes))) d c u (l .stands good d) (l .fits) (l .sound-count)

@@ -17,3 +17,5 @@ pub mod Directions
 pub mod ClosedFaces
 pub mod Islands
 pub mod Labels
+pub mod Examiner
+pub mod ThreeSides

@@ -1,5 +1,5 @@
 -- Request E11 once more, of the words that steps 1 to 6 leave in the work list w: the first n triangles are the sound ones, in columns of so many rows. Definitions only.
-use Prim.Native.Nat.{ℕ, suc, _-_, _/_, _<_}
+use Prim.Native.Nat.{ℕ, suc, _*_, _-_, _/_, _≤_, _<_}
 use mathlib.Core.Path.{_≡_}
 use mathlib.Core.Option.{none}
 use mathlib.Core.List.{List}
@@ -7,15 +7,18 @@ use lib.ListN.{length}
 use lib.Ieee.{Float}
 use Rattle.table.specs.Table.{cell}
 use Rattle.table.specs.Columns.{rowsOf, orientationColumn, anyColumn, vertexColumn, linkColumn, groupColumn, metColumn, beginColumn}
+use Rattle.definition.specs.declared.Triangle.{Triangle}
 use Rattle.definition.specs.Handed.{meshFrom}
 use Rattle.definition.specs.Desk.{badCorner}
 use Rattle.definition.specs.Frames.{numbered}
 use Rattle.definition.specs.Triangles.{triangles}
 use Rattle.definition.specs.Mesh.{Third, after, before}
+use Rattle.definition.specs.Step4Order.{sound}
 use Rattle.view.specs.Rows.{row}
 use Rattle.view.specs.Groups.{numberOf}
 use Rattle.grouped.specs.declared.Counts.{Counts}
 use Rattle.grouped.specs.Grouped.{Left}
+use Rattle.asked.specs.Meaning.{wayOf}
 
 -- the side at row r is linked with the side at row q
 abbrev pub Leads : ℕ → List ℕ → ℕ → ℕ → Type 0
@@ -58,6 +61,28 @@ pub record GroupWords (rows n count : ℕ) (w : List ℕ) : Type 0 where
   -- every group is connected
   pub connected : (j : ℕ) → j < count → MetFrom rows w j
 
--- the promise: of whatever steps 1 to 6 leave (the contract of `grouped::group_mesh`), where refusal 4 does not catch the lists
+-- what the columns say besides, so that they are lists as request E10 asks for them; way: the orientations of step 3
+pub record Besides (rows n count : ℕ) (way : ℕ → ℕ) (w : List ℕ) : Type 0 where
+  -- links name sides of the triangles
+  pub range : (r : ℕ) → r < 3 * n → cell rows linkColumn r w ≤ 3 * n
+  -- a triangle's corners have three vertices
+  pub sharp : (r q : ℕ) → r < 3 * n → q < 3 * n → r / 3 ≡ q / 3 → cell rows vertexColumn r w ≡ cell rows vertexColumn q w → r ≡ q
+  -- orientations are 0 or 1, and those of triangles that aren't `group_with_any` are step 3's
+  pub flags : (t : ℕ) → t < n → cell rows orientationColumn t w ≤ 1
+  pub keeps : (t : ℕ) → t < n → cell rows anyColumn t w ≡ 0 → cell rows orientationColumn t w ≡ way t
+  -- members are corners of the triangles, in groups, and each corner that is in a group is a member
+  pub below : (j : ℕ) → j < count → cell rows metColumn j w < 3 * n
+  pub some : (j : ℕ) → j < count → numberOf rows w j ≡ 0 → ⊥
+  pub is-member : (r : ℕ) → r < 3 * n → (cell rows groupColumn r w ≡ 0 → ⊥) → (j : ℕ) × (j < count) × (cell rows metColumn j w ≡ r)
+  -- each group begins at one of its members
+  pub begins : (j : ℕ) → j < count → cell rows beginColumn (numberOf rows w j - 1) w < count
+
+-- all of it, of n sound triangles and so many members; way: the orientations of step 3
+pub record OwnWords (rows n count : ℕ) (way : ℕ → ℕ) (w : List ℕ) : Type 0 where
+  pub links : LinkWords rows n w
+  pub groups : GroupWords rows n count w
+  pub besides : Besides rows n count way w
+
+-- the promise: of whatever steps 1 to 6 leave (the contract of `grouped::group_mesh`), where refusal 4 does not catch the lists; d is any triangle, for numbers past the last
 unfoldable pub Promised : Type 0
-Promised = (sizes : List ℕ) (ps ns ts : List Float) (c : Counts) (w u : List ℕ) → Left sizes ps ns ts (triangles (numbered 0 (meshFrom ps ns ts 0 sizes))) c w u → badCorner 0 (meshFrom ps ns ts 0 sizes) ≡ none → LinkWords (rowsOf (length sizes)) (c .sound) u × GroupWords (rowsOf (length sizes)) (c .sound) (c .members) u
+Promised = (sizes : List ℕ) (ps ns ts : List Float) (c : Counts) (w u : List ℕ) → Left sizes ps ns ts (triangles (numbered 0 (meshFrom ps ns ts 0 sizes))) c w u → badCorner 0 (meshFrom ps ns ts 0 sizes) ≡ none → (d : Triangle) → OwnWords (rowsOf (length sizes)) (c .sound) (c .members) (wayOf (sound (triangles (numbered 0 (meshFrom ps ns ts 0 sizes)))) d) u

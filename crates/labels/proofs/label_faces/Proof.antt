@@ -11,7 +11,8 @@ use lib.ListN.{length}
 use Rattle.bits.specs.Single.{zeroᶠ}
 use Rattle.definition.specs.Desk.{Row}
 use Rattle.mikktspace.proofs.Verdicts.{no-refusal}
-use Rattle.labels.specs.Labels.{Leaving, left, answered, acceptedLabels, deskVerdict, labelsVerdict, labelsOutcome, longestAnswer}
+use Rattle.mikktspace.specs.Alone.{deskVerdict, longestAnswer}
+use Rattle.labels.specs.Labels.{Leaving, left, answered, acceptedLabels, labelsVerdict, labelsOutcome}
 use Rattle.labels.proofs.Verdicts.{left-same, refused, too-short, passes}
 use Rattle.labels.proofs.label_faces.Statement.{statement}
 use Rattle.labels.proofs.label_faces.Tie as tie

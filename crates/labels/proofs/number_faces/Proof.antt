@@ -9,7 +9,8 @@ use Rattle.bits.specs.Single.{zeroᶠ}
 use Rattle.table.specs.Columns.{columns, rowsOf}
 use Rattle.laws.proofs.Verdict.{fine}
 use Rattle.mikktspace.proofs.Verdicts.{cleared-past}
-use Rattle.labels.specs.Labels.{left, acceptedLabels, longestAnswer}
+use Rattle.mikktspace.specs.Alone.{longestAnswer}
+use Rattle.labels.specs.Labels.{left, acceptedLabels}
 use Rattle.labels.proofs.Counting.{counts-islands, labels-length}
 use Rattle.labels.proofs.Verdicts.{passed-labels}
 use Rattle.labels.proofs.number_faces.Statement.{statement}

@@ -1,0 +1,4 @@
+pub mod Fronts
+pub mod Deciding
+pub mod Columns
+pub mod Results

@@ -1,0 +1,85 @@
+-- `examine::own_links` meets its contract. Assumes nothing.
+use Prim.Native.Nat.{ℕ, _*_, _≤_}
+use mathlib.Core.Path.{_≡_, refl, sym, ap, _∙_}
+use denote.Ref.{now}
+use lib.ListN.{length}
+use Rattle.bits.specs.Single.{zeroᶠ}
+use Rattle.desk.specs.declared.Verdict.{Verdict}
+use Rattle.laws.proofs.Verdict.{fine}
+use Rattle.mikktspace.proofs.Verdicts.{no-refusal}
+use Rattle.mikktspace.specs.Alone.{longestAnswer as longest}
+use Rattle.examine.proofs.Results.{hands-refused, hands-short, hands-given, long-enough}
+use borrow.Author.Needs.{needs}
+use Rattle.examine.proofs.own_links.Statement.{statement}
+use Rattle.examine.proofs.own_links.Tie as tie
+
+ask-requires : tie.Need-ask-requires
+ask-requires c κs = search needs
+
+returns : tie.Need-returns
+returns c =
+    let j = c .before .before in
+    let t = j .before .before .before .before .before .before .before .before .before .args in
+    hands-refused (now (t .sizes)) (now (t .positions)) (now (t .normals)) (now (t .«tex-coords»)) (now (t .links)) (now (t .groups)) (now (t .orientations)) (now (t .work)) _ _ (j .ask .ensures) (c .if1 .taken) refl
+
+short-requires : tie.Need-short-requires
+short-requires c κs =
+    let i = c in
+    let j = i .before .before in
+    let t = j .before .before .before .before .before .before .before .before .before .args in
+    fine (now (t .sizes)) (now (t .positions)) (now (t .normals)) (now (t .«tex-coords»)) zeroᶠ longest (length (now (t .work))) (no-refusal (now (t .sizes)) (now (t .positions)) (now (t .normals)) (now (t .«tex-coords»)) zeroᶠ longest (length (now (t .work))) (sym (ap (λ (x : Verdict). x .number) (j .ask .ensures)) ∙ i .if1 .left)) .few
+
+returns-2 : tie.Need-returns-2
+returns-2 c =
+    let h = c .before in
+    let i = h .before in
+    let j = i .before .before in
+    let t = j .before .before .before .before .before .before .before .before .before .args in
+    hands-short (now (t .sizes)) (now (t .positions)) (now (t .normals)) (now (t .«tex-coords»)) (now (t .links)) (now (t .groups)) (now (t .orientations)) (now (t .work)) _ (h .short .ensures) (no-refusal (now (t .sizes)) (now (t .positions)) (now (t .normals)) (now (t .«tex-coords»)) zeroᶠ longest (length (now (t .work))) (sym (ap (λ (x : Verdict). x .number) (j .ask .ensures)) ∙ i .if1 .left)) _ (c .if2 .taken) refl
+
+hand-out-requires : tie.Need-hand-out-requires
+hand-out-requires c κs =
+    let k = c .before .before .before .before in
+    let h = k .before in
+    let i = h .before in
+    let j = i .before .before in
+    let t = j .before .before .before .before .before .before .before .before .before .args in
+    let l = long-enough _ _ _ _ (sym (h .short .ensures) ∙ k .if2 .left) in
+    (no-refusal (now (t .sizes)) (now (t .positions)) (now (t .normals)) (now (t .«tex-coords»)) zeroᶠ longest (length (now (t .work))) (sym (ap (λ (x : Verdict). x .number) (j .ask .ensures)) ∙ i .if1 .left), l .0, l .1, l .2)
+
+same-length : tie.Need-same-length
+same-length c = search needs
+
+same-length-2 : tie.Need-same-length-2
+same-length-2 c = search needs
+
+same-length-3 : tie.Need-same-length-3
+same-length-3 c = search needs
+
+same-length-4 : tie.Need-same-length-4
+same-length-4 c = search needs
+
+returns-3 : tie.Need-returns-3
+returns-3 c =
+    let d = c .before .before .before .before .before .before .before .before in
+    let k = d .before .before .before .before .before in
+    let h = k .before in
+    let i = h .before in
+    let j = i .before .before in
+    let t = j .before .before .before .before .before .before .before .before .before .args in
+    hands-given (now (t .sizes)) (now (t .positions)) (now (t .normals)) (now (t .«tex-coords»)) (now (t .links)) (now (t .groups)) (now (t .orientations)) (now (t .work)) _ (h .short .ensures) (no-refusal (now (t .sizes)) (now (t .positions)) (now (t .normals)) (now (t .«tex-coords»)) zeroᶠ longest (length (now (t .work))) (sym (ap (λ (x : Verdict). x .number) (j .ask .ensures)) ∙ i .if1 .left)) _ _ _ _ _ (k .if2 .left) (record { number = refl; place = refl; handed = d .hand-out .ensures })
+
+pub own-links-spec : {M : Type 1} → statement M
+own-links-spec =
+    tie.close
+    (tie.spec
+    ask-requires
+    returns
+    short-requires
+    returns-2
+    hand-out-requires
+    same-length
+    same-length-2
+    same-length-3
+    same-length-4
+    returns-3)

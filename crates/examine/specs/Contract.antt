@@ -1,0 +1,108 @@
+-- What the two calls of request E10 promise, for every input whatever: face sizes, positions ps, normals ns, texture coordinates ts; links L, groups G, orientations O; the work list w. Definitions only.
+use Prim.Native.Nat.{ℕ, _*_}
+use mathlib.Core.Path.{_≡_}
+use mathlib.Core.Bool.{Bool, true, false, _||_}
+use mathlib.Core.List.{List, _++_}
+use mathlib.Core.Option.{Option, none, some}
+use lib.Dec.{ltb}
+use lib.ListN.{length, drop, replicate}
+use lib.Seq.{sets}
+use lib.Ieee.{Float}
+use Rattle.table.specs.Table.{cell}
+use Rattle.table.specs.Loop.{listOf}
+use Rattle.table.specs.Columns.{rowsOf, orientationColumn, linkColumn, groupColumn}
+use Rattle.definition.specs.declared.Triangle.{Triangle}
+use Rattle.definition.specs.Limits.{workWords}
+use Rattle.definition.specs.Handed.{meshFrom}
+use Rattle.definition.specs.Desk.{Row}
+use Rattle.definition.specs.Frames.{numbered}
+use Rattle.definition.specs.Triangles.{triangles}
+use Rattle.definition.specs.Step4Order.{sound}
+use Rattle.mikktspace.specs.Alone.{deskVerdict}
+use Rattle.grouped.specs.declared.Counts.{Counts}
+use Rattle.grouped.specs.Grouped.{Left}
+use Rattle.asked.specs.Groups.{Connected}
+use Rattle.asked.specs.Meaning.{Examines as On}
+use Rattle.examine.specs.declared.Examined.{Examined}
+use Rattle.examine.specs.declared.Handed.{Handed}
+
+-- what the desk says, asked with a threshold of 0 and as long an answer list as there can be; the work list has so many words
+abbrev pub refusal : List ℕ → List Float → List Float → List Float → ℕ → Option Row
+refusal sizes ps ns ts work = deskVerdict sizes ps ns ts work
+
+-- all triangles of the mesh, and the sound ones
+abbrev pub trianglesOf : List ℕ → List Float → List Float → List Float → List Triangle
+trianglesOf sizes ps ns ts = triangles (numbered 0 (meshFrom ps ns ts 0 sizes))
+
+abbrev pub soundOf : List ℕ → List Float → List Float → List Float → List Triangle
+soundOf sizes ps ns ts = sound (trianglesOf sizes ps ns ts)
+
+-- the work list with its first 128 words a face set to zero
+abbrev pub clearedFor : List ℕ → List ℕ → List ℕ
+clearedFor sizes w = replicate (workWords * length sizes) 0 ++ drop (workWords * length sizes) w
+
+-- ---- the examiner
+
+-- number and place are the verdict on the lists L, G and O of the sound triangles ss; d is any triangle, and stands for numbers past the last. Where the verdict is 0 every group is connected
+pub record Decides (ss : List Triangle) (L G O : List ℕ) (number place : ℕ) : Type 0 where
+  pub verdict : (d : Triangle) → On ss d L G O number place
+  pub connected : number ≡ 0 → Connected (length ss) L G
+
+-- a refusal: its number and place, nothing is altered
+pub record Refused (x : Row) (w : List ℕ) (r : Examined) (u : List ℕ) : Type 0 where
+  pub number : r .refusal ≡ x .number
+  pub none : r .objection ≡ 0
+  pub place : r .place ≡ x .place
+  pub work : u ≡ w
+
+-- no refusal: the verdict, and the work list is cleared
+pub record Decided (sizes : List ℕ) (ps ns ts : List Float) (L G O w : List ℕ) (r : Examined) (u : List ℕ) : Type 0 where
+  pub number : r .refusal ≡ 0
+  pub decides : Decides (soundOf sizes ps ns ts) L G O (r .objection) (r .place)
+  pub work : u ≡ clearedFor sizes w
+
+-- the contract of `examine`, which returns r and leaves the work list as u
+pub record Examines (sizes : List ℕ) (ps ns ts : List Float) (L G O w : List ℕ) (r : Examined) (u : List ℕ) : Type 0 where
+  pub refused : (x : Row) → refusal sizes ps ns ts (length w) ≡ some x → Refused x w r u
+  pub decided : refusal sizes ps ns ts (length w) ≡ none → Decided sizes ps ns ts L G O w r u
+
+-- ---- our own lists
+
+-- 9: a list of links or groups has less than six words a face, or one of orientations less than two
+unfoldable pub tooShort : ℕ → ℕ → ℕ → ℕ → Bool
+tooShort faces links groups orientations = ltb links (6 * faces) || ltb groups (6 * faces) || ltb orientations (2 * faces)
+
+-- the words of a column at the rows below n, at the front of a list
+abbrev pub front : ℕ → ℕ → ℕ → List ℕ → List ℕ → List ℕ
+front rows k n v list = sets list 0 (listOf n (λ i. cell rows k i v))
+
+-- the lists are what steps 1 to 6 leave in the columns of the work list, from w to v, before it is cleared
+pub record HandedOut (sizes : List ℕ) (ps ns ts : List Float) (L G O w : List ℕ) (n : ℕ) (L′ G′ O′ u : List ℕ) : Type 0 where
+  pub counts : Counts
+  pub v : List ℕ
+  pub left : Left sizes ps ns ts (trianglesOf sizes ps ns ts) counts w v
+  pub sound : n ≡ counts .sound
+  pub links : L′ ≡ front (rowsOf (length sizes)) linkColumn (3 * counts .sound) v L
+  pub groups : G′ ≡ front (rowsOf (length sizes)) groupColumn (3 * counts .sound) v G
+  pub ways : O′ ≡ front (rowsOf (length sizes)) orientationColumn (counts .sound) v O
+  pub work : u ≡ clearedFor sizes w
+
+-- a refusal of this number and place: nothing is altered
+pub record Withheld (number place : ℕ) (L G O w : List ℕ) (r : Handed) (L′ G′ O′ u : List ℕ) : Type 0 where
+  pub is : r ≡ record { number = number; place = place; sound = 0 }
+  pub links : L′ ≡ L
+  pub groups : G′ ≡ G
+  pub ways : O′ ≡ O
+  pub work : u ≡ w
+
+-- acceptance: 0, 0 and the number of sound triangles
+pub record Given (sizes : List ℕ) (ps ns ts : List Float) (L G O w : List ℕ) (r : Handed) (L′ G′ O′ u : List ℕ) : Type 0 where
+  pub number : r .number ≡ 0
+  pub place : r .place ≡ 0
+  pub handed : HandedOut sizes ps ns ts L G O w (r .sound) L′ G′ O′ u
+
+-- the contract of `own_links`, which returns r and leaves the lists as L′, G′, O′ and u
+pub record Hands (sizes : List ℕ) (ps ns ts : List Float) (L G O w : List ℕ) (r : Handed) (L′ G′ O′ u : List ℕ) : Type 0 where
+  pub refused : (x : Row) → refusal sizes ps ns ts (length w) ≡ some x → Withheld (x .number) (x .place) L G O w r L′ G′ O′ u
+  pub short : refusal sizes ps ns ts (length w) ≡ none → tooShort (length sizes) (length L) (length G) (length O) ≡ true → Withheld 9 0 L G O w r L′ G′ O′ u
+  pub given : refusal sizes ps ns ts (length w) ≡ none → tooShort (length sizes) (length L) (length G) (length O) ≡ false → Given sizes ps ns ts L G O w r L′ G′ O′ u

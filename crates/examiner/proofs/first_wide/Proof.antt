@@ -1,0 +1,44 @@
+-- `examiner::first_wide` meets its contract. Assumes nothing.
+use Prim.Native.Nat.{_+_, _-_, _≤_, _<_}
+use native.Mathlib.Omega.{arith}
+use Rattle.asked.specs.Lowest.{None}
+use Rattle.asked.specs.Links.{Wide}
+use Rattle.asked.proofs.Rows.{none-zero, none-more, lowest-here, lowest-end}
+use Rattle.examiner.proofs.first_wide.Statement.{statement}
+use Rattle.examiner.proofs.first_wide.Tie as tie
+
+abbrev Inv-loop : tie.InvT-loop
+Inv-loop given n r₀ r = (r ≤ n) × None (Wide n given) r
+
+abbrev μ-loop : tie.MeasureT-loop
+μ-loop given n r₀ r = n - r
+
+loop-holds : tie.Need-loop-holds Inv-loop μ-loop
+loop-holds c = (omega arith, none-zero _)
+
+word-at-requires : tie.Need-word-at-requires Inv-loop μ-loop
+word-at-requires c κs = omega (arith, c .loop-test .taken, c .before .before .before .pre)
+
+returns : tie.Need-returns Inv-loop μ-loop
+returns c =
+    let l = c .before .before .before .loop in
+    lowest-here _ _ (l .r) (c .before .before .loop-test .taken) (l .inv .1) (omega (arith, c .if1 .taken, c .before .word-at .ensures))
+
+add-r : tie.Need-add-r Inv-loop μ-loop
+add-r c = omega arith
+
+loop-less : tie.Need-loop-less Inv-loop μ-loop
+loop-less c = omega (arith, c .before .before .loop-test .taken)
+
+loop-again : tie.Need-loop-again Inv-loop μ-loop
+loop-again c =
+    let l = c .before .before .before .loop in
+    (omega (arith, c .before .before .loop-test .taken), none-more _ (l .r) (l .inv .1) (λ p. omega (arith, p, c .if1 .left, c .before .word-at .ensures)))
+
+returns-2 : tie.Need-returns-2 Inv-loop μ-loop
+returns-2 c = let l = c .before .loop in lowest-end _ _ (l .r) (l .inv .0) (c .loop-test .left) (l .inv .1)
+
+pub first-wide-spec : {M : Type 1} → statement M
+first-wide-spec =
+    tie.close
+    (tie.spec Inv-loop μ-loop loop-holds word-at-requires returns add-r loop-less loop-again returns-2)

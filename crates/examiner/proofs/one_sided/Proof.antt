@@ -1,0 +1,41 @@
+-- `examiner::one_sided` meets its contract. Assumes nothing.
+use Rattle.asked.proofs.Rows.{told}
+use Rattle.asked.proofs.Rows.{told-not}
+use Rattle.examiner.proofs.Words.{not-one-sided, one-sided-here, mutual-here}
+use Prim.Native.Nat.{_+_}
+use native.Mathlib.Omega.{arith}
+use borrow.Author.Needs.{needs}
+use Rattle.examiner.proofs.one_sided.Statement.{statement}
+use Rattle.examiner.proofs.one_sided.Tie as tie
+
+word-at-requires : tie.Need-word-at-requires
+word-at-requires c κs = search needs
+
+returns : tie.Need-returns
+returns c = told-not (not-one-sided _ _ _ (c .before .word-at .ensures) (c .if1 .taken))
+
+sub-word-at : tie.Need-sub-word-at
+sub-word-at c = search needs
+
+word-at-requires-2 : tie.Need-word-at-requires-2
+word-at-requires-2 c κs = search needs
+
+add-if2 : tie.Need-add-if2
+add-if2 c = search needs
+
+returns-2 : tie.Need-returns-2
+returns-2 c =
+    let e = c .before .before in
+    let a = e .before .before .before .args in
+    told (one-sided-here (a .given .now) (a .r) (e .before .word-at .result) (c .before .word-at2 .result) (e .before .word-at .ensures) (e .if1 .left) (c .before .word-at2 .ensures) (λ h. c .if2 .taken (omega (arith, h))))
+
+returns-3 : tie.Need-returns-3
+returns-3 c =
+    let e = c .before .before in
+    let a = e .before .before .before .args in
+    told-not (mutual-here (a .given .now) (a .r) (e .before .word-at .result) (c .before .word-at2 .result) (e .before .word-at .ensures) (e .if1 .left) (c .before .word-at2 .ensures) (omega (arith, c .if2 .left)))
+
+pub one-sided-spec : {M : Type 1} → statement M
+one-sided-spec =
+    tie.close
+    (tie.spec word-at-requires returns sub-word-at word-at-requires-2 add-if2 returns-2 returns-3)

@@ -1,0 +1,42 @@
+-- Proof that `order_rows` meets its contract. Assumes nothing.
+use denote.Ref.{now}
+use Rattle.firsts.proofs.Ordering.{orders}
+use borrow.Author.Needs.{needs}
+use Rattle.firsts.proofs.order_rows.Statement.{statement}
+use Rattle.firsts.proofs.order_rows.Tie as tie
+
+clear-requires : tie.Need-clear-requires
+clear-requires c κs = search needs
+
+put-words-requires : tie.Need-put-words-requires
+put-words-requires c κs = search needs
+
+put-rows-requires : tie.Need-put-rows-requires
+put-rows-requires c κs = search needs
+
+sort-requires : tie.Need-sort-requires
+sort-requires c κs = search needs
+
+same-length : tie.Need-same-length
+same-length c = search needs
+
+returns : tie.Need-returns
+returns c =
+    let z = c .before .before in
+    let y = z .before .before .before .before in
+    let x = y .before .before .before .before in
+    let e = x .before .before .before .before in
+    let s = e .before .before .before .before in
+    let p = s .pre in
+    orders (s .args .rows) (s .args .n) (now (s .args .groups)) (now (s .args .work)) _ _ _ _ (p .0) (p .1) (p .2) (e .clear .ensures) (x .put-words .ensures) (y .put-rows .ensures) (z .sort .ensures)
+
+pub order-rows-spec : {M : Type 1} → statement M
+order-rows-spec =
+    tie.close
+    (tie.spec
+    clear-requires
+    put-words-requires
+    put-rows-requires
+    sort-requires
+    same-length
+    returns)
