@@ -207,11 +207,11 @@ pub fn own_links(
 ) -> Handed
     ensures { λ r. ⌜ spec.Hands (now (sizes .entry)) (now (positions .entry)) (now (normals .entry)) (now («tex_coords» .entry)) (now (links .entry)) (now (groups .entry)) (now (orientations .entry)) (now (work .entry)) r (now (links .exit)) (now (groups .exit)) (now (orientations .exit)) (now (work .exit)) ⌝ }
 {
-    let v = ask(sizes, positions, normals, tex_coords, work.len());
-    if v.number != 0 {
+    let said = ask(sizes, positions, normals, tex_coords, work.len());
+    if said.number != 0 {
         return Handed {
-            number: v.number,
-            place: v.place,
+            number: said.number,
+            place: said.place,
             sound: 0,
         };
     }

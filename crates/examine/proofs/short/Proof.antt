@@ -1,4 +1,6 @@
 -- `examine::short` meets its contract. Assumes nothing.
+use Prim.Native.Nat.{_*_}
+use native.Mathlib.Omega.{arith}
 use borrow.Author.Tests.{lt-ltb, le-ltb}
 use Rattle.examine.specs.Contract.{tooShort}
 use borrow.Author.Needs.{needs}
@@ -10,7 +12,7 @@ mul-if1 c = search needs
 
 returns : tie.Need-returns
 unfolding tooShort
-returns c = simp (lt-ltb _ _ (c .if1 .taken))
+returns c = let a = c .before .args in simp (lt-ltb (a .links) (6 * a .faces) (omega (arith, c .if1 .taken)))
 
 mul-if2 : tie.Need-mul-if2
 mul-if2 c = search needs
