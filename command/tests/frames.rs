@@ -212,6 +212,7 @@ fn the_islands_of_a_large_mesh_are_made_on_all_cores() {
         ran.ends(0, &format!("all {} slots are present", 3 * faces));
         let said = format!("parts         {cores}, of whole islands, one a core\n");
         assert_eq!(ran.said.contains(&said), parts, "{}", ran.said);
+        assert_eq!(ran.said.contains("\nparts "), parts, "{}", ran.said);
         // the same words as from one call
         let surface = command::obj::read(mesh.as_bytes()).expect("it is not read");
         let (mut buffers, mut card) = (dokphalun::Buffers::new(), vec![]);
