@@ -6,6 +6,9 @@
  * A list is a pointer to its first element and a number of elements. The pointer is not null, not even for a list of no
  * elements. A lent list (answer, work, card, our own links) stands apart from every other list of the call. Any numbers whatever may be
  * handed in; each call ends, and a refusal alters no list. A call needs some 8 KiB of stack.
+ *
+ * The archive says what it is: before its first call a program compares dokphalun_interface() with DOKPHALUN_INTERFACE and
+ * dokphalun_slot_words() with DOKPHALUN_SLOT_WORDS, and calls nothing of an archive that says otherwise.
  */
 #ifndef DOKPHALUN_H
 #define DOKPHALUN_H
@@ -19,6 +22,9 @@
 extern "C" {
 #endif
 
+/* The edition of the interface that this header declares: one more whenever a call, a list or a number of it no longer means
+ * what it meant. */
+#define DOKPHALUN_INTERFACE 1
 /* The greatest number of faces that is accepted. */
 #define DOKPHALUN_MOST_FACES 65536
 /* The words of a slot, and of a card's record. */
@@ -157,6 +163,11 @@ struct dokphalun_unpacked {
     uint32_t number;
     size_t place;
 };
+
+/* The edition of the archive's interface, and the words of its slots: DOKPHALUN_INTERFACE and DOKPHALUN_SLOT_WORDS, unless the
+ * archive is another than this header's. */
+DOKPHALUN_ASK uint32_t dokphalun_interface(void);
+DOKPHALUN_ASK uint32_t dokphalun_slot_words(void);
 
 /* Frames of a mesh: corners stand in face order, three numbers each for positions and normals and two for texture.
  * The threshold is the cosine of the angle up to which tangents are joined; -1 sets no limit. Each corner of a face of

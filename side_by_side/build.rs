@@ -1,14 +1,12 @@
-//! Builds the Rust crate from where its source stands, unchanged, and an altered copy of it, and links the proved archive.
+//! Builds the Rust crate from where its source stands, unchanged, and an altered copy of it.
 //!
 //! The crate: the folder of MIKKTSPACE_SRC, else ../shared/docs/src beside the repository; it holds src/lib.rs. It
 //! becomes an rlib among this package's own products, with both corrected features. So does the altered copy (altered.rs),
 //! which has request E6's rule.
-//! The archive: libdokphalun.a in the folder of DOKPHALUN_ARCHIVE, else where `rt staticlib dokphalun` leaves it.
 #[path = "altered.rs"]
 mod altered;
 
 use std::env::var;
-use std::fs;
 use std::path::{Path, PathBuf};
 use std::process::Command;
 
@@ -19,11 +17,6 @@ fn main() {
     let source = folder("MIKKTSPACE_SRC", here.join("../../shared/docs/src"));
     build_crate("bevy_mikktspace", &source, &made);
     build_crate("mikktspace_altered", &altered::copy(&source, &made), &made);
-    link_archive(&folder(
-        "DOKPHALUN_ARCHIVE",
-        here.join("../target/staticlib"),
-    ));
-    fs::write(made.join("cosines.rs"), cosines()).expect("the table of cosines is not written");
 }
 
 /// The folder that an environment variable names, else the usual one.
@@ -70,27 +63,4 @@ fn build_crate(name: &str, source: &Path, made: &Path) {
         .expect("rustc does not start");
     assert!(status.success(), "the crate does not build");
     println!("cargo:rustc-link-search={}", made.display());
-}
-
-/// Names the archive for the linker.
-fn link_archive(folder: &Path) {
-    let archive = folder.join("libdokphalun.a");
-    assert!(
-        archive.is_file(),
-        "no archive: {} is not there",
-        archive.display()
-    );
-    println!("cargo:rerun-if-changed={}", archive.display());
-    println!("cargo:rustc-link-search=native={}", folder.display());
-    println!("cargo:rustc-link-lib=static=dokphalun");
-}
-
-/// Document 01's table as Rust: c(k) is the whole number nearest to 2^30 times the cosine of k/1024 of a half turn.
-fn cosines() -> String {
-    let entry = |k: u32| {
-        let turn = f64::from(k) * std::f64::consts::PI / 1024.0;
-        (turn.cos() * 1_073_741_824.0).round() as i32
-    };
-    let entries: Vec<String> = (0..=1024).map(|k| entry(k).to_string()).collect();
-    format!("static COSINES: [i32; 1025] = [{}];\n", entries.join(", "))
 }

@@ -53,8 +53,8 @@ def theorem(name, mesh, answer, names):
     lent = [0xA5A5_0000 + i for i in range(a)]
     hexes = lambda l: "(map number " + samples.words(l) + ")"
     call = (
-        f"Outcome′.outcome {samples.sizes(sizes)} {hexes(places)} {hexes(normals)} {hexes(texture)} (number {samples.numeral(h)}) "
-        f"{samples.words(lent)} (replicate {w} 9)"
+        f"Outcome′.outcome (call (handed {samples.sizes(sizes)} {hexes(places)} {hexes(normals)} {hexes(texture)}) (number {samples.numeral(h)}) "
+        f"{samples.words(lent)} (replicate {w} 9))"
     )
     start = 0 if number == 0 and w > 0 and sizes else 9
     seen = f"seen ({call})"

@@ -13,8 +13,9 @@ CRATES = {
     "math": ["Vector"],
     "tangent": ["Space", "Slot"],
     "bits": ["Word"],
+    "lists": ["Lists"],
     "definition": [
-        "Lists", "Mesh", "Handed", "Step1Cut", "Step2Degenerate", "Step3Tangents", "Triangles", "Step4Order", "Step5Links",
+        "Mesh", "Handed", "Step1Cut", "Step2Degenerate", "Step3Tangents", "Triangles", "Step4Order", "Step5Links",
         "Step6Groups", "Step7Sums", "Step8Slots", "Step9Copies", "Frames", "Desk", "Outcome", "Shuffle",
     ],
 }
@@ -72,8 +73,8 @@ class Mesh:
         answer = 10 * self.slots() if answer is None else answer
         work = 128 * len(self.sizes) if work is None else work
         return (
-            f"Outcome′.outcome {sizes(self.sizes)} {numbers(self.places)} {numbers(self.normals)} {numbers(self.texture)} "
-            f"(number {numeral(bits(self.threshold))}) (replicate {answer} 7) (replicate {work} 9)"
+            f"Outcome′.outcome (call (handed {sizes(self.sizes)} {numbers(self.places)} {numbers(self.normals)} {numbers(self.texture)}) "
+            f"(number {numeral(bits(self.threshold))}) (replicate {answer} 7) (replicate {work} 9))"
         )
 
     def taken(self, answer):
@@ -199,7 +200,7 @@ def summed(order):
 def nan_mesh(ns):
     """Faces of these sizes, all zeros but the last position's last number, a NaN."""
     count = sum(ns)
-    return f"Outcome′.outcome {sizes(ns)} {numbers([0] * (3 * count - 1) + ['7fc00000'])} {numbers([0] * 3 * count)} {numbers([0] * 2 * count)} (number {numeral(MINUS_ONE)}) [] (replicate 256 9)"
+    return f"Outcome′.outcome (call (handed {sizes(ns)} {numbers([0] * (3 * count - 1) + ['7fc00000'])} {numbers([0] * 3 * count)} {numbers([0] * 2 * count)}) (number {numeral(MINUS_ONE)}) [] (replicate 256 9))"
 
 
 def is_true(t):
@@ -234,9 +235,9 @@ STARRED = [
     ("", "sameWhole (Angle′.wholeOf (number 0xbf35_04f3)) (negℤ (pos 759250112))"),
     ("", "sameWhole (Angle′.wholeOf (number 0x3000_0000)) (pos 0)"),
     ("", "sameWhole (Angle′.wholeOf (number 0x8000_0000)) (pos 0)"),
-    ("10: F of 65,537 is refused with 1; 65,536 isn't", is_number("Outcome′.outcome (replicate 65537 3) [] [] [] nan [] [] .number", 1)),
-    ("", is_number("Outcome′.outcome (replicate 65536 3) [] [] [] nan [] [] .number", 2)),
-    (".. no row applies to 65,536 faces of no corner and a work list that is long enough: they are accepted", is_false("Lists′.has (λ r. r .applies) (Desk′.table (replicate 65536 0) [] [] [] (number 0xbf80_0000) 0 8388608)")),
+    ("10: F of 65,537 is refused with 1; 65,536 isn't", is_number("Outcome′.outcome (call (handed (replicate 65537 3) [] [] []) nan [] []) .number", 1)),
+    ("", is_number("Outcome′.outcome (call (handed (replicate 65536 3) [] [] []) nan [] []) .number", 2)),
+    (".. no row applies to 65,536 faces of no corner and a work list that is long enough: they are accepted", is_false("Lists′.has (λ r. r .applies) (Desk′.table (shown (handed (replicate 65536 0) [] [] []) (number 0xbf80_0000) 0 8388608))")),
     ("11: sizes 5, 2 and 0 only: S is 0", is_number("Handed′.slotCount (5 ∷ 2 ∷ 0 ∷ [])", 0)),
     ("12: a NaN in a face of 5 is no ground for 4; in a face of 3 it is, and 4 is given if 1 to 3 don't apply", is_number(f"{nan_mesh([5])} .number", 0)),
     ("", is_number(f"{nan_mesh([3])} .number", 4)),
@@ -270,6 +271,8 @@ use lib.Ieee.{Float, nan, isNan, add, sub, mul, div, neg, lt, le, eq, toBits, of
 use Rattle.bits.specs.Word.{word, number}
 use Rattle.math.specs.Vector.{vec}
 use Rattle.tangent.specs.declared.Reading.the-variants.{Absent}
+use Rattle.definition.specs.Handed.{handed, call}
+use Rattle.definition.specs.Desk.{shown}
 """
 
 

@@ -3,7 +3,7 @@
 //! The measure is `f64::acos` of the cosine, which is exact as an f64. It is the C library's, said to be off by less than two units in the
 //! last place, below 1e-15 radians: a unit of A, 2^-30 of a half turn, is 2.9e-9, so that the measure is off by less than a
 //! millionth of a unit. Since nothing proves that, each 4,096th one is held against another formula, and the greatest gap is printed.
-use crate::plain::{amended_way, angle_of_way, old_way};
+use models::leaves::{amended_way, angle_of_way, old_way};
 use std::f64::consts::PI;
 
 /// Units of A in a half turn, and in a step of the table.
@@ -45,7 +45,10 @@ impl Rule {
         if x.abs() <= 0.5 {
             self.wide.take(off, x);
         }
-        self.last_place.take((f64::from(angle_of_way(a)) - exact).abs() / last_place(exact as f32), x);
+        self.last_place.take(
+            (f64::from(angle_of_way(a)) - exact).abs() / last_place(exact as f32),
+            x,
+        );
         if self.before.is_some_and(|b| b < a) {
             self.rises += 1;
             self.first_rise = self.first_rise.or(self.before.map(|b| (x, b, a)));
@@ -55,13 +58,26 @@ impl Rule {
 
     fn print(&self, name: &str) {
         for (of, g) in [("A", self.way), ("A up to 1/2 in size", self.wide)] {
-            println!("{name}, {of}: {:.1} units, {:.6} steps, {:.2e} radians, at {:08X}", g.distance, g.distance / STEP, g.distance / HALF_TURN * PI, g.cosine.to_bits());
+            println!(
+                "{name}, {of}: {:.1} units, {:.6} steps, {:.2e} radians, at {:08X}",
+                g.distance,
+                g.distance / STEP,
+                g.distance / HALF_TURN * PI,
+                g.cosine.to_bits()
+            );
         }
         let g = self.last_place;
-        println!("{name}, the angle: {:.1} units of its last place, at {:08X}", g.distance, g.cosine.to_bits());
+        println!(
+            "{name}, the angle: {:.1} units of its last place, at {:08X}",
+            g.distance,
+            g.cosine.to_bits()
+        );
         println!("{name}: A rises with the cosine at {} places", self.rises);
         if let Some((x, b, a)) = self.first_rise {
-            println!("{name}: the first of them is {:08X}, from {b} to {a}", x.to_bits());
+            println!(
+                "{name}: the first of them is {:08X}, from {b} to {a}",
+                x.to_bits()
+            );
         }
     }
 }
@@ -93,7 +109,9 @@ pub fn report(step: usize) {
         new.take(x, amended_way(x), exact);
         count += 1;
     }
-    println!("{count} cosines; the two formulas of the arc cosine differ by at most {gap:.1e} radians");
+    println!(
+        "{count} cosines; the two formulas of the arc cosine differ by at most {gap:.1e} radians"
+    );
     old.print("before");
     new.print("after");
 }

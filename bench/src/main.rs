@@ -1,37 +1,21 @@
-//! The root, the angle, the desk and the steps of the proved archive, beside the processor's, plain ones and the oracle's.
+//! The root, the angle, the desk and the two walks of step 6 of the proved archive, beside the processor's, plain ones and the oracle's.
 //!
 //! `bench check STEP` compares every STEP-th of the 2^32 patterns (and every 16th of those with a table of its own for each
 //! angle, which is slow) and prints how many differed (exit status 1 if any);
 //! `bench desk MESHES ANSWERS` compares the desk with the oracle's answers (tools/desk makes both files);
-//! `bench steps MESHES` compares the columns that steps 1 to 6 leave with a plain model's (tools/steps makes the file);
 //! `bench walks COUNT` compares the two walks of step 6 on random tables;
-//! `bench deep KIB` does the same with the deepest walk of 65,536 faces in a thread of so many KiB;
 //! `bench distance STEP` prints how far the angle is from the arc cosine, before and after request E3, over every STEP-th cosine;
 //! `bench time` prints nanoseconds a call and the ratio to the processor's, all measured in one run.
 mod desk;
 mod distance;
 mod files;
-mod plain;
-#[path = "../../side_by_side/src/plain_steps.rs"]
-mod plain_steps;
-mod steps;
 mod walks;
 
+use dokphalun_sys::exports::{acos, acos_all, sqrt};
+use models::leaves as plain;
+use models::random::Random;
 use std::hint::black_box;
 use std::time::Instant;
-
-unsafe extern "C" {
-    safe fn export_sqrt(x: f32) -> f32;
-    safe fn export_acos(x: f32) -> f32;
-    // a slice passes as a pointer and a length
-    fn export_acos_all(xs: *const f32, count: usize, out: *mut f32, room: usize);
-}
-
-/// The angles of many cosines, with one table for all of them.
-fn acos_all(xs: &[f32], out: &mut [f32]) {
-    // the lists are Rust's own, and each is handed over with its own length
-    unsafe { export_acos_all(xs.as_ptr(), xs.len(), out.as_mut_ptr(), out.len()) }
-}
 
 /// The bits of a number, and any NaN as 7FC00000.
 fn word(x: f32) -> u32 {
@@ -58,35 +42,42 @@ fn differing(name: &str, step: u64, ours: fn(f32) -> f32, other: fn(f32) -> f32)
     differed
 }
 
-fn sqrt_of_archive(x: f32) -> f32 {
-    export_sqrt(x)
-}
-
-fn acos_of_archive(x: f32) -> f32 {
-    export_acos(x)
-}
-
 /// The same of the angles that are taken with one table, a million at a time.
 fn differing_all(step: u64) -> u64 {
     let (mut compared, mut differed) = (0u64, 0u64);
     let mut patterns = (0..1u64 << 32).step_by(step as usize);
     loop {
-        let xs: Vec<f32> = patterns.by_ref().take(1 << 20).map(|pattern| f32::from_bits(pattern as u32)).collect();
+        let xs: Vec<f32> = patterns
+            .by_ref()
+            .take(1 << 20)
+            .map(|pattern| f32::from_bits(pattern as u32))
+            .collect();
         if xs.is_empty() {
             break;
         }
         let mut out = vec![0f32; xs.len()];
         acos_all(&xs, &mut out);
         compared += xs.len() as u64;
-        differed += xs.iter().zip(&out).filter(|&(&x, &y)| word(y) != word(plain::angle(x))).count() as u64;
+        differed += xs
+            .iter()
+            .zip(&out)
+            .filter(|&(&x, &y)| word(y) != word(plain::angle(x)))
+            .count() as u64;
     }
-    println!("angles with one table against the plain one: {compared} compared, {differed} differed");
+    println!(
+        "angles with one table against the plain one: {compared} compared, {differed} differed"
+    );
     differed
 }
 
 fn check(step: u64) -> bool {
-    let roots = differing("root against the processor's", step, sqrt_of_archive, f32::sqrt);
-    let angles = differing("angle against the plain one", step * 16 + 1, acos_of_archive, plain::angle);
+    let roots = differing("root against the processor's", step, sqrt, f32::sqrt);
+    let angles = differing(
+        "angle against the plain one",
+        step * 16 + 1,
+        acos,
+        plain::angle,
+    );
     roots + angles + differing_all(step) == 0
 }
 
@@ -138,11 +129,11 @@ extern "C" fn plain_angle(x: f32) -> f32 {
 }
 
 extern "C" fn our_root(x: f32) -> f32 {
-    export_sqrt(x)
+    sqrt(x)
 }
 
 extern "C" fn our_angle(x: f32) -> f32 {
-    export_acos(x)
+    acos(x)
 }
 
 /// The least time of seven runs of the angles with one table, in nanoseconds an angle.
@@ -161,7 +152,7 @@ fn cost_all(xs: &[f32]) -> f64 {
 }
 
 /// One row a function; the first is what the others are compared with.
-fn report(xs: &[f32], rows: &[(&str, extern "C" fn(f32) -> f32)]) {
+fn report(xs: &[f32], rows: &[Row]) {
     let costs: Vec<(f64, f64)> = rows.iter().map(|(_, f)| cost(xs, *f)).collect();
     for ((name, _), (apart, chained)) in rows.iter().zip(&costs) {
         println!(
@@ -172,32 +163,35 @@ fn report(xs: &[f32], rows: &[(&str, extern "C" fn(f32) -> f32)]) {
     }
 }
 
+/// A function that is timed, by name.
+type Row = (&'static str, extern "C" fn(f32) -> f32);
+
+/// The roots, and the angles.
+const ROOTS: [Row; 3] = [
+    ("the processor's root", processors_root),
+    ("the root of the archive", our_root),
+    ("the root by u64::isqrt", isqrt_root),
+];
+const ANGLES: [Row; 3] = [
+    ("f32::acos of the Rust library", processors_angle),
+    ("the angle of the archive, alone", our_angle),
+    ("the angle by halving, plain Rust", plain_angle),
+];
+
+/// Prints the times of roots and angles.
 fn time() {
-    let mut seed = 1u32;
-    let mut next = || {
-        seed = seed.wrapping_mul(1_664_525).wrapping_add(1_013_904_223);
-        seed >> 8
-    };
-    let roots: Vec<f32> = (0..4096).map(|_| f32::from_bits(0x3000_0000 + next() * 24)).collect();
-    let cosines: Vec<f32> = (0..4096).map(|_| next() as f32 / 8_388_608.0 - 1.0).collect();
-    report(
-        &roots,
-        &[
-            ("the processor's root", processors_root as extern "C" fn(f32) -> f32),
-            ("the root of the archive", our_root),
-            ("the root by u64::isqrt", isqrt_root),
-        ],
-    );
-    report(
-        &cosines,
-        &[
-            ("f32::acos of the Rust library", processors_angle as extern "C" fn(f32) -> f32),
-            ("the angle of the archive, alone", our_angle),
-            ("the angle by halving, plain Rust", plain_angle),
-        ],
-    );
+    let mut random = Random::of(1, "time", 0);
+    let mut next = || random.word() >> 8;
+    let roots = [0; 4096].map(|_| f32::from_bits(0x3000_0000 + next() * 24));
+    let cosines = [0; 4096].map(|_| next() as f32 / 8_388_608.0 - 1.0);
+    report(&roots, &ROOTS);
+    report(&cosines, &ANGLES);
     let (narrow, wide): (Vec<f32>, Vec<f32>) = cosines.iter().partition(|x| x.abs() > 0.5);
-    for (name, xs) in [("many with one table", &cosines), (".. of cosines up to 1/2 in size", &wide), (".. of cosines above 1/2 in size", &narrow)] {
+    for (name, xs) in [
+        ("many with one table", &cosines[..]),
+        (".. of cosines up to 1/2 in size", &wide),
+        (".. of cosines above 1/2 in size", &narrow),
+    ] {
         println!("{name:34} {:6.2} ns an angle", cost_all(xs));
     }
 }
@@ -208,20 +202,19 @@ fn main() {
     let right = match given.as_slice() {
         ["check", step] => check(step.parse().expect("STEP is a number above 0")),
         ["desk", meshes, answers] => desk::check(meshes, answers),
-        ["steps", meshes] => steps::check(meshes),
         ["walks", count] => walks::compare(count.parse().expect("COUNT is a number")) == 0,
-        ["deep", kib] => steps::deep(kib.parse().expect("KIB is a number")),
         ["distance", step] => {
             distance::report(step.parse().expect("STEP is a number above 0"));
             true
         }
         ["time"] => {
             time();
-            steps::time();
             true
         }
         _ => {
-            eprintln!("usage: bench check STEP | bench desk MESHES ANSWERS | bench steps MESHES | bench walks COUNT | bench deep KIB | bench distance STEP | bench time");
+            eprintln!(
+                "usage: bench check STEP | bench desk MESHES ANSWERS | bench walks COUNT | bench distance STEP | bench time"
+            );
             std::process::exit(2);
         }
     };

@@ -1,12 +1,9 @@
 //! The two walks of step 6, the old one and the flat one, on random tables: whatever the columns hold, every word but the flat walk's places, and both counts, are the same.
+use dokphalun_sys::exports::{walk_flat, walk_old};
+use models::random::Random;
 
-unsafe extern "C" {
-    // a slice passes as a pointer and a length
-    fn export_walk_old(work: *mut u32, count: usize, rows: usize, triangles: usize) -> u64;
-    fn export_walk_flat(work: *mut u32, count: usize, rows: usize, triangles: usize) -> u64;
-}
-
-type Walk = unsafe extern "C" fn(*mut u32, usize, usize, usize) -> u64;
+/// A walk on a table of so many rows and triangles.
+type Walk = fn(&mut [u32], usize, usize) -> u64;
 
 /// What both answer where a walk may not be called.
 const NOT_CALLED: u64 = u64::MAX;
@@ -24,22 +21,6 @@ const PLACES: usize = 18;
 
 /// Words behind the columns, which no walk may touch.
 const PAST: usize = 5;
-
-/// Numbers that look random, from a seed.
-struct Random(u64);
-
-impl Random {
-    fn next(&mut self) -> u32 {
-        self.0 ^= self.0 << 13;
-        self.0 ^= self.0 >> 7;
-        self.0 ^= self.0 << 17;
-        (self.0 >> 16) as u32
-    }
-
-    fn below(&mut self, most: usize) -> u32 {
-        self.next() % most as u32
-    }
-}
 
 /// A table of so many rows, for so many triangles.
 struct Table {
@@ -60,8 +41,7 @@ impl Table {
     /// What a walk returns and leaves of it, the places blanked.
     fn walked(&self, walk: Walk) -> (u64, Vec<u32>) {
         let mut words = self.words.clone();
-        // the list is Rust's own, and is handed over with its own length
-        let told = unsafe { walk(words.as_mut_ptr(), words.len(), self.rows, self.triangles) };
+        let told = walk(&mut words, self.rows, self.triangles);
         words[PLACES * self.rows..(PLACES + 1) * self.rows].fill(0);
         (told, words)
     }
@@ -69,16 +49,24 @@ impl Table {
 
 /// Any words; orientations and `group_with_any` as flags, vertices of a few values, no links.
 fn plain(random: &mut Random, triangles: usize) -> Table {
-    let rows = 3 * triangles + random.below(7) as usize;
-    let words = (0..COLUMNS * rows + PAST).map(|_| random.next()).collect();
-    let mut table = Table { words, rows, triangles };
-    let vertices = if random.below(3) == 0 { 1 + random.below(4) } else { 1 + random.below(3 * triangles + 1) };
-    let one_way = random.below(4) == 0;
+    let rows = 3 * triangles + random.below(7);
+    let words = (0..COLUMNS * rows + PAST).map(|_| random.word()).collect();
+    let mut table = Table {
+        words,
+        rows,
+        triangles,
+    };
+    let vertices = if random.chance(1, 3) {
+        1 + random.below(4)
+    } else {
+        1 + random.below(3 * triangles + 1)
+    };
+    let one_way = random.chance(1, 4);
     for row in 0..rows {
-        let way = if one_way { 1 } else { random.below(2) };
+        let way = if one_way { 1 } else { random.below(2) as u32 };
         table.set(ORIENTATION, row, way);
-        table.set(ANY, row, u32::from(random.below(4) == 0));
-        table.set(VERTEX, row, random.next() % vertices);
+        table.set(ANY, row, u32::from(random.chance(1, 4)));
+        table.set(VERTEX, row, random.below(vertices) as u32);
         table.set(LINK, row, 0);
     }
     table
@@ -88,7 +76,7 @@ fn plain(random: &mut Random, triangles: usize) -> Table {
 fn link_anyhow(random: &mut Random, table: &mut Table) {
     let sides = 3 * table.triangles;
     for side in 0..sides {
-        let word = random.below(sides + 1);
+        let word = random.below(sides + 1) as u32;
         table.set(LINK, side, word);
     }
 }
@@ -97,7 +85,7 @@ fn link_anyhow(random: &mut Random, table: &mut Table) {
 fn link_pairs(random: &mut Random, table: &mut Table) {
     let sides = 3 * table.triangles;
     for _ in 0..2 * sides {
-        let (a, b) = (random.below(sides) as usize, random.below(sides) as usize);
+        let (a, b) = (random.below(sides), random.below(sides));
         if a != b && table.get(LINK, a) == 0 && table.get(LINK, b) == 0 {
             table.set(LINK, a, b as u32 + 1);
             table.set(LINK, b, a as u32 + 1);
@@ -119,7 +107,11 @@ fn join_ends(table: &mut Table) {
 
 /// The table number `i`: links of any kind, in pairs, or in pairs with their ends joined.
 fn table(random: &mut Random, i: usize) -> Table {
-    let triangles = if i % 1000 == 0 { 300 } else { random.below(40) as usize };
+    let triangles = if i.is_multiple_of(1000) {
+        300
+    } else {
+        random.below(40)
+    };
     let mut table = plain(random, triangles);
     if triangles > 0 {
         match i % 3 {
@@ -136,11 +128,10 @@ fn table(random: &mut Random, i: usize) -> Table {
 
 /// Both walks on `count` tables; how many differed.
 pub fn compare(count: usize) -> u64 {
-    let mut random = Random(88_172_645_463_325_252);
     let (mut differed, mut groups, mut members) = (0, 0u64, 0u64);
     for i in 0..count {
-        let table = table(&mut random, i);
-        let (old, flat) = (table.walked(export_walk_old), table.walked(export_walk_flat));
+        let table = table(&mut Random::of(1, "walks", i as u64), i);
+        let (old, flat) = (table.walked(walk_old), table.walked(walk_flat));
         if old.0 == NOT_CALLED || old != flat {
             differed += 1;
         }
@@ -153,14 +144,25 @@ pub fn compare(count: usize) -> u64 {
 
 /// Past 4,096 faces only the flat walk is called, and the old one leaves the list as it is: 1 if it is not so.
 fn beyond() -> u64 {
-    let table = |rows: usize| Table { words: vec![1; COLUMNS * rows + PAST], rows, triangles: 1 };
+    let table = |rows: usize| Table {
+        words: vec![1; COLUMNS * rows + PAST],
+        rows,
+        triangles: 1,
+    };
     let (last, past) = (table(OLD_ROWS), table(OLD_ROWS + 1));
     let mut same = past.words.clone();
     same[PLACES * past.rows..(PLACES + 1) * past.rows].fill(0);
-    let held = last.walked(export_walk_old) == last.walked(export_walk_flat)
-        && last.walked(export_walk_old).0 != NOT_CALLED
-        && past.walked(export_walk_old) == (NOT_CALLED, same)
-        && past.walked(export_walk_flat).0 != NOT_CALLED;
-    println!("walks past 4,096 faces: the old one is {}", if held { "not called" } else { "CALLED, or the flat one is not" });
+    let held = last.walked(walk_old) == last.walked(walk_flat)
+        && last.walked(walk_old).0 != NOT_CALLED
+        && past.walked(walk_old) == (NOT_CALLED, same)
+        && past.walked(walk_flat).0 != NOT_CALLED;
+    println!(
+        "walks past 4,096 faces: the old one is {}",
+        if held {
+            "not called"
+        } else {
+            "CALLED, or the flat one is not"
+        }
+    );
     u64::from(!held)
 }

@@ -1,11 +1,9 @@
 //! Files that are no meshes: a sentence with the place, exit status 5, and nothing written.
-#[allow(dead_code)]
+#[allow(dead_code, reason = "not every test needs all of it")]
 mod room;
-#[allow(dead_code)]
-mod shapes;
 
+use models::files::{self as shapes, FACES};
 use room::{Room, rows};
-use shapes::FACES;
 
 /// Runs `frames` on a file and sees what it says.
 fn says(room: &Room, name: &str, bytes: impl AsRef<[u8]>, said: &str) {

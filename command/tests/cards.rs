@@ -1,11 +1,9 @@
 //! `dokphalun read` and `dokphalun demo` as their user runs them.
-#[allow(dead_code)]
+#[allow(dead_code, reason = "not every test needs all of it")]
 mod room;
-#[allow(dead_code)]
-mod shapes;
 
+use models::files::{self as shapes, FACES};
 use room::Room;
-use shapes::FACES;
 
 /// A folder with a mesh of 24 slots and its card of two blocks.
 fn with_card(name: &str) -> Room {

@@ -1,11 +1,9 @@
 //! `dokphalun frames` as its user runs it.
-#[allow(dead_code)]
+#[allow(dead_code, reason = "not every test needs all of it")]
 mod room;
-#[allow(dead_code)]
-mod shapes;
 
+use models::files::{self as shapes, FACES, FIVE};
 use room::Room;
-use shapes::{FACES, FIVE};
 
 /// A triangle and one whose texture has no area.
 const ABSENT: &str = "ply\nformat ascii 1.0\nelement vertex 6\nproperty float x\nproperty float y\nproperty float z\n\

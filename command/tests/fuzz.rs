@@ -1,13 +1,12 @@
 //! Spoilt and random files for the readers, and all that follows where one is read: no panic, and every number of every
 //! corner accounted for. DOKPHALUN_FUZZ_SECONDS says for how long (2 where it is not set), DOKPHALUN_FUZZ_SEED from where.
-mod shapes;
-
 use command::picture::picture;
 use command::report::report;
 use command::state::{Known, Tally};
 use command::surface::Surface;
 use command::{obj, ply, tank};
 use dokphalun::{Buffers, Record};
+use models::files as shapes;
 use std::env::var;
 use std::panic::catch_unwind;
 use std::time::{Duration, Instant};

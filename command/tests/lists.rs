@@ -1,11 +1,9 @@
 //! `dokphalun links` and `dokphalun examine` as their user runs them.
-#[allow(dead_code)]
+#[allow(dead_code, reason = "not every test needs all of it")]
 mod room;
-#[allow(dead_code)]
-mod shapes;
 
+use models::files::{self as shapes, FACES, FIVE};
 use room::{Room, rows};
-use shapes::{FACES, FIVE};
 
 /// What `links` writes for a quad and a triangle beside it.
 const LISTS: &str = "dokphalun-lists 1

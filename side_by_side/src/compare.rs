@@ -2,6 +2,7 @@
 use crate::mesh::{Case, Corner, Mesh, framed};
 use crate::ops::Document;
 use crate::ours::{self, Left};
+use crate::refusals::refusal;
 use crate::spoil::Spoil;
 use crate::text::slot_row;
 use crate::theirs;
@@ -156,7 +157,7 @@ fn place(mesh: &Mesh, slot: usize, word: usize) -> String {
 
 /// The faces of one owner, as a mesh of its own with lists that are just long enough.
 fn part(case: &Case, owner: u8) -> Mesh {
-    if case.owners.is_empty() || theirs::refusal(&case.mesh).is_some() {
+    if case.owners.is_empty() || refusal(&case.mesh).is_some() {
         return Mesh::default();
     }
     let faces = case.mesh.faces().into_iter().zip(&case.owners);
@@ -169,7 +170,7 @@ fn part(case: &Case, owner: u8) -> Mesh {
 
 /// True for a case made of two meshes with faces, all accepted, that share no welded corner.
 fn is_shuffle(case: &Case, parts: &[Mesh; 2]) -> bool {
-    let accepted = |mesh: &Mesh| !mesh.sizes.is_empty() && theirs::refusal(mesh).is_none();
+    let accepted = |mesh: &Mesh| !mesh.sizes.is_empty() && refusal(mesh).is_none();
     !case.owners.is_empty() && parts.iter().all(accepted) && shared(&parts[0], &parts[1]).is_empty()
 }
 

@@ -2,64 +2,8 @@
 use crate::mesh::{Corner, Mesh};
 use crate::ours::fresh_work;
 use crate::plain_steps::{Model, cut, end, model};
-use crate::theirs;
-
-/// What `dokphalun_examine` says.
-#[repr(C)]
-#[derive(Clone, Copy, Debug, PartialEq)]
-pub struct Examined {
-    pub refusal: u32,
-    pub objection: u32,
-    pub place: u32,
-}
-
-/// What `dokphalun_links` says.
-#[repr(C)]
-#[derive(Clone, Copy, Debug, PartialEq)]
-pub struct Handed {
-    pub number: u32,
-    pub place: u32,
-    pub sound: u32,
-}
-
-unsafe extern "C" {
-    fn dokphalun_examine(
-        sizes: *const u8,
-        faces: usize,
-        positions: *const f32,
-        position_count: usize,
-        normals: *const f32,
-        normal_count: usize,
-        texture: *const f32,
-        texture_count: usize,
-        links: *const u32,
-        link_count: usize,
-        groups: *const u32,
-        group_count: usize,
-        orientations: *const u32,
-        orientation_count: usize,
-        work: *mut u32,
-        work_count: usize,
-    ) -> Examined;
-    fn dokphalun_links(
-        sizes: *const u8,
-        faces: usize,
-        positions: *const f32,
-        position_count: usize,
-        normals: *const f32,
-        normal_count: usize,
-        texture: *const f32,
-        texture_count: usize,
-        links: *mut u32,
-        link_count: usize,
-        groups: *mut u32,
-        group_count: usize,
-        orientations: *mut u32,
-        orientation_count: usize,
-        work: *mut u32,
-        work_count: usize,
-    ) -> Handed;
-}
+use crate::refusals::{or_nine, without_frames};
+use dokphalun_sys::{self as archive, Examined, Handed};
 
 /// The words a face that lists for our own links are lent: links, groups, orientations.
 pub const ENTRIES: [usize; 3] = [6, 6, 2];
@@ -90,6 +34,13 @@ impl Lists {
         [&self.links, &self.groups, &self.orientations].map(Vec::len)
     }
 
+    /// Leaves the words of so many triangles.
+    pub fn cut(&mut self, sound: usize) {
+        self.links.truncate(3 * sound);
+        self.groups.truncate(3 * sound);
+        self.orientations.truncate(sound);
+    }
+
     /// What the plain steps 5 and 6 make.
     pub fn of(m: &Model) -> Lists {
         let sound = m.triangles[..m.sound].iter();
@@ -101,78 +52,76 @@ impl Lists {
     }
 }
 
+/// What the call for our own links leaves: what it says, its lists, and the work list.
+#[derive(Clone, Debug, PartialEq)]
+pub struct Own {
+    pub handed: Handed,
+    pub lists: Lists,
+    pub work: Vec<u32>,
+}
+
 /// All that both calls leave.
 #[derive(Clone, Debug, PartialEq)]
 pub struct Left {
     pub examined: Examined,
     pub work: Vec<u32>,
     pub lists: Lists,
-    pub handed: Handed,
-    pub own: Lists,
-    pub own_work: Vec<u32>,
+    pub own: Own,
 }
 
-/// A partner's lists examined, on a work list that is lent.
-pub fn examine(mesh: &Mesh, lists: &Lists, work: &mut [u32]) -> Examined {
-    // the lists are Rust's own, and each is handed over with its own length; any 32 bits are a number
-    unsafe {
-        dokphalun_examine(
-            mesh.sizes.as_ptr(),
-            mesh.sizes.len(),
-            mesh.positions.as_ptr().cast(),
-            mesh.positions.len(),
-            mesh.normals.as_ptr().cast(),
-            mesh.normals.len(),
-            mesh.texture.as_ptr().cast(),
-            mesh.texture.len(),
-            lists.links.as_ptr(),
-            lists.links.len(),
-            lists.groups.as_ptr(),
-            lists.groups.len(),
-            lists.orientations.as_ptr(),
-            lists.orientations.len(),
-            work.as_mut_ptr(),
-            work.len(),
-        )
+/// What the call for our own links leaves of fresh lists of these lengths.
+pub fn own_left(mesh: &Mesh, lengths: [usize; 3]) -> Own {
+    let (mut lists, mut work) = (Lists::fresh(lengths), fresh_work(mesh.work));
+    let (links, groups) = (&mut lists.links, &mut lists.groups);
+    let handed = archive::links(
+        mesh.handed(),
+        links,
+        groups,
+        &mut lists.orientations,
+        &mut work,
+    );
+    Own {
+        handed,
+        lists,
+        work,
     }
 }
 
-/// Our own lists, into lists that are lent.
-pub fn links(mesh: &Mesh, own: &mut Lists, work: &mut [u32]) -> Handed {
-    // as above
-    unsafe {
-        dokphalun_links(
-            mesh.sizes.as_ptr(),
-            mesh.sizes.len(),
-            mesh.positions.as_ptr().cast(),
-            mesh.positions.len(),
-            mesh.normals.as_ptr().cast(),
-            mesh.normals.len(),
-            mesh.texture.as_ptr().cast(),
-            mesh.texture.len(),
-            own.links.as_mut_ptr(),
-            own.links.len(),
-            own.groups.as_mut_ptr(),
-            own.groups.len(),
-            own.orientations.as_mut_ptr(),
-            own.orientations.len(),
-            work.as_mut_ptr(),
-            work.len(),
-        )
+/// What it has to leave of them: as the plain steps 5 and 6 have it.
+pub fn own_expected(mesh: &Mesh, lengths: [usize; 3]) -> Own {
+    let short = (0..3).any(|list| lengths[list] < ENTRIES[list] * mesh.sizes.len());
+    let (number, place) = or_nine(without_frames(mesh), short);
+    let handed = Handed {
+        number,
+        place,
+        sound: 0,
+    };
+    let mut own = Own {
+        handed,
+        lists: Lists::fresh(lengths),
+        work: fresh_work(mesh.work),
+    };
+    if number == 0 {
+        let m = model(&mesh.sizes, &numbers(mesh));
+        let plain = Lists::of(&m);
+        own.handed.sound = m.sound as u32;
+        own.lists.links[..3 * m.sound].copy_from_slice(&plain.links);
+        own.lists.groups[..3 * m.sound].copy_from_slice(&plain.groups);
+        own.lists.orientations[..m.sound].copy_from_slice(&plain.orientations);
+        own.work[..mesh.needed_work()].fill(0);
     }
+    own
 }
 
 /// What both calls leave of fresh lists; those for our own links have these lengths.
 pub fn left(mesh: &Mesh, lists: &Lists, lengths: [usize; 3]) -> Left {
-    let (mut work, mut own_work) = (fresh_work(mesh.work), fresh_work(mesh.work));
-    let (lists, mut own) = (lists.clone(), Lists::fresh(lengths));
+    let (lists, mut work) = (lists.clone(), fresh_work(mesh.work));
+    let (links, groups) = (&lists.links, &lists.groups);
     Left {
-        examined: examine(mesh, &lists, &mut work),
-        handed: links(mesh, &mut own, &mut own_work),
+        examined: archive::examine(mesh.handed(), links, groups, &lists.orientations, &mut work),
+        own: own_left(mesh, lengths),
         work,
         lists,
-        own,
-        own_work,
     }
 }
 
@@ -182,21 +131,10 @@ pub fn expected(mesh: &Mesh, lists: &Lists, lengths: [usize; 3]) -> Left {
         examined: plain_examined(mesh, lists),
         work: fresh_work(mesh.work),
         lists: lists.clone(),
-        handed: plain_refusal(mesh, lengths),
-        own: Lists::fresh(lengths),
-        own_work: fresh_work(mesh.work),
+        own: own_expected(mesh, lengths),
     };
     if left.examined.refusal == 0 {
         left.work[..mesh.needed_work()].fill(0);
-    }
-    if left.handed.number == 0 {
-        let m = model(&mesh.sizes, &numbers(mesh));
-        let plain = Lists::of(&m);
-        left.handed.sound = m.sound as u32;
-        left.own.links[..3 * m.sound].copy_from_slice(&plain.links);
-        left.own.groups[..3 * m.sound].copy_from_slice(&plain.groups);
-        left.own.orientations[..m.sound].copy_from_slice(&plain.orientations);
-        left.own_work[..mesh.needed_work()].fill(0);
     }
     left
 }
@@ -207,30 +145,9 @@ pub fn numbers(mesh: &Mesh) -> [Vec<f32>; 3] {
         .map(|list| list.iter().map(|bits| f32::from_bits(*bits)).collect())
 }
 
-/// The desk's refusal, if it gives one: neither call has a threshold or an answer list.
-pub fn refusal(mesh: &Mesh) -> Option<(u32, u32)> {
-    theirs::refusal(&Mesh {
-        threshold: 0,
-        answer: mesh.needed_answer(),
-        ..mesh.clone()
-    })
-}
-
-/// What the call for our own links says, but for the number of sound triangles.
-fn plain_refusal(mesh: &Mesh, lengths: [usize; 3]) -> Handed {
-    let short = (0..3).any(|list| lengths[list] < ENTRIES[list] * mesh.sizes.len());
-    let nine = if short { (9, 0) } else { (0, 0) };
-    let (number, place) = refusal(mesh).unwrap_or(nine);
-    Handed {
-        number,
-        place,
-        sound: 0,
-    }
-}
-
 /// What the examiner has to say: the desk's refusal, else the first objection that applies, at its lowest place.
 fn plain_examined(mesh: &Mesh, lists: &Lists) -> Examined {
-    if let Some((refusal, place)) = refusal(mesh) {
+    if let Some((refusal, place)) = without_frames(mesh) {
         return Examined {
             refusal,
             objection: 0,

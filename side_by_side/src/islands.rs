@@ -1,60 +1,9 @@
 //! The calls of islands beside what they have to leave: one call for frames, and a plain model of the islands.
-use crate::mesh::{Corner, Mesh, framed};
+use crate::mesh::{Corner, Mesh, framed, numbers_mut};
 use crate::ours::{self, Outcome, fresh_answer, fresh_work};
-use crate::random::Random;
-use crate::theirs;
+use crate::refusals::{or_nine, without_frames};
+use dokphalun_sys::{self as archive, IslandLists, Labelled};
 use std::collections::HashMap;
-
-/// What `dokphalun_labels` says.
-#[repr(C)]
-#[derive(Clone, Copy, Debug, PartialEq)]
-pub struct Labelled {
-    pub number: u32,
-    pub place: u32,
-    pub islands: u32,
-}
-
-unsafe extern "C" {
-    fn dokphalun_labels(
-        sizes: *const u8,
-        faces: usize,
-        positions: *const f32,
-        position_count: usize,
-        normals: *const f32,
-        normal_count: usize,
-        texture: *const f32,
-        texture_count: usize,
-        labels: *mut u32,
-        label_count: usize,
-        work: *mut u32,
-        work_count: usize,
-    ) -> Labelled;
-    fn dokphalun_frames_by_islands(
-        sizes: *const u8,
-        faces: usize,
-        positions: *const f32,
-        position_count: usize,
-        normals: *const f32,
-        normal_count: usize,
-        texture: *const f32,
-        texture_count: usize,
-        threshold: f32,
-        answer: *mut u32,
-        answer_count: usize,
-        work: *mut u32,
-        work_count: usize,
-        labels: *mut u32,
-        label_count: usize,
-        order: *mut u32,
-        order_count: usize,
-        own_sizes: *mut u8,
-        own_size_count: usize,
-        own_numbers: *mut f32,
-        own_number_count: usize,
-        own_frames: *mut u32,
-        own_frame_count: usize,
-    ) -> Outcome;
-}
 
 /// The entries a face of the lists of its own: labels, order, sizes, numbers, frames.
 pub const ENTRIES: [usize; 5] = [1, 4, 1, 32, 40];
@@ -100,55 +49,15 @@ pub struct Left {
 
 /// Frames by islands, on lists that are lent.
 pub fn by_islands(mesh: &Mesh, answer: &mut [u32], work: &mut [u32], own: &mut Own) -> Outcome {
-    // the lists are Rust's own, and each is handed over with its own length; any 32 bits are a number
-    unsafe {
-        dokphalun_frames_by_islands(
-            mesh.sizes.as_ptr(),
-            mesh.sizes.len(),
-            mesh.positions.as_ptr().cast(),
-            mesh.positions.len(),
-            mesh.normals.as_ptr().cast(),
-            mesh.normals.len(),
-            mesh.texture.as_ptr().cast(),
-            mesh.texture.len(),
-            f32::from_bits(mesh.threshold),
-            answer.as_mut_ptr(),
-            answer.len(),
-            work.as_mut_ptr(),
-            work.len(),
-            own.labels.as_mut_ptr(),
-            own.labels.len(),
-            own.order.as_mut_ptr(),
-            own.order.len(),
-            own.sizes.as_mut_ptr(),
-            own.sizes.len(),
-            own.numbers.as_mut_ptr().cast(),
-            own.numbers.len(),
-            own.frames.as_mut_ptr(),
-            own.frames.len(),
-        )
-    }
-}
-
-/// Labels, on lists that are lent.
-pub fn labels(mesh: &Mesh, labels: &mut [u32], work: &mut [u32]) -> Labelled {
-    // as above
-    unsafe {
-        dokphalun_labels(
-            mesh.sizes.as_ptr(),
-            mesh.sizes.len(),
-            mesh.positions.as_ptr().cast(),
-            mesh.positions.len(),
-            mesh.normals.as_ptr().cast(),
-            mesh.normals.len(),
-            mesh.texture.as_ptr().cast(),
-            mesh.texture.len(),
-            labels.as_mut_ptr(),
-            labels.len(),
-            work.as_mut_ptr(),
-            work.len(),
-        )
-    }
+    let threshold = f32::from_bits(mesh.threshold);
+    let own = IslandLists {
+        labels: &mut own.labels,
+        order: &mut own.order,
+        sizes: &mut own.sizes,
+        numbers: numbers_mut(&mut own.numbers),
+        frames: &mut own.frames,
+    };
+    archive::frames_by_islands(mesh.handed(), threshold, answer, work, own)
 }
 
 /// What both calls leave of fresh lists; those of its own have these lengths.
@@ -158,7 +67,7 @@ pub fn left(mesh: &Mesh, lengths: [usize; 5]) -> Left {
     let (mut alone, mut labels_work) = (own.labels.clone(), fresh_work(mesh.work));
     Left {
         outcome: by_islands(mesh, &mut answer, &mut work, &mut own),
-        labelled: labels(mesh, &mut alone, &mut labels_work),
+        labelled: archive::labels(mesh.handed(), &mut alone, &mut labels_work),
         answer,
         work,
         own,
@@ -210,14 +119,8 @@ pub fn expected(mesh: &Mesh, lengths: [usize; 5]) -> Result<Left, String> {
 
 /// What the call for labels says, but for the number of islands: it has no threshold and no answer list.
 fn labels_refusal(mesh: &Mesh, labels: usize) -> Labelled {
-    let asked = Mesh {
-        threshold: 0,
-        answer: mesh.needed_answer(),
-        ..mesh.clone()
-    };
     let short = labels < mesh.sizes.len();
-    let nine = if short { (9, 0) } else { (0, 0) };
-    let (number, place) = theirs::refusal(&asked).unwrap_or(nine);
+    let (number, place) = or_nine(without_frames(mesh), short);
     Labelled {
         number,
         place,
@@ -265,15 +168,4 @@ pub fn plain_labels(mesh: &Mesh) -> Vec<u32> {
         }
     }
     labels
-}
-
-/// Lengths of its own lists: just enough, more, or one of them one short.
-pub fn lengths(r: &mut Random, faces: usize) -> [usize; 5] {
-    let more = if r.chance(1, 3) { r.from_to(1, 9) } else { 0 };
-    let mut lengths = ENTRIES.map(|entries| entries * faces + more);
-    if r.chance(1, 4) {
-        let list = r.below(5);
-        lengths[list] = (ENTRIES[list] * faces).saturating_sub(1);
-    }
-    lengths
 }

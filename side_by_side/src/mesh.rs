@@ -1,4 +1,6 @@
 //! What is handed in and lent in one call.
+use dokphalun_sys as archive;
+use models::Faces;
 
 /// The bits of a corner's eight numbers: position, normal, texture.
 pub type Corner = [u32; 8];
@@ -36,7 +38,29 @@ pub fn framed(size: u8) -> bool {
     size == 3 || size == 4
 }
 
+/// Bits as the numbers that they are.
+pub fn numbers(bits: &[u32]) -> &[f32] {
+    // SAFETY: a number is as large as its bits and stands as they do, and any bits are a number
+    unsafe { std::slice::from_raw_parts(bits.as_ptr().cast(), bits.len()) }
+}
+
+/// The same of bits that are altered.
+pub fn numbers_mut(bits: &mut [u32]) -> &mut [f32] {
+    // SAFETY: as above, and any number is bits
+    unsafe { std::slice::from_raw_parts_mut(bits.as_mut_ptr().cast(), bits.len()) }
+}
+
 impl Mesh {
+    /// The lists that are handed in.
+    pub fn handed(&self) -> archive::Mesh<'_> {
+        archive::Mesh {
+            sizes: &self.sizes,
+            positions: numbers(&self.positions),
+            normals: numbers(&self.normals),
+            texture: numbers(&self.texture),
+        }
+    }
+
     /// Adds a face with these corners.
     pub fn push(&mut self, corners: &[Corner]) {
         self.sizes.push(corners.len() as u8);
@@ -54,6 +78,21 @@ impl Mesh {
             ..Mesh::default()
         };
         faces.iter().for_each(|face| mesh.push(face));
+        mesh.lend(0, 0);
+        mesh
+    }
+
+    /// The same of faces that are numbers.
+    pub fn from_faces(faces: &Faces, threshold: u32) -> Mesh {
+        let bits = |list: &[f32]| list.iter().map(|number| number.to_bits()).collect();
+        let mut mesh = Mesh {
+            sizes: faces.sizes.clone(),
+            positions: bits(faces.positions.as_flattened()),
+            normals: bits(faces.normals.as_flattened()),
+            texture: bits(faces.texture.as_flattened()),
+            threshold,
+            ..Mesh::default()
+        };
         mesh.lend(0, 0);
         mesh
     }

@@ -1,40 +1,15 @@
 //! The call of the proved archive.
 use crate::mesh::Mesh;
 use crate::stack;
+use dokphalun_sys::frames;
 
-/// What a call says: the number of a refusal and its place, or 0 and 0; and how many slots were written.
-#[repr(C)]
-#[derive(Clone, Copy, Debug, PartialEq)]
-pub struct Outcome {
-    pub number: u32,
-    pub place: u32,
-    pub slots: u32,
-}
+pub use dokphalun_sys::Outcome;
 
 /// What a call leaves: what it says, and both lent lists.
 pub struct Left {
     pub outcome: Outcome,
     pub answer: Vec<u32>,
     pub work: Vec<u32>,
-}
-
-unsafe extern "C" {
-    // a slice passes as a pointer and a length
-    fn dokphalun_frames(
-        sizes: *const u8,
-        faces: usize,
-        positions: *const f32,
-        position_count: usize,
-        normals: *const f32,
-        normal_count: usize,
-        texture: *const f32,
-        texture_count: usize,
-        threshold: f32,
-        answer: *mut u32,
-        answer_count: usize,
-        work: *mut u32,
-        work_count: usize,
-    ) -> Outcome;
 }
 
 /// How many words stand on each side of a lent list, to show that nothing outside it is altered.
@@ -83,24 +58,7 @@ impl Guarded {
 
 /// The call itself, on lists that are lent.
 pub fn call(mesh: &Mesh, answer: &mut [u32], work: &mut [u32]) -> Outcome {
-    // the lists are Rust's own, and each is handed over with its own length; any 32 bits are a number
-    unsafe {
-        dokphalun_frames(
-            mesh.sizes.as_ptr(),
-            mesh.sizes.len(),
-            mesh.positions.as_ptr().cast(),
-            mesh.positions.len(),
-            mesh.normals.as_ptr().cast(),
-            mesh.normals.len(),
-            mesh.texture.as_ptr().cast(),
-            mesh.texture.len(),
-            f32::from_bits(mesh.threshold),
-            answer.as_mut_ptr(),
-            answer.len(),
-            work.as_mut_ptr(),
-            work.len(),
-        )
-    }
+    frames(mesh.handed(), f32::from_bits(mesh.threshold), answer, work)
 }
 
 /// What the call leaves of fresh lists; an error says that it altered something that was not lent.

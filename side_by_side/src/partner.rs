@@ -1,8 +1,9 @@
 //! Lists as a partner might hand them in: our own, other sound ones, random ones; most of them with a word or a few changed.
-use crate::examiner::{ENTRIES, Lists, chains, numbers, refusal};
+use crate::examiner::{Lists, chains, numbers};
 use crate::mesh::Mesh;
 use crate::plain_steps::{Model, end, model};
 use crate::random::Random;
+use crate::refusals::without_frames;
 
 /// A change of lists for a mesh.
 type Change = fn(&mut Random, &Model, &mut Lists);
@@ -31,7 +32,7 @@ const CHANGES: [(usize, Change); 18] = [
 
 /// Lists for a mesh.
 pub fn lists(r: &mut Random, mesh: &Mesh) -> Lists {
-    if refusal(mesh).is_some() {
+    if without_frames(mesh).is_some() {
         let rows = r.below(30);
         return random(r, rows);
     }
@@ -346,15 +347,4 @@ fn pair_again(r: &mut Random, m: &Model, lists: &mut Lists) {
     if its != 0 {
         lists.links[its as usize - 1] = mine;
     }
-}
-
-/// Lengths of the lists that are lent for our own links: just enough, more, or one of them one short.
-pub fn lengths(r: &mut Random, faces: usize) -> [usize; 3] {
-    let more = if r.chance(1, 3) { r.from_to(1, 9) } else { 0 };
-    let mut lengths = ENTRIES.map(|entries| entries * faces + more);
-    if r.chance(1, 8) {
-        let list = r.below(3);
-        lengths[list] = (ENTRIES[list] * faces).saturating_sub(1);
-    }
-    lengths
 }

@@ -1,12 +1,10 @@
-//! What a call has to leave: the refusals of document 01's table, and the frames of the Rust crate; where a vector without a direction is met
+//! What a call has to leave: a refusal, or the frames of the Rust crate; where a vector without a direction is met
 //! (request E6) those of the altered copy.
 use crate::mesh::{Mesh, framed};
 use crate::ours::{Left, Outcome, fresh_answer, fresh_work};
+use crate::refusals::refusal;
 use bevy_mikktspace::{Ops, generate_tangents_with_threshold};
 use std::panic::{AssertUnwindSafe, catch_unwind};
-
-/// The greatest number of faces that is accepted.
-pub const MOST_FACES: usize = 65_536;
 
 /// A mesh as the crate asks for it, and the list that takes its frames.
 pub struct Asked<'a> {
@@ -122,51 +120,6 @@ geometry!(mikktspace_altered, altered_words);
 /// The bits of a number, and any NaN as 7FC00000.
 fn word(x: f32) -> u32 {
     if x.is_nan() { 0x7FC0_0000 } else { x.to_bits() }
-}
-
-/// True for the bits of a NaN or an infinity.
-pub fn unfit(bits: u32) -> bool {
-    bits & 0x7F80_0000 == 0x7F80_0000
-}
-
-/// The lowest corner of a face of 3 or 4 that holds a NaN or an infinity, for lists of the right lengths.
-fn unfit_corner(mesh: &Mesh) -> Option<usize> {
-    let mut first = 0;
-    for &size in &mesh.sizes {
-        let corners = first..first + usize::from(size);
-        first = corners.end;
-        let mut corners =
-            corners.filter(|&i| framed(size) && mesh.corner(i).into_iter().any(unfit));
-        if let Some(corner) = corners.next() {
-            return Some(corner);
-        }
-    }
-    None
-}
-
-/// The number and place of document 01's table, if a mesh is refused.
-pub fn refusal(mesh: &Mesh) -> Option<(u32, u32)> {
-    let corners = mesh.corners();
-    let lengths = [mesh.positions.len(), mesh.normals.len(), mesh.texture.len()];
-    if mesh.sizes.len() > MOST_FACES {
-        return Some((1, 0));
-    }
-    if lengths != [3 * corners, 3 * corners, 2 * corners] {
-        return Some((2, 0));
-    }
-    if unfit(mesh.threshold) {
-        return Some((3, 0));
-    }
-    if let Some(corner) = unfit_corner(mesh) {
-        return Some((4, corner as u32));
-    }
-    if mesh.answer < mesh.needed_answer() {
-        return Some((5, 0));
-    }
-    if mesh.work < mesh.needed_work() {
-        return Some((6, 0));
-    }
-    None
 }
 
 /// What a call has to leave, and whose frames they are.

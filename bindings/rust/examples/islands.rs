@@ -1,5 +1,6 @@
 //! Times of islands beside one call, all of one run: `cargo run --release --example islands [ROUNDS]` prints a table.
 use dokphalun::{Buffers, Mesh};
+use models::{Corner, Faces};
 use std::num::NonZeroUsize;
 use std::time::Instant;
 
@@ -9,56 +10,33 @@ const FACES: usize = 65_536;
 /// How many islands the shell has.
 const PARTS: usize = 64;
 
-/// Corners, by face.
-#[derive(Default)]
-struct Faces {
-    sizes: Vec<u8>,
-    positions: Vec<[f32; 3]>,
-    normals: Vec<[f32; 3]>,
-    texture: Vec<[f32; 2]>,
+/// A corner of a gently bulging sheet that starts so far to the right.
+fn corner(left: usize, place: [usize; 2]) -> Corner {
+    let [x, y] = place.map(|k| k as f32 / 256.0);
+    let height = 0.1 * (3.0 * x).sin() * (2.0 * y).cos();
+    let position = [x + 2.0 * left as f32, y, height];
+    (position, [0.0, 0.0, 1.0], [x, y])
 }
 
-impl Faces {
-    /// A face at these places of a gently bulging sheet that starts so far to the right.
-    fn push(&mut self, left: usize, corners: &[[usize; 2]]) {
-        self.sizes.push(corners.len() as u8);
-        for corner in corners {
-            let [x, y] = corner.map(|k| k as f32 / 256.0);
-            let height = 0.1 * (3.0 * x).sin() * (2.0 * y).cos();
-            self.positions.push([x + 2.0 * left as f32, y, height]);
-            self.normals.push([0.0, 0.0, 1.0]);
-            self.texture.push([x, y]);
-        }
-    }
-
-    /// A sheet of so many by so many quads.
-    fn sheet(&mut self, left: usize, side: usize) {
-        for i in 0..side * side {
-            let [x, y] = [i % side, i / side];
-            self.push(left, &[[x, y], [x + 1, y], [x + 1, y + 1], [x, y + 1]]);
-        }
-    }
-
-    fn mesh(&self) -> Mesh<'_> {
-        Mesh {
-            sizes: &self.sizes,
-            positions: &self.positions,
-            normals: &self.normals,
-            texture: &self.texture,
-        }
+/// Adds a sheet of so many by so many quads.
+fn sheet(faces: &mut Faces, left: usize, side: usize) {
+    for i in 0..side * side {
+        let [x, y] = [i % side, i / side];
+        let quad = [[x, y], [x + 1, y], [x + 1, y + 1], [x, y + 1]];
+        faces.push(&quad.map(|place| corner(left, place)));
     }
 }
 
 /// The meshes that are measured, by name.
 fn meshes() -> [(&'static str, Faces); 3] {
-    let (mut sheet, mut shell, mut apart) = (Faces::default(), Faces::default(), Faces::default());
-    sheet.sheet(0, FACES.isqrt());
-    (0..PARTS).for_each(|part| shell.sheet(part, (FACES / PARTS).isqrt()));
-    (0..FACES).for_each(|face| apart.push(face, &[[0, 0], [1, 0], [0, 1]]));
+    let (mut one, mut shell) = (Faces::default(), Faces::default());
+    sheet(&mut one, 0, FACES.isqrt());
+    (0..PARTS).for_each(|part| sheet(&mut shell, part, (FACES / PARTS).isqrt()));
+    let triangle = |left| [[0, 0], [1, 0], [0, 1]].map(|place| corner(left, place));
     [
-        ("one sheet", sheet),
+        ("one sheet", one),
         ("a shell of 64 sheets", shell),
-        ("triangles apart", apart),
+        ("triangles apart", Faces::of((0..FACES).map(triangle))),
     ]
 }
 

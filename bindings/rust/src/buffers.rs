@@ -1,13 +1,10 @@
 //! The lists that are lent to the archive, kept from call to call.
-use crate::archive::{self, Own};
 use crate::card::{Card, write_card};
-use crate::islands::Batch;
+use crate::islands::{Batch, Own};
 use crate::mesh::{MOST_FACES, Mesh, Place, slots, takes_slots};
-use crate::reading::{Reading, SLOT_WORDS};
+use crate::reading::Reading;
 use crate::refusal::{CardRefusal, Refusal};
-
-/// The words of work that a face needs.
-const WORK_WORDS: usize = 128;
+use dokphalun_sys::{self as archive, SLOT_WORDS, WORK_WORDS};
 
 /// The lists that are lent to the archive. They grow to what the largest call needed, and are used again.
 #[derive(Debug, Default)]
@@ -29,7 +26,7 @@ impl Buffers {
     /// The frames of a mesh. The threshold is the cosine of the angle up to which tangents are joined; -1 sets no limit.
     pub fn frames<'a>(&'a mut self, mesh: Mesh<'a>, threshold: f32) -> Result<Answer<'a>, Refusal> {
         self.lend(mesh.sizes);
-        let outcome = archive::frames(mesh, threshold, &mut self.answer, &mut self.work);
+        let outcome = archive::frames(mesh.flat(), threshold, &mut self.answer, &mut self.work);
         match Refusal::of(outcome.number, outcome.place, mesh.sizes) {
             Some(refusal) => Err(refusal),
             None => Ok(self.answer(mesh.sizes, 1)),
@@ -57,7 +54,7 @@ impl Buffers {
         self.answer.resize(words, 0);
         let said = archive::card_read(card, total, &mut self.answer);
         CardRefusal::of(said.number)?;
-        Ok(Card::of(&self.answer, said.bytes))
+        Ok(Card::of(&self.answer, said.past))
     }
 
     /// Makes both lists as long as faces of these sizes need; past the limit, where all is refused, no longer than at it.

@@ -1,7 +1,7 @@
 //! Answers to a card and back.
-use crate::archive;
-use crate::reading::{Record, SLOT_WORDS};
+use crate::reading::Record;
 use crate::refusal::CardRefusal;
+use dokphalun_sys::{self as archive, SLOT_WORDS};
 
 /// The bytes of a block.
 pub const BLOCK_BYTES: usize = 512;
@@ -35,7 +35,7 @@ pub fn next_block(long: usize, total: u32) -> Result<Next, CardRefusal> {
     let said = archive::card_next(long, total);
     CardRefusal::of(said.number)?;
     Ok(Next {
-        records: said.count as usize,
+        records: said.records as usize,
         at: said.at,
     })
 }

@@ -1,21 +1,12 @@
 //! Islands: faces that share a welded corner, directly or over others; and frames of islands on several threads.
-use crate::archive::{self, Own};
 use crate::buffers::{Answer, Buffers};
 use crate::mesh::{MOST_FACES, Mesh, takes_slots};
-use crate::reading::SLOT_WORDS;
 use crate::refusal::Refusal;
+use dokphalun_sys::{self as archive, ISLAND_ENTRIES, IslandLists, NO_ISLAND, SLOT_WORDS};
 use std::cmp::Reverse;
 use std::num::NonZeroUsize;
 use std::sync::Mutex;
 use std::thread::{Builder, scope};
-
-/// What a face is given that is in no island.
-const NO_ISLAND: u32 = u32::MAX;
-
-/// The entries a face of the lists that [`Buffers::frames_by_islands`] works in: the faces' order, an island's numbers and its slots.
-const ORDER_WORDS: usize = 4;
-const OWN_NUMBERS: usize = 32;
-const OWN_SLOTS: usize = 4;
 
 /// The islands of a mesh. Two faces of 3 or 4 are in one island if a chain of faces, each sharing a welded corner with the
 /// next, leads from one to the other. Other faces are in none.
@@ -94,7 +85,7 @@ impl Buffers {
         self.lend(mesh.sizes);
         let faces = mesh.sizes.len().min(MOST_FACES);
         self.own.labels.resize(faces, 0);
-        let said = archive::labels(mesh, &mut self.own.labels, &mut self.work);
+        let said = archive::labels(mesh.flat(), &mut self.own.labels, &mut self.work);
         match Refusal::of(said.number, said.place, mesh.sizes) {
             Some(refusal) => Err(refusal),
             None => Ok(Islands {
@@ -111,9 +102,9 @@ impl Buffers {
         threshold: f32,
     ) -> Result<Answer<'a>, Refusal> {
         self.lend(mesh.sizes);
-        self.own.lend(mesh.sizes.len().min(MOST_FACES));
+        let own = self.own.lend(mesh.sizes.len().min(MOST_FACES));
         let (answer, work) = (&mut self.answer, &mut self.work);
-        let said = archive::frames_by_islands(mesh, threshold, answer, work, &mut self.own);
+        let said = archive::frames_by_islands(mesh.flat(), threshold, answer, work, own);
         match Refusal::of(said.number, said.place, mesh.sizes) {
             Some(refusal) => Err(refusal),
             None => Ok(self.answer(mesh.sizes, 1)),
@@ -174,14 +165,32 @@ impl Buffers {
     }
 }
 
+/// The lists that [`Buffers::frames_by_islands`] works in besides.
+#[derive(Debug, Default)]
+pub(crate) struct Own {
+    labels: Vec<u32>,
+    order: Vec<u32>,
+    sizes: Vec<u8>,
+    numbers: Vec<f32>,
+    frames: Vec<u32>,
+}
+
 impl Own {
-    /// Makes each list as long as so many faces need.
-    fn lend(&mut self, faces: usize) {
-        self.labels.resize(faces, 0);
-        self.order.resize(ORDER_WORDS * faces, 0);
-        self.sizes.resize(faces, 0);
-        self.numbers.resize(OWN_NUMBERS * faces, 0.0);
-        self.frames.resize(OWN_SLOTS * SLOT_WORDS * faces, 0);
+    /// Each list, as long as so many faces need.
+    fn lend(&mut self, faces: usize) -> IslandLists<'_> {
+        let [labels, order, sizes, numbers, frames] = ISLAND_ENTRIES.map(|entries| entries * faces);
+        self.labels.resize(labels, 0);
+        self.order.resize(order, 0);
+        self.sizes.resize(sizes, 0);
+        self.numbers.resize(numbers, 0.0);
+        self.frames.resize(frames, 0);
+        IslandLists {
+            labels: &mut self.labels,
+            order: &mut self.order,
+            sizes: &mut self.sizes,
+            numbers: &mut self.numbers,
+            frames: &mut self.frames,
+        }
     }
 }
 

@@ -3,7 +3,10 @@
 //! A mesh goes in, and for each corner of a face of 3 or 4 comes out a [`Reading`]: a frame, or the plain word that there
 //! is none. An absent reading is not a good reading, so it is a case of its own and never a row of zeros.
 //! docs/PROGRAMMERS.md has whole programs.
-mod archive;
+//!
+//! The first call asks the archive what it is. Where it is of another edition than these bindings, every call panics and says so.
+#![forbid(unsafe_code)]
+#![deny(missing_docs)]
 mod buffers;
 mod card;
 mod islands;
@@ -17,6 +20,7 @@ mod triangles;
 
 pub use buffers::{Answer, Buffers};
 pub use card::{BLOCK_BYTES, BLOCK_RECORDS, Card, Next, append_blocks, next_block, write_card};
+pub use dokphalun_sys::{Edition, OtherArchive, archive};
 pub use islands::Islands;
 pub use lists::{Lists, OwnLinks};
 pub use mesh::{MOST_FACES, MOST_SLOTS, Mesh, Place, corners, slots, takes_slots};

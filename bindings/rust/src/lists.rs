@@ -1,9 +1,9 @@
 //! Lists of links, groups and orientations: a partner's, which are examined, and our own, which are handed out.
-use crate::archive;
 use crate::buffers::Buffers;
 use crate::mesh::{MOST_FACES, Mesh};
 use crate::objection::Objection;
 use crate::refusal::Refusal;
+use dokphalun_sys::{self as archive, LINK_ENTRIES};
 
 /// Lists that say how the N sound triangles of a mesh ([`crate::triangles`]) hang together. Row 3t + i is of corner i (0, 1,
 /// 2) of triangle t, and of the side that runs from it to the next corner. Nothing is checked here; the archive checks it.
@@ -20,14 +20,13 @@ pub struct Lists<'a> {
 /// The lists that our own steps 5 and 6 make.
 #[derive(Clone, Debug, Default, PartialEq, Eq)]
 pub struct OwnLinks {
+    /// As [`Lists::links`].
     pub links: Vec<u32>,
+    /// As [`Lists::groups`].
     pub groups: Vec<u32>,
+    /// As [`Lists::orientations`].
     pub orientations: Vec<u32>,
 }
-
-/// The words a face that our own lists are lent: two triangles, at three rows each.
-const FACE_ROWS: usize = 6;
-const FACE_TRIANGLES: usize = 2;
 
 impl OwnLinks {
     /// The same lists, to be examined.
@@ -41,10 +40,11 @@ impl OwnLinks {
 
     /// Lists that are long enough for so many faces.
     fn lent(faces: usize) -> OwnLinks {
+        let [links, groups, orientations] = LINK_ENTRIES.map(|words| vec![0; words * faces]);
         OwnLinks {
-            links: vec![0; FACE_ROWS * faces],
-            groups: vec![0; FACE_ROWS * faces],
-            orientations: vec![0; FACE_TRIANGLES * faces],
+            links,
+            groups,
+            orientations,
         }
     }
 
@@ -61,7 +61,9 @@ impl Buffers {
     /// lowest place. A mesh that is refused is [`Objection::Refused`]. docs/EXAMINER.md says what is asked of the lists.
     pub fn examine(&mut self, mesh: Mesh, lists: Lists) -> Result<(), Objection> {
         self.lend(mesh.sizes);
-        let said = archive::examine(mesh, lists, &mut self.work);
+        let (links, groups) = (lists.links, lists.groups);
+        let (mesh_lists, work) = (mesh.flat(), &mut self.work);
+        let said = archive::examine(mesh_lists, links, groups, lists.orientations, work);
         match Refusal::of(said.refusal, said.place, mesh.sizes) {
             Some(refusal) => Err(Objection::Refused(refusal)),
             None => Objection::of(said.objection, said.place, mesh, lists),
@@ -72,7 +74,9 @@ impl Buffers {
     pub fn links(&mut self, mesh: Mesh) -> Result<OwnLinks, Refusal> {
         self.lend(mesh.sizes);
         let mut own = OwnLinks::lent(mesh.sizes.len().min(MOST_FACES));
-        let said = archive::links(mesh, &mut own, &mut self.work);
+        let (links, groups) = (&mut own.links, &mut own.groups);
+        let (orientations, work) = (&mut own.orientations, &mut self.work);
+        let said = archive::links(mesh.flat(), links, groups, orientations, work);
         match Refusal::of(said.number, said.place, mesh.sizes) {
             Some(refusal) => Err(refusal),
             None => {

@@ -1,8 +1,8 @@
 //! What is handed in, and where its corners are.
+use dokphalun_sys as archive;
 use std::fmt;
 
-/// The greatest number of faces that is accepted.
-pub const MOST_FACES: usize = 65_536;
+pub use archive::MOST_FACES;
 
 /// The greatest number of slots that a mesh can have: four a face.
 pub const MOST_SLOTS: usize = 4 * MOST_FACES;
@@ -20,10 +20,24 @@ pub struct Mesh<'a> {
     pub texture: &'a [[f32; 2]],
 }
 
+impl<'a> Mesh<'a> {
+    /// The same lists as the archive takes them, number by number.
+    pub(crate) fn flat(self) -> archive::Mesh<'a> {
+        archive::Mesh {
+            sizes: self.sizes,
+            positions: self.positions.as_flattened(),
+            normals: self.normals.as_flattened(),
+            texture: self.texture.as_flattened(),
+        }
+    }
+}
+
 /// A corner of a mesh; both are counted from 0.
 #[derive(Clone, Copy, Debug, PartialEq, Eq)]
 pub struct Place {
+    /// The face.
     pub face: usize,
+    /// The corner of the face.
     pub corner: usize,
 }
 

@@ -9,8 +9,11 @@ use std::fmt;
 /// One of the three lists.
 #[derive(Clone, Copy, Debug, PartialEq, Eq)]
 pub enum List {
+    /// The links.
     Links,
+    /// The groups.
     Groups,
+    /// The orientations.
     Orientations,
 }
 
@@ -33,8 +36,11 @@ pub enum Objection {
     Refused(Refusal),
     /// 1: a list has more or fewer words than the mesh's sound triangles call for.
     Length {
+        /// Which list.
         list: List,
+        /// How many words it has.
         words: usize,
+        /// How many the triangles call for.
         wanted: usize,
     },
     /// 2: a side is linked to a row that is not there.
@@ -60,7 +66,12 @@ pub enum Objection {
     /// 12: a corner is in a group with a lower row from which no chain of linked sides that end in the corner leads to it.
     Severed(Side),
     /// A number or a place that this crate does not know: the archive is newer.
-    Unknown { number: u32, place: u32 },
+    Unknown {
+        /// Its number.
+        number: u32,
+        /// Its place.
+        place: u32,
+    },
 }
 
 impl Objection {

@@ -1,7 +1,6 @@
 //! Frames packed to 16 bits for a viewer, and back.
-use crate::archive;
-use crate::reading::SLOT_WORDS;
 use crate::refusal::PackRefusal;
+use dokphalun_sys::{self as archive, SLOT_WORDS};
 
 /// The numbers of a packed slot.
 pub const PACKED_NUMBERS: usize = 7;
@@ -16,7 +15,9 @@ pub enum Packed {
     Absent,
     /// Tangent and bi-tangent, each component times 32,767; and whether the texture runs round the face as the corners do.
     Present {
+        /// The six components.
         directions: [i16; 6],
+        /// Whether the texture is not mirrored.
         preserving: bool,
     },
 }
@@ -40,13 +41,13 @@ pub fn pack(words: &[u32], packed: &mut Vec<i16>) -> Result<(), PackRefusal> {
     packed.clear();
     packed.resize(words.len() / SLOT_WORDS * PACKED_NUMBERS, 0);
     let said = archive::pack(words, packed);
-    PackRefusal::of(said.number, said.bytes).inspect_err(|_| packed.clear())
+    PackRefusal::of(said.number, said.count).inspect_err(|_| packed.clear())
 }
 
 /// Packed numbers to what they hold, slot by slot.
 pub fn unpack(packed: &[i16]) -> Result<Vec<Packed>, PackRefusal> {
     let mut words = vec![0; packed.len() / PACKED_NUMBERS * READ_WORDS];
     let said = archive::unpack(packed, &mut words);
-    PackRefusal::of(said.number, said.bytes)?;
+    PackRefusal::of(said.number, said.place)?;
     Ok(words.as_chunks().0.iter().map(Packed::of).collect())
 }

@@ -1,7 +1,5 @@
 //! What comes back for a corner: a frame, or the plain word that there is none.
-
-/// How many words a slot has.
-pub(crate) const SLOT_WORDS: usize = 10;
+use dokphalun_sys::SLOT_WORDS;
 
 /// The tangent frame of a corner.
 #[derive(Clone, Copy, Debug, PartialEq)]

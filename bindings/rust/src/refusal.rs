@@ -3,12 +3,38 @@ use crate::mesh::{MOST_FACES, Place, corners};
 use std::error::Error;
 use std::fmt;
 
+/// What to do about a refusal, by its number.
+const REMEDIES: [(u32, &str); 7] = [
+    (
+        1,
+        "cut the mesh along the seams of its texture into parts that share no corner, and hand them in one by one",
+    ),
+    (
+        2,
+        "hand in one position, one normal and one pair of texture coordinates for each corner of each face",
+    ),
+    (3, "take a cosine from -1 (180 degrees: no limit) to 1"),
+    (
+        4,
+        "scan that place again, or leave the face out and treat it as absent; never put a zero there",
+    ),
+    (5, "lend ten words for each corner of a face of 3 or 4"),
+    (6, "lend 128 words for each face"),
+    (
+        9,
+        "lend the lists that the call takes besides at the lengths of docs/PROGRAMMERS.md",
+    ),
+];
+
 /// Why a mesh was refused. Nothing was altered, and no corner of it has a reading.
 #[derive(Clone, Copy, Debug, PartialEq, Eq)]
 #[non_exhaustive]
 pub enum Refusal {
     /// 1: more faces than are accepted.
-    TooManyFaces { faces: usize },
+    TooManyFaces {
+        /// How many there are.
+        faces: usize,
+    },
     /// 2: positions, normals and texture coordinates are not one for each corner.
     UnequalLists,
     /// 3: the threshold is NaN or infinite.
@@ -22,7 +48,12 @@ pub enum Refusal {
     /// 9: a list that the call takes besides is too short.
     OwnTooShort,
     /// A number that this crate does not know: the archive is newer.
-    Unknown { number: u32, place: u32 },
+    Unknown {
+        /// Its number.
+        number: u32,
+        /// Its place.
+        place: u32,
+    },
 }
 
 impl Refusal {
@@ -44,18 +75,31 @@ impl Refusal {
         })
     }
 
+    /// The number that document 01 gives it, and what it says.
+    fn said(&self) -> (u32, String) {
+        match self {
+            Refusal::TooManyFaces { faces } => {
+                let says = format!("{faces} faces; at most {MOST_FACES} are accepted");
+                (1, says)
+            }
+            Refusal::UnequalLists => {
+                let lists = "positions, normals and texture coordinates";
+                (2, format!("{lists} are not one for each corner"))
+            }
+            Refusal::Threshold => (3, "the threshold is not a finite number".into()),
+            Refusal::NotFinite(place) => (4, format!("{place} holds a NaN or an infinity")),
+            Refusal::AnswerTooShort => (5, "the answer list is too short".into()),
+            Refusal::WorkTooShort => (6, "the work list is too short".into()),
+            Refusal::OwnTooShort => (9, "a list that the call takes besides is too short".into()),
+            Refusal::Unknown { number, place } => {
+                (*number, format!("not known here (place {place})"))
+            }
+        }
+    }
+
     /// The number that document 01 gives it.
     pub fn number(&self) -> u32 {
-        match self {
-            Refusal::TooManyFaces { .. } => 1,
-            Refusal::UnequalLists => 2,
-            Refusal::Threshold => 3,
-            Refusal::NotFinite(_) => 4,
-            Refusal::AnswerTooShort => 5,
-            Refusal::WorkTooShort => 6,
-            Refusal::OwnTooShort => 9,
-            Refusal::Unknown { number, .. } => *number,
-        }
+        self.said().0
     }
 
     /// The corner that it is about, if it is about one.
@@ -68,44 +112,17 @@ impl Refusal {
 
     /// What to do about it.
     pub fn remedy(&self) -> &'static str {
-        match self {
-            Refusal::TooManyFaces { .. } => {
-                "cut the mesh along the seams of its texture into parts that share no corner, and hand them in one by one"
-            }
-            Refusal::UnequalLists => {
-                "hand in one position, one normal and one pair of texture coordinates for each corner of each face"
-            }
-            Refusal::Threshold => "take a cosine from -1 (180 degrees: no limit) to 1",
-            Refusal::NotFinite(_) => {
-                "scan that place again, or leave the face out and treat it as absent; never put a zero there"
-            }
-            Refusal::AnswerTooShort => "lend ten words for each corner of a face of 3 or 4",
-            Refusal::WorkTooShort => "lend 128 words for each face",
-            Refusal::OwnTooShort => {
-                "lend the lists that the call takes besides at the lengths of docs/PROGRAMMERS.md"
-            }
-            Refusal::Unknown { .. } => "use the bindings that came with this archive",
-        }
+        let known = !matches!(self, Refusal::Unknown { .. });
+        let mut rows = REMEDIES.iter().filter(|_| known);
+        let found = rows.find(|(number, _)| *number == self.number());
+        found.map_or("use the bindings that came with this archive", |row| row.1)
     }
 }
 
 impl fmt::Display for Refusal {
     fn fmt(&self, f: &mut fmt::Formatter) -> fmt::Result {
-        write!(f, "refusal {}: ", self.number())?;
-        match self {
-            Refusal::TooManyFaces { faces } => {
-                write!(f, "{faces} faces; at most {MOST_FACES} are accepted")
-            }
-            Refusal::UnequalLists => f.write_str(
-                "positions, normals and texture coordinates are not one for each corner",
-            ),
-            Refusal::Threshold => f.write_str("the threshold is not a finite number"),
-            Refusal::NotFinite(place) => write!(f, "{place} holds a NaN or an infinity"),
-            Refusal::AnswerTooShort => f.write_str("the answer list is too short"),
-            Refusal::WorkTooShort => f.write_str("the work list is too short"),
-            Refusal::OwnTooShort => f.write_str("a list that the call takes besides is too short"),
-            Refusal::Unknown { place, .. } => write!(f, "not known here (place {place})"),
-        }
+        let (number, says) = self.said();
+        write!(f, "refusal {number}: {says}")
     }
 }
 
@@ -124,9 +141,15 @@ pub enum CardRefusal {
     /// 4: the records are not those of the next blocks by count.
     NotTheNext,
     /// There is no memory for so many records.
-    NoMemory { records: usize },
+    NoMemory {
+        /// How many records.
+        records: usize,
+    },
     /// A number that this crate does not know: the archive is newer.
-    Unknown { number: u32 },
+    Unknown {
+        /// Its number.
+        number: u32,
+    },
 }
 
 impl CardRefusal {
@@ -145,20 +168,20 @@ impl CardRefusal {
 
 impl fmt::Display for CardRefusal {
     fn fmt(&self, f: &mut fmt::Formatter) -> fmt::Result {
-        match self {
-            CardRefusal::NotRecords => f.write_str(
-                "card refusal 1: the words are not whole records of ten, each with 0 or 1 in word 0",
+        let (number, says) = match self {
+            CardRefusal::NotRecords => (
+                1,
+                "the words are not whole records of ten, each with 0 or 1 in word 0",
             ),
-            CardRefusal::TooShort => f.write_str("card refusal 2: the lent list is too short"),
-            CardRefusal::BeyondTotal => {
-                f.write_str("card refusal 3: the card holds more than the total calls for")
+            CardRefusal::TooShort => (2, "the lent list is too short"),
+            CardRefusal::BeyondTotal => (3, "the card holds more than the total calls for"),
+            CardRefusal::NotTheNext => (4, "the records are not those of the next blocks by count"),
+            CardRefusal::NoMemory { records } => {
+                return write!(f, "no memory for {records} records");
             }
-            CardRefusal::NotTheNext => f.write_str(
-                "card refusal 4: the records are not those of the next blocks by count",
-            ),
-            CardRefusal::NoMemory { records } => write!(f, "no memory for {records} records"),
-            CardRefusal::Unknown { number } => write!(f, "card refusal {number}: not known here"),
-        }
+            CardRefusal::Unknown { number } => (*number, "not known here"),
+        };
+        write!(f, "card refusal {number}: {says}")
     }
 }
 
@@ -173,9 +196,15 @@ pub enum PackRefusal {
     /// 2: the lent list is too short.
     TooShort,
     /// 3: seven numbers that the packer cannot have written, of this slot.
-    NotPacked { slot: usize },
+    NotPacked {
+        /// The slot.
+        slot: usize,
+    },
     /// A number that this crate does not know: the archive is newer.
-    Unknown { number: u32 },
+    Unknown {
+        /// Its number.
+        number: u32,
+    },
 }
 
 impl PackRefusal {
@@ -193,17 +222,15 @@ impl PackRefusal {
 
 impl fmt::Display for PackRefusal {
     fn fmt(&self, f: &mut fmt::Formatter) -> fmt::Result {
-        match self {
-            PackRefusal::NotSlots => f.write_str("pack refusal 1: the list is not in whole slots"),
-            PackRefusal::TooShort => f.write_str("pack refusal 2: the lent list is too short"),
+        let (number, says) = match self {
+            PackRefusal::NotSlots => (1, "the list is not in whole slots".into()),
+            PackRefusal::TooShort => (2, "the lent list is too short".into()),
             PackRefusal::NotPacked { slot } => {
-                write!(
-                    f,
-                    "pack refusal 3: slot {slot} is not what the packer writes"
-                )
+                (3, format!("slot {slot} is not what the packer writes"))
             }
-            PackRefusal::Unknown { number } => write!(f, "pack refusal {number}: not known here"),
-        }
+            PackRefusal::Unknown { number } => (*number, "not known here".into()),
+        };
+        write!(f, "pack refusal {number}: {says}")
     }
 }
 

@@ -5,8 +5,11 @@ use std::fmt;
 /// A sound triangle: its number in the lists, its face, and which corners of the face it has.
 #[derive(Clone, Copy, Debug, PartialEq, Eq)]
 pub struct Triangle {
+    /// Its number in the lists.
     pub number: usize,
+    /// Its face.
     pub face: usize,
+    /// The corners of the face that it has.
     pub corners: [usize; 3],
 }
 
@@ -14,9 +17,13 @@ pub struct Triangle {
 /// has no two sides that are alike in both, so the corner where it starts is named by it too.
 #[derive(Clone, Copy, Debug, PartialEq, Eq)]
 pub struct Side {
+    /// Its row in the lists.
     pub row: usize,
+    /// Its face.
     pub face: usize,
+    /// The corner of the face where it starts.
     pub from: usize,
+    /// The corner of the face where it ends.
     pub to: usize,
 }
 

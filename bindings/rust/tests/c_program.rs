@@ -21,7 +21,7 @@ fn the_c_program_of_the_page_runs() {
     let made = Path::new(env!("CARGO_TARGET_TMPDIR"));
     let (source, out) = (made.join("page.c"), made.join("page"));
     fs::write(&source, program(&page)).unwrap();
-    let archive = Path::new(env!("DOKPHALUN_FOLDER")).join("libdokphalun.a");
+    let archive = Path::new(dokphalun_sys::FOLDER).join("libdokphalun.a");
     let built = Command::new("cc")
         .args(["-std=c99", "-Wall", "-Wextra", "-Werror", "-pedantic", "-I"])
         .arg(root.join("include"))

@@ -1,5 +1,7 @@
 //! Frames, refusals and buffers through the archive.
 use dokphalun::{Buffers, Frame, Mesh, Place, Reading, Refusal};
+use std::fs;
+use std::path::Path;
 
 /// Document 01's sample 1, in numbers: one triangle.
 const POSITIONS: [[f32; 3]; 3] = [[0.0, 0.0, 0.0], [1.0, 0.0, 0.0], [0.0, 1.0, 0.0]];
@@ -93,5 +95,31 @@ fn no_direction_is_told() {
     for tangent in [[0.0, -0.0, 0.0], [1.0, f32::NAN, 0.0]] {
         let frame = Frame { tangent, ..FRAME };
         assert!(!frame.directed());
+    }
+}
+
+#[test]
+fn the_page_s_table_has_the_numbers_and_names_of_all_refusals() {
+    let page = Path::new(env!("CARGO_MANIFEST_DIR")).join("../../docs/PROGRAMMERS.md");
+    let page = fs::read_to_string(page).unwrap();
+    let place = Place { face: 0, corner: 0 };
+    for refusal in [
+        Refusal::TooManyFaces { faces: 0 },
+        Refusal::UnequalLists,
+        Refusal::Threshold,
+        Refusal::NotFinite(place),
+        Refusal::AnswerTooShort,
+        Refusal::WorkTooShort,
+        Refusal::OwnTooShort,
+    ] {
+        let (number, shown) = (refusal.number(), format!("{refusal:?}"));
+        let name = shown.split([' ', '(']).next().unwrap();
+        let row = format!("\n| {number} | `{name}");
+        assert!(page.contains(&row), "{row}");
+        assert!(
+            refusal
+                .to_string()
+                .starts_with(&format!("refusal {number}: "))
+        );
     }
 }

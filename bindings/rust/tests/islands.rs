@@ -1,42 +1,27 @@
 //! Islands: their numbers, frames one island at a time, and frames on several threads.
-use dokphalun::{Answer, Buffers, Mesh, Place, Refusal};
+use dokphalun::{Answer, Buffers, Place, Refusal};
+use models::{Corner, Faces};
 use std::num::NonZeroUsize;
 
-/// Corners, by face.
-#[derive(Default)]
-struct Faces {
-    sizes: Vec<u8>,
-    positions: Vec<[f32; 3]>,
-    normals: Vec<[f32; 3]>,
-    texture: Vec<[f32; 2]>,
+/// A corner at a place of a bulging sheet.
+fn bulging([x, y]: [f32; 2]) -> Corner {
+    let height = 0.1 * (3.0 * x).sin() * y.cos();
+    ([x, y, height], [0.0, 0.0, 1.0], [x * 0.5, y * 0.25])
 }
 
-impl Faces {
-    /// A face whose corners stand at these places of a bulging sheet.
-    fn push(&mut self, corners: &[[f32; 2]]) {
-        self.sizes.push(corners.len() as u8);
-        for &[x, y] in corners {
-            self.positions.push([x, y, 0.1 * (3.0 * x).sin() * y.cos()]);
-            self.normals.push([0.0, 0.0, 1.0]);
-            self.texture.push([x * 0.5, y * 0.25]);
-        }
-    }
+/// A face whose corners stand at these places of the sheet.
+fn push<const N: usize>(faces: &mut Faces, corners: [[f32; 2]; N]) {
+    faces.push(&corners.map(bulging));
+}
 
-    /// A square of so many by so many quads; their corners are apart by a half, so that corners of one square are welded exactly.
-    fn square(&mut self, side: usize, left: f32) {
-        for i in 0..side * side {
-            let (x, y) = (left + (i % side) as f32 * 0.5, (i / side) as f32 * 0.5);
-            self.push(&[[x, y], [x + 0.5, y], [x + 0.5, y + 0.5], [x, y + 0.5]]);
-        }
-    }
-
-    fn mesh(&self) -> Mesh<'_> {
-        Mesh {
-            sizes: &self.sizes,
-            positions: &self.positions,
-            normals: &self.normals,
-            texture: &self.texture,
-        }
+/// A square of so many by so many quads; their corners are apart by a half, so that corners of one square are welded exactly.
+fn square(faces: &mut Faces, side: usize, left: f32) {
+    for i in 0..side * side {
+        let (x, y) = (left + (i % side) as f32 * 0.5, (i / side) as f32 * 0.5);
+        push(
+            faces,
+            [[x, y], [x + 0.5, y], [x + 0.5, y + 0.5], [x, y + 0.5]],
+        );
     }
 }
 
@@ -44,9 +29,9 @@ impl Faces {
 fn archipelago() -> Faces {
     let mut faces = Faces::default();
     for (i, side) in [3, 1, 7, 2, 5, 4, 6, 1].into_iter().enumerate() {
-        faces.square(side, 100.0 * i as f32);
-        faces.push(&[[0.0; 2]; 5]);
-        faces.push(&[[-1.0 - i as f32, 0.0]; 3]);
+        square(&mut faces, side, 100.0 * i as f32);
+        push(&mut faces, [[0.0; 2]; 5]);
+        push(&mut faces, [[-1.0 - i as f32, 0.0]; 3]);
     }
     faces
 }
@@ -64,12 +49,12 @@ fn threads(count: usize) -> NonZeroUsize {
 #[test]
 fn each_face_is_given_the_lowest_number_of_its_island() {
     let mut faces = Faces::default();
-    faces.push(&[[5.0, 0.0], [6.0, 0.0], [5.0, 1.0]]);
-    faces.push(&[[0.0, 0.0], [1.0, 0.0], [0.0, 1.0]]);
-    faces.push(&[[0.0, 0.0]; 5]);
-    faces.push(&[[9.0, 9.0]; 3]);
-    faces.push(&[[6.0, 0.0], [7.0, 0.0], [1.0, 0.0], [6.0, 1.0]]);
-    faces.push(&[[20.0, 0.0], [21.0, 0.0], [20.0, 1.0]]);
+    push(&mut faces, [[5.0, 0.0], [6.0, 0.0], [5.0, 1.0]]);
+    push(&mut faces, [[0.0, 0.0], [1.0, 0.0], [0.0, 1.0]]);
+    push(&mut faces, [[0.0, 0.0]; 5]);
+    push(&mut faces, [[9.0, 9.0]; 3]);
+    push(&mut faces, [[6.0, 0.0], [7.0, 0.0], [1.0, 0.0], [6.0, 1.0]]);
+    push(&mut faces, [[20.0, 0.0], [21.0, 0.0], [20.0, 1.0]]);
     let mut buffers = Buffers::new();
     let islands = buffers.islands(faces.mesh()).expect("it is refused");
     let given: Vec<Option<usize>> = islands.of_faces().collect();
@@ -110,7 +95,7 @@ fn the_words_are_the_same_by_islands_and_on_any_number_of_threads() {
 #[test]
 fn one_island_is_one_part() {
     let mut faces = Faces::default();
-    faces.square(9, 0.0);
+    square(&mut faces, 9, 0.0);
     let whole = words(Buffers::new().frames(faces.mesh(), -1.0));
     let mut buffers = Buffers::new();
     let answer = buffers.frames_on(faces.mesh(), -1.0, threads(4)).unwrap();

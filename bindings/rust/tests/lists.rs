@@ -2,50 +2,14 @@
 use dokphalun::{
     Buffers, List, Lists, Mesh, Objection, OwnLinks, Place, Refusal, Side, Triangle, triangles,
 };
+use models::{Corner, Faces, flat};
 
-/// A corner in a plane: where it stands, and its texture coordinates.
-type Corner = ([f32; 2], [f32; 2]);
-
-/// Faces with lists of their own.
-#[derive(Default)]
-struct Faces {
-    sizes: Vec<u8>,
-    positions: Vec<[f32; 3]>,
-    normals: Vec<[f32; 3]>,
-    texture: Vec<[f32; 2]>,
-}
-
-impl Faces {
-    /// Faces of these corners.
-    fn of(faces: &[&[Corner]]) -> Faces {
-        let mut all = Faces::default();
-        for face in faces {
-            all.sizes.push(face.len() as u8);
-            for &([x, y], texture) in *face {
-                all.positions.push([x, y, 0.0]);
-                all.normals.push([0.0, 0.0, 1.0]);
-                all.texture.push(texture);
-            }
-        }
-        all
-    }
-
-    fn mesh(&self) -> Mesh<'_> {
-        Mesh {
-            sizes: &self.sizes,
-            positions: &self.positions,
-            normals: &self.normals,
-            texture: &self.texture,
-        }
-    }
-
-    fn own(&self) -> OwnLinks {
-        Buffers::new().links(self.mesh()).expect("it is refused")
-    }
-
-    fn examine(&self, lists: &OwnLinks) -> Result<(), Objection> {
-        Buffers::new().examine(self.mesh(), lists.lists())
-    }
+/// What is asked of faces here.
+trait Asked {
+    /// Our own lists.
+    fn own(&self) -> OwnLinks;
+    /// What is found of lists.
+    fn examine(&self, lists: &OwnLinks) -> Result<(), Objection>;
 
     /// What is objected to our own lists after they were edited.
     fn edited(&self, edit: impl FnOnce(&mut OwnLinks)) -> Objection {
@@ -55,19 +19,30 @@ impl Faces {
     }
 }
 
-/// A corner whose texture is its position.
-const fn flat(x: f32, y: f32) -> Corner {
-    ([x, y], [x, y])
+impl Asked for Faces {
+    fn own(&self) -> OwnLinks {
+        Buffers::new().links(self.mesh()).expect("it is refused")
+    }
+
+    fn examine(&self, lists: &OwnLinks) -> Result<(), Objection> {
+        Buffers::new().examine(self.mesh(), lists.lists())
+    }
 }
 
-const A: Corner = flat(0.0, 0.0);
-const B: Corner = flat(1.0, 0.0);
-const C: Corner = flat(0.0, 1.0);
-const D: Corner = flat(1.0, 1.0);
+/// A corner in a plane with texture coordinates of its own.
+fn apart([x, y]: [f32; 2], texture: [f32; 2]) -> Corner {
+    let (position, normal, _) = flat([x, y]);
+    (position, normal, texture)
+}
+
+const A: Corner = flat([0.0, 0.0]);
+const B: Corner = flat([1.0, 0.0]);
+const C: Corner = flat([0.0, 1.0]);
+const D: Corner = flat([1.0, 1.0]);
 
 /// Two triangles that share the side from B to C: row 1 of the first, row 3 of the second.
 fn pair() -> Faces {
-    Faces::of(&[&[A, B, C], &[C, B, D]])
+    Faces::of([[A, B, C], [C, B, D]])
 }
 
 /// The side of a row of `pair`, whose faces are triangles.
@@ -101,7 +76,7 @@ fn group_numbers_are_the_partner_s() {
 
 #[test]
 fn where_three_sides_meet_two_pairings_are_accepted() {
-    let three = Faces::of(&[&[A, B, C], &[A, B, D], &[B, A, flat(0.5, -1.0)]]);
+    let three = Faces::of([[A, B, C], [A, B, D], [B, A, flat([0.5, -1.0])]]);
     let mut lists = three.own();
     assert_eq!(lists.links, [7, 0, 0, 0, 0, 0, 1, 0, 0]);
     assert_eq!(three.examine(&lists), Ok(()));
@@ -180,12 +155,12 @@ fn groups_that_are_not_accepted() {
     let parted = pair().edited(|lists| lists.groups[4] = 9);
     assert_eq!(parted, Objection::Parted(side(1)));
     // the second triangle is mirrored
-    let mirrored = Faces::of(&[&[A, B, C], &[C, B, ([1.0, 1.0], [0.25, 0.25])]]);
+    let mirrored = Faces::of([[A, B, C], [C, B, apart([1.0, 1.0], [0.25, 0.25])]]);
     assert_eq!(mirrored.own().orientations, [1, 0]);
     let way = mirrored.edited(|lists| lists.groups[4] = lists.groups[1]);
     assert_eq!(way, Objection::OtherOrientation(side(4)));
     // two triangles that share a corner and no side
-    let bow = Faces::of(&[&[A, B, C], &[flat(-1.0, 0.0), flat(0.0, -1.0), A]]);
+    let bow = Faces::of([[A, B, C], [flat([-1.0, 0.0]), flat([0.0, -1.0]), A]]);
     let severed = bow.edited(|lists| lists.groups[5] = lists.groups[0]);
     assert_eq!(severed, Objection::Severed(side(5)));
     let numbers = [none, other, way, parted, severed].map(|objection| objection.number());
@@ -246,8 +221,8 @@ fn refusals_come_first() {
 fn the_sides_of_quads_have_their_own_corners() {
     let square: [Corner; 4] = [A, B, D, C];
     // the diagonal from 1 to 3 is shorter; a face of five and one of a single place stand before it
-    let bent = [A, B, flat(3.0, 3.0), C];
-    let faces = Faces::of(&[&[A; 5], &square, &[B; 4], &bent]);
+    let bent = [A, B, flat([3.0, 3.0]), C];
+    let faces = Faces::of([&[A; 5][..], &square, &[B; 4], &bent]);
     let corners: Vec<(usize, [usize; 3])> = triangles(faces.mesh())
         .into_iter()
         .map(|triangle| (triangle.face, triangle.corners))
@@ -286,14 +261,10 @@ fn few(seed: &mut u64) -> f32 {
 fn triangles_are_those_of_the_archive() {
     let (mut seed, mut linked, mut dropped) = (20_261_116, [0; 4], 0);
     for _ in 0..20_000 {
-        let mut corner = || {
-            (
-                [few(&mut seed), few(&mut seed)],
-                [few(&mut seed), few(&mut seed)],
-            )
-        };
+        let mut two = || [few(&mut seed), few(&mut seed)];
+        let mut corner = || apart(two(), two());
         let quad = [corner(), corner(), corner(), corner()];
-        let faces = Faces::of(&[&quad, &quad[..2], &quad[1..]]);
+        let faces = Faces::of([&quad[..], &quad[..2], &quad[1..]]);
         let (all, own) = (triangles(faces.mesh()), faces.own());
         assert_eq!(own.orientations.len(), all.len(), "{quad:?}");
         dropped += 3 - all.len();
@@ -307,7 +278,7 @@ fn triangles_are_those_of_the_archive() {
                 continue;
             };
             let at = |face: usize, corner: usize| quad[if face == 0 { corner } else { corner + 1 }];
-            let bits = |(p, t): Corner| [p[0], p[1], t[0], t[1]].map(f32::to_bits);
+            let bits = |(p, _, t): Corner| [p[0], p[1], t[0], t[1]].map(f32::to_bits);
             let ends = |side: &Side| [side.from, side.to].map(|corner| bits(at(side.face, corner)));
             let [from, to] = ends(side);
             assert_eq!(ends(&beyond), [to, from], "{quad:?}");

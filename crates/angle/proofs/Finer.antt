@@ -13,7 +13,8 @@ use lib.ListN.{getD}
 use lib.Signed.{_≤ℤ_, _<ℤ_, leZ-yes, ≤ℤ-refl, yes-nonNeg, pos-natAbs}
 use lib.Ieee.Fits.{and-l, and-r}
 use Rattle.angle.specs.Table.{cosines, c}
-use Rattle.angle.specs.Rule.{everyBelow, rulesOf, NearestAt}
+use Rattle.lists.specs.Parts.{everyBelow}
+use Rattle.angle.specs.Rule.{rulesOf, NearestAt}
 use Rattle.angle.proofs.Rules.{at, first-of, falling-of, mirrored-of, doubled-of, mirrored}
 use Rattle.angle.proofs.Above.{sub-up}
 
@@ -80,7 +81,7 @@ near k = leb (2 ^ 30) (getD cosines k 0) && lower-near k && upper-near k
 abbrev pub test : ℕ → Bool
 test k = settles 9 k && (settled k || squares k) && near k
 
-passes : T (everyBelow test 513)
+passes : T (everyBelow 513 test)
 unfolding cosines everyBelow bound settled settles squares near
 passes = tt
 

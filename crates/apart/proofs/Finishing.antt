@@ -10,14 +10,14 @@ use lib.Dec.{ltb}
 use lib.ListN.{length, getD, take, drop}
 use lib.Ieee.{Float, nan}
 use borrow.Author.Tests.{ltb-false, le-ltb}
+use Rattle.bits.proofs.Bools.{or-left, or-right}
 use Rattle.bits.specs.Single.{zeroᶠ}
 use Rattle.tangent.specs.Slot.{slotWords}
 use Rattle.definition.specs.Limits.{faceLimit, workWords}
-use Rattle.definition.specs.Handed.{meshFrom, slotCount}
+use Rattle.definition.specs.Handed.{call, meshOf, Handed, slotCount}
 use Rattle.definition.specs.Frames.{frames}
-use Rattle.definition.specs.Desk.{Row, verdict}
+use Rattle.definition.specs.Desk.{shown, Row, verdict}
 use Rattle.definition.specs.Outcome.{Result, answerWords, answered}
-use Rattle.laws.proofs.Laws.{or-left, or-right}
 use Rattle.desk.specs.Verdict.{told}
 use Rattle.mikktspace.specs.declared.Outcome.{Outcome}
 use Rattle.mikktspace.specs.Contract.{left}
@@ -86,17 +86,17 @@ room-first sizes a w v o p q e l = record {
 
 -- ---- acceptance
 
-module _ (sizes : List ℕ) (ps ns ts : List Float) (h : Float) (a w : List ℕ) (o : Own) (room : slotWords * slotCount sizes ≤ length a) (l : Long (length sizes) o) where
+module _ (mesh : Handed) (h : Float) (a w : List ℕ) (o : Own) (room : slotWords * slotCount (mesh .sizes) ≤ length a) (l : Long (length (mesh .sizes)) o) where
   abbrev n : ℕ
-  n = length sizes
+  n = length (mesh .sizes)
 
-  pub accepted-leaves : (s : ℕ) (b v v′ labels order order′ ss ss′ : List ℕ) (xs xs′ : List Float) (fs fs′ : List ℕ) → n ≤ faceLimit → s ≡ slotCount (take (min 65536 faceLimit) sizes) → labels ≡ labelled sizes ps ns ts (o .labels) → Ready sizes ps ns ts order → Past 0 (4 * n) (o .order) order → v ≡ cleared 0 (workWords * n) w → DoneBelow sizes ps ns ts h n a b → v′ ≡ v → Kept n (o .sizes) ss (o .numbers) xs (o .frames) fs → order′ ≡ cleared 0 (4 * n) order → ss′ ≡ cleared 0 n ss → xs′ ≡ cleared zeroᶠ (32 * n) xs → fs′ ≡ cleared 0 (40 * n) fs → leaving (record { number = 0; place = 0; slots = s }) b v′ (lists labels order′ ss′ xs′ fs′) ≡ taken sizes ps ns ts h a w o
+  pub accepted-leaves : (s : ℕ) (b v v′ labels order order′ ss ss′ : List ℕ) (xs xs′ : List Float) (fs fs′ : List ℕ) → n ≤ faceLimit → s ≡ slotCount (take (min 65536 faceLimit) (mesh .sizes)) → labels ≡ labelled mesh (o .labels) → Ready mesh order → Past 0 (4 * n) (o .order) order → v ≡ cleared 0 (workWords * n) w → DoneBelow mesh h n a b → v′ ≡ v → Kept n (o .sizes) ss (o .numbers) xs (o .frames) fs → order′ ≡ cleared 0 (4 * n) order → ss′ ≡ cleared 0 n ss → xs′ ≡ cleared zeroᶠ (32 * n) xs → fs′ ≡ cleared 0 (40 * n) fs → leaving (record { number = 0; place = 0; slots = s }) b v′ (lists labels order′ ss′ xs′ fs′) ≡ taken (call mesh h a w) o
   unfolding leaving left taken acceptedOf ownAfter
   accepted-leaves s b v v′ labels order order′ ss ss′ xs xs′ fs fs′ few e1 e2 ready p e3 done e4 kept e5 e6 e7 e8 =
       let f : Past 0 (40 * n) (o .frames) fs = subst (λ x. Past 0 x (o .frames) fs) (omega arith) (kept .frames) in
-      let E1 = all-slots sizes s few e1 in
+      let E1 = all-slots (mesh .sizes) s few e1 in
       let E3 = e4 ∙ e3 in
-      let E4 = below-all sizes ps ns ts h order ready a b room done ∙ ap (λ m. answerWords m ++ drop (slotWords * slotCount sizes) a) (sym (together-is h (meshFrom ps ns ts 0 sizes))) in
+      let E4 = below-all mesh h order ready a b room done ∙ ap (λ m. answerWords m ++ drop (slotWords * slotCount (mesh .sizes)) a) (sym (together-is h (meshOf mesh))) in
       let E5 = e5 ∙ cleared-same 0 0 (4 * n) (o .order) order (l .order) p in
       let E6 = e6 ∙ cleared-same 0 0 n (o .sizes) ss (l .sizes) (kept .sizes) ∙ ap (λ k. cleared 0 k (o .sizes)) (sym (one-mul n)) in
       let E7 = e7 ∙ cleared-same nan zeroᶠ (32 * n) (o .numbers) xs (l .numbers) (kept .numbers) in
@@ -114,18 +114,18 @@ unfolding leaving left told afterwards answered ownLeft
 refused-by none b z y o a w e = absurd (e refl)
 refused-by (some r) b z y o a w e = refl
 
-module _ (sizes : List ℕ) (ps ns ts : List Float) (h : Float) (a w : List ℕ) (o : Own) where
+module _ (mesh : Handed) (h : Float) (a w : List ℕ) (o : Own) where
   abbrev v : Option Row
-  v = verdict sizes ps ns ts h (length a) (length w)
+  v = verdict (shown mesh h (length a) (length w))
 
-  pub table-leaves : (r : Outcome) → r ≡ record { number = told v .number; place = told v .place; slots = 0 } → (told v .number ≡ 0 → ⊥) → leaving r a w o ≡ islandsOutcome sizes ps ns ts h a w o
+  pub table-leaves : (r : Outcome) → r ≡ record { number = told v .number; place = told v .place; slots = 0 } → (told v .number ≡ 0 → ⊥) → leaving r a w o ≡ islandsOutcome (call mesh h a w) o
   unfolding islandsOutcome verdictOf
-  table-leaves r e k = ap (λ x. leaving x a w o) e ∙ refused-by v (short (length sizes) o) (acceptedOf sizes ps ns ts h a w) (ownAfter sizes ps ns ts o) o a w k
+  table-leaves r e k = ap (λ x. leaving x a w o) e ∙ refused-by v (short (length (mesh .sizes)) o) (acceptedOf (call mesh h a w)) (ownAfter mesh o) o a w k
 
-  pub nine-leaves : (r : Outcome) → r ≡ record { number = 9; place = 0; slots = 0 } → v ≡ none → short (length sizes) o ≡ true → leaving r a w o ≡ islandsOutcome sizes ps ns ts h a w o
+  pub nine-leaves : (r : Outcome) → r ≡ record { number = 9; place = 0; slots = 0 } → v ≡ none → short (length (mesh .sizes)) o ≡ true → leaving r a w o ≡ islandsOutcome (call mesh h a w) o
   unfolding afterwards leaving left answered ownLeft
-  nine-leaves r e k s = ap (λ x. leaving x a w o) e ∙ sym (outcome-by sizes ps ns ts h a w o none true k s)
+  nine-leaves r e k s = ap (λ x. leaving x a w o) e ∙ sym (outcome-by mesh h a w o none true k s)
 
-  pub taken-leaves : v ≡ none → short (length sizes) o ≡ false → taken sizes ps ns ts h a w o ≡ islandsOutcome sizes ps ns ts h a w o
+  pub taken-leaves : v ≡ none → short (length (mesh .sizes)) o ≡ false → taken (call mesh h a w) o ≡ islandsOutcome (call mesh h a w) o
   unfolding afterwards taken answered ownLeft
-  taken-leaves k s = sym (outcome-by sizes ps ns ts h a w o none false k s)
+  taken-leaves k s = sym (outcome-by mesh h a w o none false k s)

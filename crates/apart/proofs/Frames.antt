@@ -14,7 +14,7 @@ use Rattle.tangent.specs.Slot as slot
 use Rattle.tangent.specs.Slot.{slotWords}
 use Rattle.definition.specs.declared.Corner.{Corner}
 use Rattle.definition.specs.declared.Triangle.{Triangle}
-use Rattle.definition.specs.Handed.{meshFrom, slotsOf, slotCount}
+use Rattle.definition.specs.Handed.{meshOf, Handed, meshFrom, slotsOf, slotCount}
 use Rattle.definition.specs.Shuffle.{Shuffle, done, left, right}
 use Rattle.definition.specs.Step7Sums.{Brought}
 use Rattle.definition.specs.Frames.{numbered, framesFrom, framesOf, frames}
@@ -113,9 +113,9 @@ module _ (q : ℕ → Bool) (rest : List ℕ) where
       next false t = t
 
   -- the words of island faces, as the base leaves them
-  pub stand-words : (h : Float) (sizes : List ℕ) (ps ns ts : List Float) (g : ℕ) → g < length sizes → q g ≡ true → (i : ℕ) → i < slotWords * slotsOf (getD sizes g 0) → getD (answerWords (picked q 0 (frames h (meshFrom ps ns ts 0 sizes))) ++ rest) (slotWords * slotCount (picked q 0 (take g sizes)) + i) 0 ≡ getD (wordsFor h (meshFrom ps ns ts 0 sizes) g) i 0
+  pub stand-words : (h : Float) (mesh : Handed) (g : ℕ) → g < length (mesh .sizes) → q g ≡ true → (i : ℕ) → i < slotWords * slotsOf (getD (mesh .sizes) g 0) → getD (answerWords (picked q 0 (frames h (meshOf mesh))) ++ rest) (slotWords * slotCount (picked q 0 (take g (mesh .sizes))) + i) 0 ≡ getD (wordsFor h (meshOf mesh) g) i 0
   unfolding wordsFor
-  stand-words h sizes ps ns ts g l p i k = stands 0 sizes (frames h (meshFrom ps ns ts 0 sizes)) (as-many ps ns ts h sizes) (even ps ns ts h sizes) g l (ap q (omega arith) ∙ p) i k
+  stand-words h mesh g l p i k = stands 0 (mesh .sizes) (frames h (meshOf mesh)) (as-many (mesh .positions) (mesh .normals) (mesh .texture) h (mesh .sizes)) (even (mesh .positions) (mesh .normals) (mesh .texture) h (mesh .sizes)) g l (ap q (omega arith) ∙ p) i k
 
 -- ---- all words, from their places
 
@@ -147,10 +147,10 @@ module _ (a : List ℕ) where
           ap (λ v. getD a v 0) u ∙ f (x - length w) (omega (arith, long)) ∙ sym (ap (λ v. getD (w ++ answerWords rs) v 0) y ∙ getD-append-add w (answerWords rs) (x - length w) 0)
 
   -- each word of the answer, where each face's words are in their places
-  pub all-words-at : (h : Float) (sizes : List ℕ) (ps ns ts : List Float) → ((g : ℕ) → g < length sizes → (i : ℕ) → i < slotWords * slotsOf (getD sizes g 0) → getD a (slotWords * slotCount (take g sizes) + i) 0 ≡ getD (wordsFor h (meshFrom ps ns ts 0 sizes) g) i 0) → (x : ℕ) → x < slotWords * slotCount sizes → getD a x 0 ≡ getD (answerWords (frames h (meshFrom ps ns ts 0 sizes))) x 0
+  pub all-words-at : (h : Float) (mesh : Handed) → ((g : ℕ) → g < length (mesh .sizes) → (i : ℕ) → i < slotWords * slotsOf (getD (mesh .sizes) g 0) → getD a (slotWords * slotCount (take g (mesh .sizes)) + i) 0 ≡ getD (wordsFor h (meshOf mesh) g) i 0) → (x : ℕ) → x < slotWords * slotCount (mesh .sizes) → getD a x 0 ≡ getD (answerWords (frames h (meshOf mesh))) x 0
   unfolding wordsFor
-  all-words-at h sizes ps ns ts p x k =
+  all-words-at h mesh p x k =
       let y : x ≡ 0 + x = omega arith in
       ap (λ v. getD a v 0) y
-      ∙ words-at 0 sizes (frames h (meshFrom ps ns ts 0 sizes)) (as-many ps ns ts h sizes) (even ps ns ts h sizes)
-      (λ g l i j. let z : 0 + (slotWords * slotCount (take g sizes) + i) ≡ slotWords * slotCount (take g sizes) + i = omega arith in ap (λ v. getD a v 0) z ∙ p g l i j) x k
+      ∙ words-at 0 (mesh .sizes) (frames h (meshOf mesh)) (as-many (mesh .positions) (mesh .normals) (mesh .texture) h (mesh .sizes)) (even (mesh .positions) (mesh .normals) (mesh .texture) h (mesh .sizes))
+      (λ g l i j. let z : 0 + (slotWords * slotCount (take g (mesh .sizes)) + i) ≡ slotWords * slotCount (take g (mesh .sizes)) + i = omega arith in ap (λ v. getD a v 0) z ∙ p g l i j) x k

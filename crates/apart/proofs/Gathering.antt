@@ -11,7 +11,7 @@ use lib.Seq.{take-suc, length-take-le, getD-drop}
 use lib.Ieee.{Float, nan}
 use Rattle.math.specs.Vector.{vec}
 use Rattle.definition.specs.declared.Corner.{Corner}
-use Rattle.definition.specs.Handed.{vectorAt, cornerAt, cornersFrom, meshFrom, cornerCount}
+use Rattle.definition.specs.Handed.{meshOf, Handed, vectorAt, cornerAt, cornersFrom, meshFrom, cornerCount}
 use Rattle.islands.specs.Together.{picked}
 use Rattle.islands.proofs.Sizes.{face-is, mesh-length}
 use Rattle.apart.specs.Lists.{Copied}
@@ -37,7 +37,7 @@ mesh-end ps ns ts i (n ∷ l) z = ap (λ r. cornersFrom ps ns ts i n ∷ r) (mes
 
 alike-next : (ps ns ts xs ys zs : List Float) (a b n : ℕ) → Alike ps ns ts xs ys zs a b (suc n) → Alike ps ns ts xs ys zs (suc a) (suc b) n
 alike-next ps ns ts xs ys zs a b n h = record {
-  places = λ j k. shift 3 xs ps j (h .places (3 + j) (omega arith));
+  positions = λ j k. shift 3 xs ps j (h .positions (3 + j) (omega arith));
   normals = λ j k. shift 3 ys ns j (h .normals (3 + j) (omega arith));
   texture = λ j k. shift2 zs ts j (h .texture (2 + j) (omega arith));
 }
@@ -64,7 +64,7 @@ unfolding cornerAt
 corner-alike ps ns ts xs ys zs a b n h =
     λ i.
     record {
-      place = vector-alike xs ps a b (λ j k. h .places j (omega arith)) i;
+      place = vector-alike xs ps a b (λ j k. h .positions j (omega arith)) i;
       normal = vector-alike ys ns a b (λ j k. h .normals j (omega arith)) i;
       u = first-one 2 zs ts a b (h .texture 0 (omega arith)) i;
       v = one 2 zs ts a b 1 (h .texture 1 (omega arith)) i;
@@ -79,14 +79,14 @@ corners-alike ps ns ts xs ys zs a b (suc n) h = λ i. corner-alike ps ns ts xs y
 -- ---- what was gathered stays
 
 alike-front : (ps ns ts xs ys zs : List Float) (a b n m : ℕ) → Alike ps ns ts xs ys zs a b (n + m) → Alike ps ns ts xs ys zs a b n
-alike-front ps ns ts xs ys zs a b n m h = record { places = λ j k. h .places j (omega arith); normals = λ j k. h .normals j (omega arith); texture = λ j k. h .texture j (omega arith) }
+alike-front ps ns ts xs ys zs a b n m h = record { positions = λ j k. h .positions j (omega arith); normals = λ j k. h .normals j (omega arith); texture = λ j k. h .texture j (omega arith) }
 
 further : (w i n j : ℕ) (us vs : List Float) → getD us (w * i + (w * n + j)) nan ≡ getD vs (w * i + (w * n + j)) nan → getD us (w * (i + n) + j) nan ≡ getD vs (w * (i + n) + j) nan
 further w i n j us vs e = let p : w * (i + n) + j ≡ w * i + (w * n + j) = ap (λ x. x + j) (native.Mathlib.Nat.mul-add w i n) ∙ native.Mathlib.Nat.add-assoc (w * i) (w * n) j in ap (λ x. getD us x nan) p ∙ e ∙ ap (λ x. getD vs x nan) (sym p)
 
 alike-back : (ps ns ts xs ys zs : List Float) (i n m : ℕ) → Alike ps ns ts xs ys zs i i (n + m) → Alike ps ns ts xs ys zs (i + n) (i + n) m
 alike-back ps ns ts xs ys zs i n m h = record {
-  places = λ j k. further 3 i n j xs ps (h .places (3 * n + j) (omega arith));
+  positions = λ j k. further 3 i n j xs ps (h .positions (3 * n + j) (omega arith));
   normals = λ j k. further 3 i n j ys ns (h .normals (3 * n + j) (omega arith));
   texture = λ j k. further 2 i n j zs ts (h .texture (2 * n + j) (omega arith));
 }
@@ -123,44 +123,44 @@ picked-skip q l d f h e = picked-next q l d f h ∙ ap (λ b. picked q 0 (take f
 pub picked-with : {X : Type 0} (q : ℕ → Bool) (l : List X) (d : X) (f : ℕ) → f < length l → q f ≡ true → picked q 0 (take (f + 1) l) ≡ picked q 0 (take f l) ++ (getD l f d ∷ [])
 picked-with q l d f h e = picked-next q l d f h ∙ ap (λ b. picked q 0 (take f l) ++ cond b (getD l f d ∷ []) []) e
 
-pub gathered-none : (q : ℕ → Bool) (sizes : List ℕ) (ps ns ts : List Float) (ss : List ℕ) (xs : List Float) → Gathered q sizes ps ns ts 0 0 0 ss xs
+pub gathered-none : (q : ℕ → Bool) (mesh : Handed) (ss : List ℕ) (xs : List Float) → Gathered q mesh 0 0 0 ss xs
 unfolding picked meshFrom cornerCount
-gathered-none q sizes ps ns ts ss xs = record { few = omega arith; low = omega arith; corners = refl; mesh = refl }
+gathered-none q mesh ss xs = record { few = omega arith; low = omega arith; corners = refl; faces = refl }
 
-module _ (q : ℕ → Bool) (sizes : List ℕ) (ps ns ts : List Float) (f k c : ℕ) (ss : List ℕ) (xs : List Float) (h : f < length sizes) (g : Gathered q sizes ps ns ts f k c ss xs) where
+module _ (q : ℕ → Bool) (mesh : Handed) (f k c : ℕ) (ss : List ℕ) (xs : List Float) (h : f < length (mesh .sizes)) (g : Gathered q mesh f k c ss xs) where
   abbrev whole : List (List Corner)
-  whole = meshFrom ps ns ts 0 sizes
+  whole = meshOf mesh
 
   abbrev n : ℕ
-  n = length sizes
+  n = length (mesh .sizes)
 
   there : f < length whole
-  there = subst (λ n. f < n) (sym (mesh-length ps ns ts 0 sizes)) h
+  there = subst (λ n. f < n) (sym (mesh-length (mesh .positions) (mesh .normals) (mesh .texture) 0 (mesh .sizes))) h
 
   -- a face that does not pass
-  pub gathered-skip : q f ≡ false → Gathered q sizes ps ns ts (f + 1) k c ss xs
-  gathered-skip e = record { few = omega (arith, g .few); low = g .low; corners = g .corners; mesh = g .mesh ∙ sym (picked-skip q whole [] f there e) }
+  pub gathered-skip : q f ≡ false → Gathered q mesh (f + 1) k c ss xs
+  gathered-skip e = record { few = omega (arith, g .few); low = g .low; corners = g .corners; faces = g .faces ∙ sym (picked-skip q whole [] f there e) }
 
   -- a face that passes: its size and its corners' numbers are copied behind the others
-  module _ (e : q f ≡ true) (room : k < length ss) (small : getD sizes f 0 ≤ 4) (xs′ : List Float) (laid : Laid ps ns ts n (cornerCount (take f sizes)) c (getD sizes f 0) xs xs′) where
+  module _ (e : q f ≡ true) (room : k < length ss) (small : getD (mesh .sizes) f 0 ≤ 4) (xs′ : List Float) (laid : Laid (mesh .positions) (mesh .normals) (mesh .texture) n (cornerCount (take f (mesh .sizes))) c (getD (mesh .sizes) f 0) xs xs′) where
     abbrev z : ℕ
-    z = getD sizes f 0
+    z = getD (mesh .sizes) f 0
 
     gathered-mesh : meshIn n xs′ (take (k + 1) (set ss k z)) ≡ picked q 0 (take (f + 1) whole)
     gathered-mesh =
         let b : 0 + cornerCount (take k ss) ≡ c = omega (arith, g .corners) in
         ap (meshIn n xs′) (take-with ss k z room)
         ∙ mesh-end xs′ (normalsIn n xs′) (textureIn n xs′) 0 (take k ss) z
-        ∙ ap (λ r. r ++ (cornersFrom xs′ (normalsIn n xs′) (textureIn n xs′) (0 + cornerCount (take k ss)) z ∷ [])) (mesh-alike xs (normalsIn n xs) (textureIn n xs) xs′ (normalsIn n xs′) (textureIn n xs′) 0 (take k ss) (subst (λ x. Alike xs (normalsIn n xs) (textureIn n xs) xs′ (normalsIn n xs′) (textureIn n xs′) 0 0 x) (g .corners) (laid .stays)) ∙ g .mesh)
-        ∙ ap (λ r. picked q 0 (take f whole) ++ (r ∷ [])) (ap (λ x. cornersFrom xs′ (normalsIn n xs′) (textureIn n xs′) x z) b ∙ corners-alike ps ns ts xs′ (normalsIn n xs′) (textureIn n xs′) (cornerCount (take f sizes)) c z (laid .comes) ∙ sym (face-is ps ns ts sizes f h))
+        ∙ ap (λ r. r ++ (cornersFrom xs′ (normalsIn n xs′) (textureIn n xs′) (0 + cornerCount (take k ss)) z ∷ [])) (mesh-alike xs (normalsIn n xs) (textureIn n xs) xs′ (normalsIn n xs′) (textureIn n xs′) 0 (take k ss) (subst (λ x. Alike xs (normalsIn n xs) (textureIn n xs) xs′ (normalsIn n xs′) (textureIn n xs′) 0 0 x) (g .corners) (laid .stays)) ∙ g .faces)
+        ∙ ap (λ r. picked q 0 (take f whole) ++ (r ∷ [])) (ap (λ x. cornersFrom xs′ (normalsIn n xs′) (textureIn n xs′) x z) b ∙ corners-alike (mesh .positions) (mesh .normals) (mesh .texture) xs′ (normalsIn n xs′) (textureIn n xs′) (cornerCount (take f (mesh .sizes))) c z (laid .comes) ∙ sym (face-is (mesh .positions) (mesh .normals) (mesh .texture) (mesh .sizes) f h))
         ∙ sym (picked-with q whole [] f there e)
 
-    pub gathered-more : Gathered q sizes ps ns ts (f + 1) (k + 1) (c + z) (set ss k z) xs′
+    pub gathered-more : Gathered q mesh (f + 1) (k + 1) (c + z) (set ss k z) xs′
     gathered-more = record {
       few = omega (arith, g .few);
       low = omega (arith, g .low);
       corners = ap (λ n. n + z) (g .corners) ∙ sym (ap cornerCount (take-with ss k z room) ∙ corners-end (take k ss) z);
-      mesh = gathered-mesh;
+      faces = gathered-mesh;
     }
 
 -- ---- one face's numbers, copied into the three parts
@@ -172,12 +172,12 @@ module _ (ps ns ts u u1 u2 v : List Float) (n base c z : ℕ) (small : c + z ≤
   pub laid-is : Laid ps ns ts n base c z u v
   laid-is = record {
     comes = record {
-      places = λ j h. d .old (3 * c + j) (omega arith) ∙ b .old (3 * c + j) (omega arith) ∙ a .new j h;
+      positions = λ j h. d .old (3 * c + j) (omega arith) ∙ b .old (3 * c + j) (omega arith) ∙ a .new j h;
       normals = λ j h. part (12 * n) v (3 * c + j) ((12 * n + 3 * c) + j) (omega arith) ∙ d .old ((12 * n + 3 * c) + j) (omega arith) ∙ b .new j h;
       texture = λ j h. part (24 * n) v (2 * c + j) ((24 * n + 2 * c) + j) (omega arith) ∙ d .new j h;
     };
     stays = record {
-      places = λ j h. d .old (3 * 0 + j) (omega arith) ∙ b .old (3 * 0 + j) (omega arith) ∙ a .old (3 * 0 + j) (omega arith);
+      positions = λ j h. d .old (3 * 0 + j) (omega arith) ∙ b .old (3 * 0 + j) (omega arith) ∙ a .old (3 * 0 + j) (omega arith);
       normals = λ j h. getD-drop (12 * n) v (3 * 0 + j) nan ∙ d .old (12 * n + (3 * 0 + j)) (omega arith) ∙ b .old (12 * n + (3 * 0 + j)) (omega arith) ∙ a .rest (12 * n + (3 * 0 + j)) (omega arith) ∙ sym (getD-drop (12 * n) u (3 * 0 + j) nan);
       texture = λ j h. getD-drop (24 * n) v (2 * 0 + j) nan ∙ d .old (24 * n + (2 * 0 + j)) (omega arith) ∙ b .rest (24 * n + (2 * 0 + j)) (omega arith) ∙ a .rest (24 * n + (2 * 0 + j)) (omega arith) ∙ sym (getD-drop (24 * n) u (2 * 0 + j) nan);
     };

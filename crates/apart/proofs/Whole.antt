@@ -13,9 +13,9 @@ use borrow.Author.Tests.{eq-eqb, ne-eqb, eqb-true}
 use Rattle.tangent.specs.Slot.{slotWords}
 use Rattle.definition.specs.Limits.{workWords}
 use Rattle.definition.specs.declared.Corner.{Corner}
-use Rattle.definition.specs.Handed.{meshFrom, used, slotsOf, slotCount}
+use Rattle.definition.specs.Handed.{handed, meshOf, Handed, used, slotsOf, slotCount}
 use Rattle.definition.specs.Frames.{frames}
-use Rattle.definition.specs.Desk.{badCorner}
+use Rattle.definition.specs.Desk.{finiteCorner, badCorner}
 use Rattle.definition.specs.Outcome.{answerWords}
 use Rattle.laws.proofs.Bridge.{answer-length}
 use Rattle.unions.proofs.Stores.{either}
@@ -35,12 +35,12 @@ use Rattle.apart.proofs.Call.{accepts, island-good}
 use Rattle.apart.proofs.Turns.{island-used}
 use Rattle.apart.proofs.Putting.{slots-few}
 
-module _ (sizes : List ℕ) (ps ns ts : List Float) (h : Float) (order : List ℕ) (r : Ready sizes ps ns ts order) where
+module _ (mesh : Handed) (h : Float) (order : List ℕ) (r : Ready mesh order) where
   abbrev n : ℕ
-  n = length sizes
+  n = length (mesh .sizes)
 
   abbrev m : List (List Corner)
-  m = meshFrom ps ns ts 0 sizes
+  m = meshOf mesh
 
   abbrev l : ℕ → ℕ
   l = islandOf m
@@ -51,7 +51,7 @@ module _ (sizes : List ℕ) (ps ns ts : List Float) (h : Float) (order : List �
   nobody-there t (nobody e) z g k = e g zero-le k
   nobody-there t (Rattle.apart.specs.Order.somebody x a b c e) z g k = absurd (omega arith)
 
-  pub nothing-put : (t : ℕ) → t < n → getD order (n + t) 0 ≡ 0 → (a : List ℕ) → Done sizes ps ns ts h t a a
+  pub nothing-put : (t : ℕ) → t < n → getD order (n + t) 0 ≡ 0 → (a : List ℕ) → Done mesh h t a a
   nothing-put t low z a = record {
     past = past-none 0 _ a;
     here = λ g k e. absurd (nobody-there t (r .linked .heads t low) z g k (eqb-true (l g) t e));
@@ -60,7 +60,7 @@ module _ (sizes : List ℕ) (ps ns ts : List Float) (h : Float) (order : List �
 
   -- ---- an island that is gathered
 
-  module _ (good : Good sizes ps ns ts h) (t : ℕ) (low : t < n) (a w ss : List ℕ) (xs : List Float) (fs : List ℕ) (room : Room sizes a w ss xs fs) (k c : ℕ) (ss′ : List ℕ) (xs′ : List Float) (g : Gathered (among l t) sizes ps ns ts n k c ss′ xs′) (p : Past 0 n ss ss′) (p′ : Past nan (32 * n) xs xs′) where
+  module _ (good : Good mesh h) (t : ℕ) (low : t < n) (a w ss : List ℕ) (xs : List Float) (fs : List ℕ) (room : Room (mesh .sizes) a w ss xs fs) (k c : ℕ) (ss′ : List ℕ) (xs′ : List Float) (g : Gathered (among l t) mesh n k c ss′ xs′) (p : Past 0 n ss ss′) (p′ : Past nan (32 * n) xs xs′) where
     abbrev q : ℕ → Bool
     q = among l t
 
@@ -69,7 +69,7 @@ module _ (sizes : List ℕ) (ps ns ts : List Float) (h : Float) (order : List �
     closed f x e = ap (λ i. eqb i t) (touching m f x e)
 
     mesh-is : meshIn n xs′ (take k ss′) ≡ picked q 0 m
-    mesh-is = g .mesh ∙ ap (picked q 0) (take-all n m (omega (arith, mesh-length ps ns ts 0 sizes)))
+    mesh-is = g .faces ∙ ap (picked q 0) (take-all n m (omega (arith, mesh-length (mesh .positions) (mesh .normals) (mesh .texture) 0 (mesh .sizes))))
 
     there : length (take k ss′) ≡ k
     there = length-take-le k ss′ (omega (arith, g .few, p .size, room .faces))
@@ -94,13 +94,13 @@ module _ (sizes : List ℕ) (ps ns ts : List Float) (h : Float) (order : List �
           long = omega (arith, x, o);
           corners = g .corners;
           accepted =
-              accepts (take k ss′) (take (3 * c) xs′) (take (3 * c) (normalsIn n xs′)) (take (2 * c) (textureIn n xs′)) h (length fs) (length w)
+              accepts (handed (take k ss′) (take (3 * c) xs′) (take (3 * c) (normalsIn n xs′)) (take (2 * c) (textureIn n xs′))) h (length fs) (length w)
               (omega (arith, there, g .few, r .fits .few))
               (cut (3 * c) xs′ (omega (arith, x, o, b)) ∙ ap (λ i. 3 * i) (g .corners))
               (cut (3 * c) (normalsIn n xs′) (omega (arith, x, y, o, b)) ∙ ap (λ i. 3 * i) (g .corners))
               (cut (2 * c) (textureIn n xs′) (omega (arith, x, z, o, b)) ∙ ap (λ i. 2 * i) (g .corners))
               (good .threshold)
-              (ap (badCorner 0) (mesh-cut n c xs′ (take k ss′) (g .corners) ∙ mesh-is) ∙ island-good q m (good .corners))
+              (ap (badCorner finiteCorner 0) (mesh-cut n c xs′ (take k ss′) (g .corners) ∙ mesh-is) ∙ island-good q m (good .corners))
               (omega (arith, few-slots, room .frames))
               (omega (arith, there, g .few, room .work));
         }
@@ -124,47 +124,47 @@ module _ (sizes : List ℕ) (ps ns ts : List Float) (h : Float) (order : List �
       frames-are : fs′ ≡ answerWords (picked q 0 (frames h m)) ++ drop (slotWords * slotCount (take k ss′)) fs
       frames-are = f ∙ ap (λ x. answerWords x ++ drop (slotWords * slotCount (take k ss′)) fs) (ap (frames h) mesh-is ∙ frames-picked h q m closed)
 
-      pub scene : Scene sizes order fs′ t
+      pub scene : Scene (mesh .sizes) order fs′ t
       scene = record {
         l = l;
         W = wordsFor h m;
         linked = r .linked;
         begun = r .begun;
-        fit = λ x i e. island-used sizes ps ns ts t x (r .fits .few) low i e;
+        fit = λ x i e. island-used mesh t x (r .fits .few) low i e;
         stand = record {
           long = omega (arith, frames-past .size, room .frames);
-          words = λ x i e j o. ap (λ v. getD v (slotWords * slotCount (picked q 0 (take x sizes)) + j) 0) frames-are ∙ stand-words q (drop (slotWords * slotCount (take k ss′)) fs) h sizes ps ns ts x i e j o;
+          words = λ x i e j o. ap (λ v. getD v (slotWords * slotCount (picked q 0 (take x (mesh .sizes))) + j) 0) frames-are ∙ stand-words q (drop (slotWords * slotCount (take k ss′)) fs) h mesh x i e j o;
         };
       }
 
       -- what scattering leaves
-      pub done-of : (b : List ℕ) → ((s : Scene sizes order fs′ t) → Put (among (s .l) t) sizes (s .W) n a b) → Done sizes ps ns ts h t a b
+      pub done-of : (b : List ℕ) → ((s : Scene (mesh .sizes) order fs′ t) → Put (among (s .l) t) (mesh .sizes) (s .W) n a b) → Done mesh h t a b
       unfolding scene
       done-of b f = f scene
 
   -- ---- one island after the other
 
-  pub below-none : (a : List ℕ) → DoneBelow sizes ps ns ts h 0 a a
+  pub below-none : (a : List ℕ) → DoneBelow mesh h 0 a a
   below-none a = record { past = past-none 0 _ a; done = λ g k e. absurd (not-suc-le-zero e) }
 
-  pub below-more : (t : ℕ) (a b d : List ℕ) → DoneBelow sizes ps ns ts h t a b → Done sizes ps ns ts h t b d → DoneBelow sizes ps ns ts h (t + 1) a d
+  pub below-more : (t : ℕ) (a b d : List ℕ) → DoneBelow mesh h t a b → Done mesh h t b d → DoneBelow mesh h (t + 1) a d
   below-more t a b d x y = record {
-    past = past-trans 0 (slotWords * slotCount sizes) a b d (x .past) (y .past);
+    past = past-trans 0 (slotWords * slotCount (mesh .sizes)) a b d (x .past) (y .past);
     done = λ g k e i j. either (l g) t (λ o. y .here g k (eq-eqb (l g) t o) i j) (λ o. y .there g k (ne-eqb (l g) t o) i j ∙ x .done g k (omega (arith, e, o)) i j);
   }
 
   -- the island of a face of 3 or 4 has a number below n
-  island-below : (g : ℕ) → g < n → used (getD sizes g 0) ≡ true → l g < n
+  island-below : (g : ℕ) → g < n → used (getD (mesh .sizes) g 0) ≡ true → l g < n
   unfolding islandOf
-  island-below g k e = subst (λ b. cond b (lowestOf m g) noIsland < n) (sym (counted-is ps ns ts sizes g k ∙ e)) (let o = lowest-low m g in omega (arith, o))
+  island-below g k e = subst (λ b. cond b (lowestOf m g) noIsland < n) (sym (counted-is (mesh .positions) (mesh .normals) (mesh .texture) (mesh .sizes) g k ∙ e)) (let o = lowest-low m g in omega (arith, o))
 
   -- all of them: the answer is the whole mesh's
-  pub below-all : (a b : List ℕ) → slotWords * slotCount sizes ≤ length a → DoneBelow sizes ps ns ts h n a b → b ≡ answerWords (frames h m) ++ drop (slotWords * slotCount sizes) a
+  pub below-all : (a b : List ℕ) → slotWords * slotCount (mesh .sizes) ≤ length a → DoneBelow mesh h n a b → b ≡ answerWords (frames h m) ++ drop (slotWords * slotCount (mesh .sizes)) a
   unfolding slotsOf
-  below-all a b room x = front-is 0 (answerWords (frames h m)) (slotWords * slotCount sizes) (answer-length ps ns ts h sizes) a room b (x .past) (all-words-at b h sizes ps ns ts (λ g k i j. go g k i (used (getD sizes g 0)) refl j))
+  below-all a b room x = front-is 0 (answerWords (frames h m)) (slotWords * slotCount (mesh .sizes)) (answer-length (mesh .positions) (mesh .normals) (mesh .texture) h (mesh .sizes)) a room b (x .past) (all-words-at b h mesh (λ g k i j. go g k i (used (getD (mesh .sizes) g 0)) refl j))
     where
-      go : (g : ℕ) → g < n → (i : ℕ) (o : Bool) → used (getD sizes g 0) ≡ o → i < slotWords * cond o (getD sizes g 0) 0 → getD b (slotWords * slotCount (take g sizes) + i) 0 ≡ getD (wordsFor h m g) i 0
-      go g k i true e j = x .done g k (island-below g k e) i (subst (λ o. i < slotWords * cond o (getD sizes g 0) 0) (sym e) j)
+      go : (g : ℕ) → g < n → (i : ℕ) (o : Bool) → used (getD (mesh .sizes) g 0) ≡ o → i < slotWords * cond o (getD (mesh .sizes) g 0) 0 → getD b (slotWords * slotCount (take g (mesh .sizes)) + i) 0 ≡ getD (wordsFor h m g) i 0
+      go g k i true e j = x .done g k (island-below g k e) i (subst (λ o. i < slotWords * cond o (getD (mesh .sizes) g 0) 0) (sym e) j)
       go g k i false e j = absurd (omega arith)
 
 -- ---- the lists, one island after the other

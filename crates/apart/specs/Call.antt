@@ -10,8 +10,8 @@ use lib.Ieee.{Float}
 use Rattle.bits.specs.Single.{zeroᶠ}
 use Rattle.tangent.specs.Slot.{slotWords}
 use Rattle.definition.specs.Limits.{workWords}
-use Rattle.definition.specs.Handed.{meshFrom, slotCount}
-use Rattle.definition.specs.Desk.{Row, verdict}
+use Rattle.definition.specs.Handed.{Call, meshOf, Handed, slotCount}
+use Rattle.definition.specs.Desk.{Row, atDesk, verdict}
 use Rattle.definition.specs.Outcome.{Result, answerWords, answered}
 use Rattle.islands.specs.Rows.{labelled}
 use Rattle.islands.specs.Together.{together}
@@ -64,29 +64,29 @@ unfoldable pub short : ℕ → Own → Bool
 short faces o = tooShort faces (length (o .labels)) (length (o .order)) (length (o .sizes)) (length (o .numbers)) (length (o .frames))
 
 -- 'A refusal for the whole mesh is found before the first island and given as the table says'
-unfoldable pub verdictOf : List ℕ → List Float → List Float → List Float → Float → ℕ → ℕ → Own → Option Row
-verdictOf sizes ps ns ts h answer work own = afterwards (verdict sizes ps ns ts h answer work) (short (length sizes) own)
+unfoldable pub verdictOf : Call → Own → Option Row
+verdictOf x own = afterwards (verdict (atDesk x)) (short (length (x .mesh .sizes)) own)
 
 -- acceptance: the frames put together from the islands, and the work list as one call leaves it
-unfoldable pub acceptedOf : List ℕ → List Float → List Float → List Float → Float → List ℕ → List ℕ → Result
-acceptedOf sizes ps ns ts h answer work =
+unfoldable pub acceptedOf : Call → Result
+acceptedOf x =
     record {
       number = 0;
       place = 0;
-      slots = slotCount sizes;
-      answer = answerWords (together h (meshFrom ps ns ts 0 sizes)) ++ drop (slotWords * slotCount sizes) answer;
-      work = replicate (workWords * length sizes) 0 ++ drop (workWords * length sizes) work;
+      slots = slotCount (x .mesh .sizes);
+      answer = answerWords (together (x .threshold) (meshOf (x .mesh))) ++ drop (slotWords * slotCount (x .mesh .sizes)) (x .answer);
+      work = replicate (workWords * length (x .mesh .sizes)) 0 ++ drop (workWords * length (x .mesh .sizes)) (x .work);
     }
 
 -- its own lists after acceptance: the faces' numbers, and zeros wherever it has worked
-unfoldable pub ownAfter : List ℕ → List Float → List Float → List Float → Own → Own
-ownAfter sizes ps ns ts o =
+unfoldable pub ownAfter : Handed → Own → Own
+ownAfter mesh o =
     record {
-      labels = labelled sizes ps ns ts (o .labels);
-      order = cleared 0 (orderEntries * length sizes) (o .order);
-      sizes = cleared 0 (sizeEntries * length sizes) (o .sizes);
-      numbers = cleared zeroᶠ (numberEntries * length sizes) (o .numbers);
-      frames = cleared 0 (frameEntries * length sizes) (o .frames);
+      labels = labelled mesh (o .labels);
+      order = cleared 0 (orderEntries * length (mesh .sizes)) (o .order);
+      sizes = cleared 0 (sizeEntries * length (mesh .sizes)) (o .sizes);
+      numbers = cleared zeroᶠ (numberEntries * length (mesh .sizes)) (o .numbers);
+      frames = cleared 0 (frameEntries * length (mesh .sizes)) (o .frames);
     }
 
 -- a refusal leaves them as they were
@@ -104,17 +104,17 @@ unfoldable pub leaving : Outcome → List ℕ → List ℕ → Own → Leaving
 leaving r answer work o = record { result = left r answer work; own = o }
 
 -- acceptance
-unfoldable pub taken : List ℕ → List Float → List Float → List Float → Float → List ℕ → List ℕ → Own → Leaving
-taken sizes ps ns ts h answer work o = record { result = acceptedOf sizes ps ns ts h answer work; own = ownAfter sizes ps ns ts o }
+unfoldable pub taken : Call → Own → Leaving
+taken x o = record { result = acceptedOf x; own = ownAfter (x .mesh) o }
 
-unfoldable pub islandsOutcome : List ℕ → List Float → List Float → List Float → Float → List ℕ → List ℕ → Own → Leaving
-islandsOutcome sizes ps ns ts h answer work o =
-    let v = verdictOf sizes ps ns ts h (length answer) (length work) o in
+unfoldable pub islandsOutcome : Call → Own → Leaving
+islandsOutcome x o =
+    let v = verdictOf x o in
     record {
-      result = answered v (acceptedOf sizes ps ns ts h answer work) answer work;
-      own = ownLeft v (ownAfter sizes ps ns ts o) o;
+      result = answered v (acceptedOf x) (x .answer) (x .work);
+      own = ownLeft v (ownAfter (x .mesh) o) o;
     }
 
--- The contract of the islands' call. Handed in: face sizes, positions, normals, texture coordinates and the threshold; lent: the answer list a, the work list w and lists of its own, o, which it leaves as b, v and p; returned: r.
-abbrev pub Contract : List ℕ → List Float → List Float → List Float → Float → List ℕ → List ℕ → Own → Outcome → List ℕ → List ℕ → Own → Type 0
-Contract sizes ps ns ts h a w o r b v p = leaving r b v p ≡ islandsOutcome sizes ps ns ts h a w o
+-- The contract of the islands' call x, which is lent lists of its own, o: it returns r, and leaves the answer list as b, the work list as v and its own lists as p.
+abbrev pub Contract : Call → Own → Outcome → List ℕ → List ℕ → Own → Type 0
+Contract x o r b v p = leaving r b v p ≡ islandsOutcome x o

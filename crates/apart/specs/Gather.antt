@@ -6,13 +6,13 @@ use mathlib.Core.List.{List}
 use lib.ListN.{length, getD, take, drop}
 use lib.Ieee.{Float, nan}
 use Rattle.definition.specs.declared.Corner.{Corner}
-use Rattle.definition.specs.Handed.{meshFrom, cornerCount}
+use Rattle.definition.specs.Handed.{meshOf, Handed, meshFrom, cornerCount}
 use Rattle.islands.specs.Together.{picked}
 use Rattle.apart.specs.Lists.{Past}
 
 -- from corner b of the last three lists there stand the numbers of n corners that stand from corner a in the first three
 pub record Alike (ps ns ts xs ys zs : List Float) (a b n : ℕ) : Type 0 where
-  pub places : (j : ℕ) → j < 3 * n → getD xs (3 * b + j) nan ≡ getD ps (3 * a + j) nan
+  pub positions : (j : ℕ) → j < 3 * n → getD xs (3 * b + j) nan ≡ getD ps (3 * a + j) nan
   pub normals : (j : ℕ) → j < 3 * n → getD ys (3 * b + j) nan ≡ getD ns (3 * a + j) nan
   pub texture : (j : ℕ) → j < 2 * n → getD zs (2 * b + j) nan ≡ getD ts (2 * a + j) nan
 
@@ -34,8 +34,8 @@ pub record Laid (ps ns ts : List Float) (n base c z : ℕ) (u v : List Float) : 
   pub past : Past nan (32 * n) u v
 
 -- of the first f faces of a mesh those that pass q are gathered: k of them, with c corners, in the lists ss and xs
-pub record Gathered (q : ℕ → Bool) (sizes : List ℕ) (ps ns ts : List Float) (f k c : ℕ) (ss : List ℕ) (xs : List Float) : Type 0 where
+pub record Gathered (q : ℕ → Bool) (mesh : Handed) (f k c : ℕ) (ss : List ℕ) (xs : List Float) : Type 0 where
   pub few : k ≤ f
   pub low : c ≤ 4 * k
   pub corners : c ≡ cornerCount (take k ss)
-  pub mesh : meshIn (length sizes) xs (take k ss) ≡ picked q 0 (take f (meshFrom ps ns ts 0 sizes))
+  pub faces : meshIn (length (mesh .sizes)) xs (take k ss) ≡ picked q 0 (take f (meshOf mesh))

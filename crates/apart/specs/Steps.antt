@@ -6,35 +6,29 @@ use mathlib.Core.List.{List}
 use mathlib.Core.Option.{none}
 use lib.ListN.{length, getD, take}
 use lib.Ieee.{Float, nan}
+use Rattle.mesh.specs.Parts.{Fits}
 use Rattle.bits.specs.Word.{isFinite}
 use Rattle.tangent.specs.Slot.{slotWords}
 use Rattle.definition.specs.Limits.{faceLimit, workWords}
-use Rattle.definition.specs.Handed.{meshFrom, cornerCount, slotCount}
-use Rattle.definition.specs.Desk.{badCorner, verdict}
+use Rattle.definition.specs.Handed.{handed, meshOf, Handed, cornerCount, slotCount}
+use Rattle.definition.specs.Desk.{shown, notFinite, verdict}
 use Rattle.islands.specs.Islands.{islandOf}
 use Rattle.apart.specs.Lists.{Past}
 use Rattle.apart.specs.Order.{among, Linked, Begun}
 use Rattle.apart.specs.Gather.{normalsIn, textureIn}
 use Rattle.apart.specs.Scatter.{wordsFor, Put, Placed}
 
--- lists that fit each other
-pub record Fits (sizes : List ℕ) (ps ns ts : List Float) : Type 0 where
-  pub few : length sizes ≤ faceLimit
-  pub places : length ps ≡ 3 * cornerCount sizes
-  pub normals : length ns ≡ 3 * cornerCount sizes
-  pub texture : length ts ≡ 2 * cornerCount sizes
-
 -- the order of their faces
-pub record Ready (sizes : List ℕ) (ps ns ts : List Float) (order : List ℕ) : Type 0 where
-  pub fits : Fits sizes ps ns ts
-  pub long : 4 * length sizes ≤ length order
-  pub linked : Linked (length sizes) (islandOf (meshFrom ps ns ts 0 sizes)) 0 order
-  pub begun : Begun sizes (length sizes) order
+pub record Ready (mesh : Handed) (order : List ℕ) : Type 0 where
+  pub fits : Fits mesh
+  pub long : 4 * length (mesh .sizes) ≤ length order
+  pub linked : Linked (length (mesh .sizes)) (islandOf (meshOf mesh)) 0 order
+  pub begun : Begun (mesh .sizes) (length (mesh .sizes)) order
 
 -- no number is a NaN or infinity
-pub record Good (sizes : List ℕ) (ps ns ts : List Float) (h : Float) : Type 0 where
+pub record Good (mesh : Handed) (h : Float) : Type 0 where
   pub threshold : not (isFinite h) ≡ false
-  pub corners : badCorner 0 (meshFrom ps ns ts 0 sizes) ≡ none
+  pub corners : notFinite mesh ≡ none
 
 -- the base accepts k faces with c corners, whose sizes and numbers are the first in these lists, for a mesh of n faces
 pub record Fit (n k c : ℕ) (h : Float) (ss : List ℕ) (xs : List Float) (frames work : List ℕ) : Type 0 where
@@ -43,7 +37,7 @@ pub record Fit (n k c : ℕ) (h : Float) (ss : List ℕ) (xs : List Float) (fram
   pub faces : k ≤ length ss
   pub long : 32 * n ≤ length xs
   pub corners : c ≡ cornerCount (take k ss)
-  pub accepted : verdict (take k ss) (take (3 * c) xs) (take (3 * c) (normalsIn n xs)) (take (2 * c) (textureIn n xs)) h (length frames) (length work) ≡ none
+  pub accepted : verdict (shown (handed (take k ss) (take (3 * c) xs) (take (3 * c) (normalsIn n xs)) (take (2 * c) (textureIn n xs))) h (length frames) (length work)) ≡ none
 
 -- the lists that are lent are long enough for the mesh, and the work list is cleared
 pub record Room (sizes a w ss : List ℕ) (xs : List Float) (fs : List ℕ) : Type 0 where
@@ -61,9 +55,9 @@ pub record Kept (n : ℕ) (ss ss′ : List ℕ) (xs xs′ : List Float) (fs fs�
   pub frames : Past 0 (slotWords * (4 * n)) fs fs′
 
 -- island t is done: a becomes b
-abbrev pub Done : List ℕ → List Float → List Float → List Float → Float → ℕ → List ℕ → List ℕ → Type 0
-Done sizes ps ns ts h t a b = let m = meshFrom ps ns ts 0 sizes in Put (among (islandOf m) t) sizes (wordsFor h m) (length sizes) a b
+abbrev pub Done : Handed → Float → ℕ → List ℕ → List ℕ → Type 0
+Done mesh h t a b = let m = meshOf mesh in Put (among (islandOf m) t) (mesh .sizes) (wordsFor h m) (length (mesh .sizes)) a b
 
 -- the islands below t are done: a becomes b
-abbrev pub DoneBelow : List ℕ → List Float → List Float → List Float → Float → ℕ → List ℕ → List ℕ → Type 0
-DoneBelow sizes ps ns ts h t a b = let m = meshFrom ps ns ts 0 sizes in Placed sizes (wordsFor h m) (islandOf m) t a b
+abbrev pub DoneBelow : Handed → Float → ℕ → List ℕ → List ℕ → Type 0
+DoneBelow mesh h t a b = let m = meshOf mesh in Placed (mesh .sizes) (wordsFor h m) (islandOf m) t a b

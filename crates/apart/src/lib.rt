@@ -11,8 +11,8 @@ ghost use lib.Ieee.{nan};
 ghost use Rattle.bits.specs.Single.{zeroᶠ};
 ghost use Rattle.tangent.specs.Slot.{slotWords};
 ghost use Rattle.definition.specs.Limits.{faceLimit, workWords};
-ghost use Rattle.definition.specs.Handed.{meshFrom, slotCount, cornerCount};
-ghost use Rattle.definition.specs.Desk.{verdict};
+ghost use Rattle.definition.specs.Handed.{meshOf, call, handed, slotCount, cornerCount};
+ghost use Rattle.definition.specs.Desk.{shown, verdict};
 ghost use Rattle.definition.specs.Frames.{frames};
 ghost use Rattle.definition.specs.Outcome.{answerWords};
 ghost use Rattle.islands.specs.Islands.{islandOf};
@@ -21,6 +21,7 @@ ghost use Rattle.apart.specs.Lists.{Past, Copied, cleared};
 ghost use Rattle.apart.specs.Order as chain;
 ghost use Rattle.apart.specs.Gather as gather;
 ghost use Rattle.apart.specs.Scatter as scatter;
+ghost use Rattle.mesh.specs.Parts.{Fits};
 ghost use Rattle.apart.specs.Steps as step;
 ghost use Rattle.apart.specs.Call as spec;
 use mikktspace::Outcome;
@@ -158,8 +159,8 @@ fn gather(
     own_sizes: &mut [u8],
     own_numbers: &mut [f32],
 ) -> Taken
-    requires { ⌜ (t < length (now sizes)) × step.Ready (now sizes) (now positions) (now normals) (now texture) (now order) × (length (now sizes) ≤ length (now «own_sizes»)) × (32 * length (now sizes) ≤ length (now «own_numbers»)) ⌝ }
-    ensures { λ r. ⌜ gather.Gathered (chain.among (islandOf (meshFrom (now (positions .entry)) (now (normals .entry)) (now (texture .entry)) 0 (now (sizes .entry)))) t) (now (sizes .entry)) (now (positions .entry)) (now (normals .entry)) (now (texture .entry)) (length (now (sizes .entry))) (r .faces) (r .corners) (now («own_sizes» .exit)) (now («own_numbers» .exit)) × Past 0 (length (now (sizes .entry))) (now («own_sizes» .entry)) (now («own_sizes» .exit)) × Past nan (32 * length (now (sizes .entry))) (now («own_numbers» .entry)) (now («own_numbers» .exit)) ⌝ }
+    requires { ⌜ (t < length (now sizes)) × step.Ready (handed (now sizes) (now positions) (now normals) (now texture)) (now order) × (length (now sizes) ≤ length (now «own_sizes»)) × (32 * length (now sizes) ≤ length (now «own_numbers»)) ⌝ }
+    ensures { λ r. ⌜ gather.Gathered (chain.among (islandOf (meshOf (handed (now (sizes .entry)) (now (positions .entry)) (now (normals .entry)) (now (texture .entry))))) t) (handed (now (sizes .entry)) (now (positions .entry)) (now (normals .entry)) (now (texture .entry))) (length (now (sizes .entry))) (r .faces) (r .corners) (now («own_sizes» .exit)) (now («own_numbers» .exit)) × Past 0 (length (now (sizes .entry))) (now («own_sizes» .entry)) (now («own_sizes» .exit)) × Past nan (32 * length (now (sizes .entry))) (now («own_numbers» .entry)) (now («own_numbers» .exit)) ⌝ }
 {
     let n = sizes.len();
     let mut next = order[n + t];
@@ -258,8 +259,8 @@ fn one_island(
     own_numbers: &mut [f32],
     own_frames: &mut [u32],
 )
-    requires { ⌜ (t < length (now sizes)) × step.Ready (now sizes) (now positions) (now normals) (now texture) (now order) × step.Good (now sizes) (now positions) (now normals) (now texture) threshold × step.Room (now sizes) (now answer) (now work) (now «own_sizes») (now «own_numbers») (now «own_frames») ⌝ }
-    ensures { λ _. ⌜ step.Done (now (sizes .entry)) (now (positions .entry)) (now (normals .entry)) (now (texture .entry)) threshold t (now (answer .entry)) (now (answer .exit)) × (now (work .exit) ≡ now (work .entry)) × step.Kept (length (now (sizes .entry))) (now («own_sizes» .entry)) (now («own_sizes» .exit)) (now («own_numbers» .entry)) (now («own_numbers» .exit)) (now («own_frames» .entry)) (now («own_frames» .exit)) ⌝ }
+    requires { ⌜ (t < length (now sizes)) × step.Ready (handed (now sizes) (now positions) (now normals) (now texture)) (now order) × step.Good (handed (now sizes) (now positions) (now normals) (now texture)) threshold × step.Room (now sizes) (now answer) (now work) (now «own_sizes») (now «own_numbers») (now «own_frames») ⌝ }
+    ensures { λ _. ⌜ step.Done (handed (now (sizes .entry)) (now (positions .entry)) (now (normals .entry)) (now (texture .entry))) threshold t (now (answer .entry)) (now (answer .exit)) × (now (work .exit) ≡ now (work .entry)) × step.Kept (length (now (sizes .entry))) (now («own_sizes» .entry)) (now («own_sizes» .exit)) (now («own_numbers» .entry)) (now («own_numbers» .exit)) (now («own_frames» .entry)) (now («own_frames» .exit)) ⌝ }
 {
     let n = sizes.len();
     if order[n + t] == 0 {
@@ -295,8 +296,8 @@ fn all_islands(
     texture: &[f32],
     threshold: f32,
 )
-    requires { ⌜ step.Ready (now sizes) (now positions) (now normals) (now texture) (now order) × step.Good (now sizes) (now positions) (now normals) (now texture) threshold × step.Room (now sizes) (now answer) (now work) (now «own_sizes») (now «own_numbers») (now «own_frames») ⌝ }
-    ensures { λ _. ⌜ step.DoneBelow (now (sizes .entry)) (now (positions .entry)) (now (normals .entry)) (now (texture .entry)) threshold (length (now (sizes .entry))) (now (answer .entry)) (now (answer .exit)) × (now (work .exit) ≡ now (work .entry)) × step.Kept (length (now (sizes .entry))) (now («own_sizes» .entry)) (now («own_sizes» .exit)) (now («own_numbers» .entry)) (now («own_numbers» .exit)) (now («own_frames» .entry)) (now («own_frames» .exit)) ⌝ }
+    requires { ⌜ step.Ready (handed (now sizes) (now positions) (now normals) (now texture)) (now order) × step.Good (handed (now sizes) (now positions) (now normals) (now texture)) threshold × step.Room (now sizes) (now answer) (now work) (now «own_sizes») (now «own_numbers») (now «own_frames») ⌝ }
+    ensures { λ _. ⌜ step.DoneBelow (handed (now (sizes .entry)) (now (positions .entry)) (now (normals .entry)) (now (texture .entry))) threshold (length (now (sizes .entry))) (now (answer .entry)) (now (answer .exit)) × (now (work .exit) ≡ now (work .entry)) × step.Kept (length (now (sizes .entry))) (now («own_sizes» .entry)) (now («own_sizes» .exit)) (now («own_numbers» .entry)) (now («own_numbers» .exit)) (now («own_frames» .entry)) (now («own_frames» .exit)) ⌝ }
 {
     for t in 0..sizes.len() {
         one_island(
@@ -339,12 +340,12 @@ fn prepare(
     order: &mut [u32],
     work: &mut [u32],
 )
-    requires { ⌜ step.Fits (now sizes) (now positions) (now normals) (now texture) × (length (now sizes) ≤ length (now labels)) × (4 * length (now sizes) ≤ length (now order)) × (workWords * length (now sizes) ≤ length (now work)) ⌝ }
-    ensures { λ _. ⌜ (now (labels .exit) ≡ labelled (now (sizes .entry)) (now (positions .entry)) (now (normals .entry)) (now (texture .entry)) (now (labels .entry))) × step.Ready (now (sizes .entry)) (now (positions .entry)) (now (normals .entry)) (now (texture .entry)) (now (order .exit)) × Past 0 (4 * length (now (sizes .entry))) (now (order .entry)) (now (order .exit)) × (now (work .exit) ≡ cleared 0 (workWords * length (now (sizes .entry))) (now (work .entry))) ⌝ }
+    requires { ⌜ Fits (handed (now sizes) (now positions) (now normals) (now texture)) × (length (now sizes) ≤ length (now labels)) × (4 * length (now sizes) ≤ length (now order)) × (workWords * length (now sizes) ≤ length (now work)) ⌝ }
+    ensures { λ _. ⌜ (now (labels .exit) ≡ labelled (handed (now (sizes .entry)) (now (positions .entry)) (now (normals .entry)) (now (texture .entry))) (now (labels .entry))) × step.Ready (handed (now (sizes .entry)) (now (positions .entry)) (now (normals .entry)) (now (texture .entry))) (now (order .exit)) × Past 0 (4 * length (now (sizes .entry))) (now (order .entry)) (now (order .exit)) × (now (work .exit) ≡ cleared 0 (workWords * length (now (sizes .entry))) (now (work .entry))) ⌝ }
 {
     let n = sizes.len();
     islands::label(sizes, positions, normals, texture, labels, work);
-    table::clear_first(work, 128 * n);
+    table::clear_first(work, definition::WORK_WORDS * n);
     start_faces(sizes, order);
     link_faces(labels, order, n);
 }
@@ -400,8 +401,8 @@ fn make_frames(
     own_numbers: &mut [f32],
     own_frames: &mut [u32],
 ) -> u32
-    requires { ⌜ (verdict (now sizes) (now positions) (now normals) (now texture) threshold (length (now answer)) (length (now work)) ≡ none) × (spec.short (length (now sizes)) (spec.lists (now labels) (now order) (now «own_sizes») (now «own_numbers») (now «own_frames»)) ≡ false) ⌝ }
-    ensures { λ s. ⌜ spec.leaving (record { number = 0; place = 0; slots = s }) (now (answer .exit)) (now (work .exit)) (spec.lists (now (labels .exit)) (now (order .exit)) (now («own_sizes» .exit)) (now («own_numbers» .exit)) (now («own_frames» .exit))) ≡ spec.taken (now (sizes .entry)) (now (positions .entry)) (now (normals .entry)) (now (texture .entry)) threshold (now (answer .entry)) (now (work .entry)) (spec.lists (now (labels .entry)) (now (order .entry)) (now («own_sizes» .entry)) (now («own_numbers» .entry)) (now («own_frames» .entry))) ⌝ }
+    requires { ⌜ (verdict (shown (handed (now sizes) (now positions) (now normals) (now texture)) threshold (length (now answer)) (length (now work))) ≡ none) × (spec.short (length (now sizes)) (spec.lists (now labels) (now order) (now «own_sizes») (now «own_numbers») (now «own_frames»)) ≡ false) ⌝ }
+    ensures { λ s. ⌜ spec.leaving (record { number = 0; place = 0; slots = s }) (now (answer .exit)) (now (work .exit)) (spec.lists (now (labels .exit)) (now (order .exit)) (now («own_sizes» .exit)) (now («own_numbers» .exit)) (now («own_frames» .exit))) ≡ spec.taken (call (handed (now (sizes .entry)) (now (positions .entry)) (now (normals .entry)) (now (texture .entry))) threshold (now (answer .entry)) (now (work .entry))) (spec.lists (now (labels .entry)) (now (order .entry)) (now («own_sizes» .entry)) (now («own_numbers» .entry)) (now («own_frames» .entry))) ⌝ }
 {
     prepare(sizes, positions, normals, texture, labels, order, work);
     all_islands(
@@ -418,14 +419,14 @@ fn make_frames(
         threshold,
     );
     clear_own(sizes.len(), order, own_sizes, own_numbers, own_frames);
-    mesh::slots_before(sizes, 65536) as u32
+    mesh::slots_before(sizes, definition::FACE_LIMIT) as u32
 }
 
 // What one call of the base leaves, got one island at a time; the lists of its own are lent: for each face of the mesh 1 entry of `labels`, 4 of `order`, 1 of `own_sizes`, 32 of `own_numbers` and 40 of `own_frames`.
 // A refusal (a number from 1 to 6 by the table, or 9 where a list of its own is too short) alters nothing.
 pub fn frames_by_islands(
     sizes: &[u8],
-    places: &[f32],
+    positions: &[f32],
     normals: &[f32],
     texture: &[f32],
     threshold: f32,
@@ -437,11 +438,11 @@ pub fn frames_by_islands(
     own_numbers: &mut [f32],
     own_frames: &mut [u32],
 ) -> Outcome
-    ensures { λ r. ⌜ spec.Contract (now (sizes .entry)) (now (places .entry)) (now (normals .entry)) (now (texture .entry)) threshold (now (answer .entry)) (now (work .entry)) (spec.lists (now (labels .entry)) (now (order .entry)) (now («own_sizes» .entry)) (now («own_numbers» .entry)) (now («own_frames» .entry))) r (now (answer .exit)) (now (work .exit)) (spec.lists (now (labels .exit)) (now (order .exit)) (now («own_sizes» .exit)) (now («own_numbers» .exit)) (now («own_frames» .exit))) ⌝ }
+    ensures { λ r. ⌜ spec.Contract (call (handed (now (sizes .entry)) (now (positions .entry)) (now (normals .entry)) (now (texture .entry))) threshold (now (answer .entry)) (now (work .entry))) (spec.lists (now (labels .entry)) (now (order .entry)) (now («own_sizes» .entry)) (now («own_numbers» .entry)) (now («own_frames» .entry))) r (now (answer .exit)) (now (work .exit)) (spec.lists (now (labels .exit)) (now (order .exit)) (now («own_sizes» .exit)) (now («own_numbers» .exit)) (now («own_frames» .exit))) ⌝ }
 {
     let v = desk::judge(
         sizes,
-        places,
+        positions,
         normals,
         texture,
         threshold,
@@ -464,7 +465,7 @@ pub fn frames_by_islands(
     let slots = make_frames(
         threshold,
         sizes,
-        places,
+        positions,
         normals,
         texture,
         order,

@@ -9,16 +9,16 @@ use lib.ListN.{length, take, drop, take-append-drop, drop-of-length-le}
 use lib.Seq.{take-take, take-at, take-append-add, take-append-le, length-take-le}
 use lib.Dec.{ltb}
 use borrow.Author.Tests.{ltb-true, ltb-false}
-use Rattle.words.specs.Lists.{joined, part}
-use Rattle.words.proofs.Lists.{joined-same, joined-add, part-part}
-use Rattle.blocks.specs.Format.{blocksFor, usedWords, recordsIn, blockOf}
+use Rattle.lists.specs.Parts.{joined, part}
+use Rattle.lists.proofs.Parts.{joined-same, joined-add, part-part}
+use Rattle.blocks.specs.Format.{blockBytes, recordsHeld, roomWords, blocksFor, usedWords, recordsIn, blockOf}
 use Rattle.blocks.proofs.Counts.{words-are, used-fits, called}
 use Rattle.cards.specs.Writer.{recordsOf, writable, blocksOf, cardOf}
 use Rattle.cards.proofs.Lengths.{length-blocks}
 use Rattle.cards.proofs.Outcomes.{whole-records}
 use Rattle.appends.specs.Append.{blocksFrom}
 use Rattle.appends.specs.File.{patched}
-use Rattle.appends.proofs.Counts.{Next, next-words, length-from}
+use Rattle.appends.proofs.Counts.{NextRecords, next-words, length-from}
 
 -- f is the beginning of g
 abbrev pub Begins : List ℕ → List ℕ → Type 0
@@ -62,26 +62,26 @@ patch-begins front xs after f g at j e l h k b = go (ltb (at + j) (length f)) re
         (drop (at + j) g, ap (λ (x : List ℕ). x ++ drop (at + j) g) (whole ∙ (ap (λ (x : List ℕ). take (at + j) g ++ x) none ∙ append-nil (take (at + j) g))) ∙ take-append-drop (at + j) g)
 
 -- the next records of l
-module _ (l : List ℕ) (can : writable l ≡ true) (b : ℕ) (rs : List ℕ) (own : rs ≡ part (120 * b) (length rs) l) (ok : writable rs ≡ true) (f : Next (recordsOf l) b (recordsOf rs)) where
+module _ (l : List ℕ) (can : writable l ≡ true) (b : ℕ) (rs : List ℕ) (own : rs ≡ part (roomWords * b) (length rs) l) (ok : writable rs ≡ true) (f : NextRecords (recordsOf l) b (recordsOf rs)) where
   -- they are among those of l
-  among : 12 * b + recordsOf rs ≤ recordsOf l
+  among : recordsHeld * b + recordsOf rs ≤ recordsOf l
   among = go (f .kind)
     where
-      go : (12 * b + recordsOf rs ≡ recordsOf l) ⊎ ((12 * b + recordsOf rs < recordsOf l) × (recordsOf rs % 12 ≡ 0)) → 12 * b + recordsOf rs ≤ recordsOf l
+      go : (recordsHeld * b + recordsOf rs ≡ recordsOf l) ⊎ ((recordsHeld * b + recordsOf rs < recordsOf l) × (recordsOf rs % recordsHeld ≡ 0)) → recordsHeld * b + recordsOf rs ≤ recordsOf l
       go (inl e) = omega (arith, e)
       go (inr e) = omega (arith, e .0)
 
   -- each of their blocks is the block of l
-  one : (i : ℕ) → i < blocksFor (recordsOf rs) → part (120 * i) (usedWords (recordsOf l) (b + i)) rs ≡ recordsIn (recordsOf l) (b + i) l
+  one : (i : ℕ) → i < blocksFor (recordsOf rs) → part (roomWords * i) (usedWords (recordsOf l) (b + i)) rs ≡ recordsIn (recordsOf l) (b + i) l
   unfolding recordsIn
   one i h =
-      ap (part (120 * i) (usedWords (recordsOf l) (b + i))) own
-      ∙ (part-part (120 * b) (length rs) (120 * i) (usedWords (recordsOf l) (b + i)) l
+      ap (part (roomWords * i) (usedWords (recordsOf l) (b + i))) own
+      ∙ (part-part (roomWords * b) (length rs) (roomWords * i) (usedWords (recordsOf l) (b + i)) l
       (omega (arith, next-words (recordsOf l) b (recordsOf rs) i f h, words-are (recordsOf rs) i, used-fits (recordsOf rs) i (called (recordsOf rs) i h), whole-records rs ok))
       (omega (arith, among, whole-records rs ok, whole-records l can))
       ∙ ap (λ (p : ℕ). part p (usedWords (recordsOf l) (b + i)) l) place)
     where
-      place : 120 * b + 120 * i ≡ 120 * (b + i)
+      place : roomWords * b + roomWords * i ≡ roomWords * (b + i)
       place = omega arith
 
   fit-in : b + blocksFor (recordsOf rs) ≤ blocksFor (recordsOf l)
@@ -96,13 +96,13 @@ module _ (l : List ℕ) (can : writable l ≡ true) (b : ℕ) (rs : List ℕ) (o
       let k = blocksFor (recordsOf rs) in
       let m = blocksFor n - (b + k) in
       let g : ℕ → List ℕ = λ i. blockOf n i (recordsIn n i l) in
-      let theirs = joined-same k (λ i. blockOf n (b + i) (part (120 * i) (usedWords n (b + i)) rs)) (λ i. g (b + i)) (λ i h. ap (blockOf n (b + i)) (one i h)) in
+      let theirs = joined-same k (λ i. blockOf n (b + i) (part (roomWords * i) (usedWords n (b + i)) rs)) (λ i. g (b + i)) (λ i h. ap (blockOf n (b + i)) (one i h)) in
       let count : blocksFor n ≡ b + (k + m) = omega (arith, fit-in) in
       (joined m (λ i. g (b + (k + i))), ap (λ (j : ℕ). joined j g) count ∙ (joined-add b (k + m) g ∙ ap (λ (x : List ℕ). joined b g ++ x) (joined-add k m (λ i. g (b + i)) ∙ ap (λ (x : List ℕ). x ++ joined m (λ i. g (b + (k + i)))) (sym theirs))))
 
   -- and what appending them leaves, in whole or in part
-  pub append-begins : (c : List ℕ) (j : ℕ) → b ≡ length c / 512 → j ≤ 512 * blocksFor (recordsOf rs) → Begins c (cardOf l) → Begins (patched c (512 * b) (take j (blocksFrom (recordsOf l) b rs))) (cardOf l)
+  pub append-begins : (c : List ℕ) (j : ℕ) → b ≡ length c / blockBytes → j ≤ blockBytes * blocksFor (recordsOf rs) → Begins c (cardOf l) → Begins (patched c (blockBytes * b) (take j (blocksFrom (recordsOf l) b rs))) (cardOf l)
   unfolding blocksFrom
   append-begins c j e h s =
-      patch-begins (blocksOf b (recordsOf l) l) (blocksFrom (recordsOf l) b rs) (card-split .0) c (cardOf l) (512 * b) j (card-split .1)
+      patch-begins (blocksOf b (recordsOf l) l) (blocksFrom (recordsOf l) b rs) (card-split .0) c (cardOf l) (blockBytes * b) j (card-split .1)
       (length-blocks b (recordsOf l) l (omega (arith, whole-records l can)) (omega (arith, fit-in))) (omega (arith, e)) (omega (arith, h, length-from (recordsOf l) b rs f (blocksFor (recordsOf rs)) (omega arith))) s

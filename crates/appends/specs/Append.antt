@@ -4,32 +4,32 @@ use mathlib.Core.Bool.{Bool, cond, _&&_, _||_}
 use mathlib.Core.List.{List, _++_}
 use lib.ListN.{length, drop}
 use lib.Dec.{eqb, leb, ltb}
-use Rattle.words.specs.Lists.{joined, part}
+use Rattle.lists.specs.Parts.{joined, part}
 use Rattle.blocks.specs.Format.{recordsHeld, roomWords, blocksFor, usedWords, blockOf}
 use Rattle.cards.specs.Writer.{recordsOf, writable, cardBytes}
-use Rattle.appends.specs.Next.{beyond, firstTorn, placeOf}
+use Rattle.appends.specs.Next.{overfull, firstTorn, placeOf}
 
 -- whether k of n records, k not 0, are those of block b and of the blocks after it: full ones, or all that is left
-unfoldable pub follow : ℕ → ℕ → ℕ → Bool
-follow n b k = ltb 0 k && (eqb (recordsHeld * b + k) n || ltb (recordsHeld * b + k) n && eqb (k % recordsHeld) 0)
+unfoldable pub areNext : ℕ → ℕ → ℕ → Bool
+areNext n b k = ltb 0 k && (eqb (recordsHeld * b + k) n || ltb (recordsHeld * b + k) n && eqb (k % recordsHeld) 0)
 
 -- the bytes of the blocks from b on that hold the records l
 unfoldable pub blocksFrom : ℕ → ℕ → List ℕ → List ℕ
 blocksFrom n b l = joined (blocksFor (recordsOf l)) (λ i. blockOf n (b + i) (part (roomWords * i) (usedWords n (b + i)) l))
 
 -- all that appending leaves behind: a number, how many blocks, where they go, and the lent list
-pub record Added : Type 0 where
+pub record AppendLeft : Type 0 where
   pub number : ℕ
   pub blocks : ℕ
   pub at : ℕ
   pub lent : List ℕ
 
 -- a refusal alters nothing
-unfoldable pub notAdded : ℕ → List ℕ → Added
+unfoldable pub notAdded : ℕ → List ℕ → AppendLeft
 notAdded k lent = record { number = k; blocks = 0; at = 0; lent = lent }
 
 -- the blocks' bytes, to be put at the torn block's place
-unfoldable pub nowAdded : ℕ → ℕ → List ℕ → List ℕ → Added
+unfoldable pub nowAdded : ℕ → ℕ → List ℕ → List ℕ → AppendLeft
 nowAdded n long l lent =
     record {
       number = 0;
@@ -39,10 +39,10 @@ nowAdded n long l lent =
     }
 
 -- what appending the records l, of n in all, to a card of so many bytes leaves behind. Refused, in this order: 1, a list that cannot be written; 2, a lent list too short; 3, a card that holds more than n records call for; 4, records that are not those of the next blocks by count
-unfoldable pub added : ℕ → ℕ → List ℕ → List ℕ → Added
-added n long l lent =
+unfoldable pub appendLeft : ℕ → ℕ → List ℕ → List ℕ → AppendLeft
+appendLeft n long l lent =
     cond (writable l)
     (cond (leb (cardBytes (recordsOf l)) (length lent))
-    (cond (beyond n long) (notAdded 3 lent) (cond (follow n (firstTorn long) (recordsOf l)) (nowAdded n long l lent) (notAdded 4 lent)))
+    (cond (overfull n long) (notAdded 3 lent) (cond (areNext n (firstTorn long) (recordsOf l)) (nowAdded n long l lent) (notAdded 4 lent)))
     (notAdded 2 lent))
     (notAdded 1 lent)

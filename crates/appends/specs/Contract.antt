@@ -3,7 +3,7 @@ use Prim.Native.Nat.{ℕ}
 use mathlib.Core.Path.{_≡_}
 use mathlib.Core.List.{List}
 use Rattle.appends.specs.Next.{Following, following}
-use Rattle.appends.specs.Append.{Added, added}
+use Rattle.appends.specs.Append.{AppendLeft, appendLeft}
 use Rattle.appends.specs.declared.Next.{Next}
 use Rattle.appends.specs.declared.Appended.{Appended}
 
@@ -16,9 +16,9 @@ abbrev pub Follows : ℕ → ℕ → Next → Type 0
 Follows long n r = afterNext r ≡ following n long
 
 -- all that a call of `append` leaves behind
-unfoldable pub afterAppend : Appended → List ℕ → Added
+unfoldable pub afterAppend : Appended → List ℕ → AppendLeft
 afterAppend r lent = record { number = r .number; blocks = r .blocks; at = r .at; lent = lent }
 
 -- The contract of `append`. Handed in: the length of the card, the total n and the records l; lent: the list c, which it leaves as d; returned: r.
 abbrev pub Appends : ℕ → ℕ → List ℕ → List ℕ → Appended → List ℕ → Type 0
-Appends long n l c r d = afterAppend r d ≡ added n long l c
+Appends long n l c r d = afterAppend r d ≡ appendLeft n long l c

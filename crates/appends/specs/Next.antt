@@ -2,11 +2,11 @@
 use Prim.Native.Nat.{ℕ, _*_, _/_}
 use mathlib.Core.Bool.{Bool, cond}
 use lib.Dec.{ltb}
-use Rattle.blocks.specs.Format.{blockBytes, blocksFor, used}
+use Rattle.blocks.specs.Format.{blockBytes, blocksFor, recordsUsed}
 
 -- whether a card of so many bytes holds more than n records call for
-unfoldable pub beyond : ℕ → ℕ → Bool
-beyond n long = ltb (blockBytes * blocksFor n) long
+unfoldable pub overfull : ℕ → ℕ → Bool
+overfull n long = ltb (blockBytes * blocksFor n) long
 
 -- the first block that is not whole: 'Appending after that starts at the torn block'
 unfoldable pub firstTorn : ℕ → ℕ
@@ -25,6 +25,6 @@ pub record Following : Type 0 where
 -- how many records the torn block takes, none where the card is whole, and where it goes; refused with 3 where it holds more than n records call for
 unfoldable pub following : ℕ → ℕ → Following
 following n long =
-    cond (beyond n long)
+    cond (overfull n long)
     (record { number = 3; records = 0; at = 0 })
-    (record { number = 0; records = used n (firstTorn long); at = placeOf long })
+    (record { number = 0; records = recordsUsed n (firstTorn long); at = placeOf long })

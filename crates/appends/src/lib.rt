@@ -4,7 +4,8 @@ ghost use mathlib.Core.Bool.{true};
 ghost use mathlib.Core.List.{_++_};
 ghost use Prim.Native.Nat.{_+_, _*_, _≤_, _<_};
 ghost use lib.ListN.{length, drop};
-ghost use Rattle.blocks.specs.Format.{used};
+ghost use Rattle.words.specs.Words.{wordValues};
+ghost use Rattle.blocks.specs.Format.{recordsUsed};
 ghost use Rattle.cards.specs.Writer.{recordsOf, cardBytes};
 ghost use Rattle.appends.specs.Next as next;
 ghost use Rattle.appends.specs.Append as spec;
@@ -27,59 +28,59 @@ pub struct Appended {
 }
 
 // Whether a card of so many bytes holds more than the total calls for.
-fn beyond(long: usize, total: u32) -> bool
-    ensures { λ r. ⌜ r ≡ next.beyond total long ⌝ }
+fn overfull(long: usize, total: u32) -> bool
+    ensures { λ r. ⌜ r ≡ next.overfull total long ⌝ }
 {
-    512 * blocks::blocks_for(total) < long
+    blocks::BLOCK_BYTES * blocks::blocks_for(total) < long
 }
 
 // How many records block b takes, none where the total does not call for it.
 fn wanted(total: u32, b: usize) -> u32
-    ensures { λ r. ⌜ r ≡ used total b ⌝ }
+    ensures { λ r. ⌜ r ≡ recordsUsed total b ⌝ }
 {
     if blocks::blocks_for(total) <= b {
         return 0;
     }
-    blocks::used(total, b) as u32
+    blocks::records_used(total, b) as u32
 }
 
 // What comes next on a card of so many bytes: refused with 3 where it holds more than the total calls for.
 pub fn next_block(long: usize, total: u32) -> Next
     ensures { λ r. ⌜ Follows long total r ⌝ }
 {
-    if beyond(long, total) {
+    if overfull(long, total) {
         return Next {
             number: 3,
             records: 0,
             at: 0,
         };
     }
-    let block = long / 512;
+    let block = long / blocks::BLOCK_BYTES;
     Next {
         number: 0,
         records: wanted(total, block),
-        at: 512 * block,
+        at: blocks::BLOCK_BYTES * block,
     }
 }
 
 // Whether so many records are those of block b and of the blocks after it: full ones, or all that is left.
-fn follow(total: u32, b: usize, count: u32) -> bool
-    requires { ⌜ b ≤ 4294967296 ⌝ }
-    ensures { λ r. ⌜ r ≡ spec.follow total b count ⌝ }
+fn are_next(total: u32, b: usize, count: u32) -> bool
+    requires { ⌜ b ≤ wordValues ⌝ }
+    ensures { λ r. ⌜ r ≡ spec.areNext total b count ⌝ }
 {
-    let end = 12 * b + count as usize;
+    let end = blocks::RECORDS_HELD * b + count as usize;
     let all = end == total as usize;
-    let full = (end < total as usize) & (count % 12 == 0);
+    let full = (end < total as usize) & (count as usize % blocks::RECORDS_HELD == 0);
     (0 < count) & (all | full)
 }
 
 // The bytes of the blocks from b on that hold these records.
 fn put_blocks(total: u32, b: usize, records: &[u32], lent: &mut [u8])
-    requires { ⌜ (spec.follow total b (recordsOf (now records)) ≡ true) × (recordsOf (now records) < 4294967296) × (b ≤ 4294967296) × (cardBytes (recordsOf (now records)) ≤ length (now lent)) ⌝ }
+    requires { ⌜ (spec.areNext total b (recordsOf (now records)) ≡ true) × (recordsOf (now records) < wordValues) × (b ≤ wordValues) × (cardBytes (recordsOf (now records)) ≤ length (now lent)) ⌝ }
     ensures { λ _. ⌜ now (lent .exit) ≡ spec.blocksFrom total b (now (records .entry)) ++ drop (cardBytes (recordsOf (now (records .entry)))) (now (lent .entry)) ⌝ }
 {
-    for i in 0..blocks::blocks_for((records.len() / 10) as u32) {
-        blocks::put_block(lent, i, total, b + i, records, 120 * i);
+    for i in 0..blocks::blocks_for((records.len() / blocks::RECORD_WORDS) as u32) {
+        blocks::put_block(lent, i, total, b + i, records, blocks::ROOM_WORDS * i);
     }
 }
 
@@ -91,23 +92,23 @@ pub fn append(long: usize, total: u32, records: &[u32], lent: &mut [u8]) -> Appe
     if !cards::writable(records) {
         return refused(1);
     }
-    let count = (records.len() / 10) as u32;
+    let count = (records.len() / blocks::RECORD_WORDS) as u32;
     let made = blocks::blocks_for(count);
-    if lent.len() < 512 * made {
+    if lent.len() < blocks::BLOCK_BYTES * made {
         return refused(2);
     }
-    if beyond(long, total) {
+    if overfull(long, total) {
         return refused(3);
     }
-    let first = long / 512;
-    if !follow(total, first, count) {
+    let first = long / blocks::BLOCK_BYTES;
+    if !are_next(total, first, count) {
         return refused(4);
     }
     put_blocks(total, first, records, lent);
     Appended {
         number: 0,
         blocks: made as u32,
-        at: 512 * first,
+        at: blocks::BLOCK_BYTES * first,
     }
 }
 

@@ -1,7 +1,7 @@
 -- What tests joined by `&&` and `||` leave, as equations of truth values. Assumes nothing.
 use mathlib.Core.Path.{_≡_, refl, sym, ap, _∙_, subst}
 use mathlib.Core.Logic.{_⊎_, inl, inr}
-use mathlib.Core.Bool.{Bool, true, false, true≢false, false≢true, _&&_, _||_}
+use mathlib.Core.Bool.{Bool, true, false, true≢false, false≢true, _&&_, _||_, Bool·beq}
 use lib.Dec.{T}
 
 pub T-is : {b : Bool} → b ≡ true → T b
@@ -60,6 +60,31 @@ and-left false b e = e
 pub and-right : (a b : Bool) → (a && b) ≡ true → b ≡ true
 and-right true b e = e
 and-right false b e = absurd (false≢true e)
+
+-- neither part of a test that fails
+pub or-left : (a b : Bool) → (a || b) ≡ false → a ≡ false
+or-left true b e = absurd (true≢false e)
+or-left false b e = refl
+
+pub or-right : (a b : Bool) → (a || b) ≡ false → b ≡ false
+or-right true b e = absurd (true≢false e)
+or-right false b e = e
+
+-- the second part holds
+pub or-holds : (a b : Bool) → b ≡ true → (a || b) ≡ true
+or-holds true b e = refl
+or-holds false b e = e
+
+-- ---- truth values compared
+pub beq-refl : (b : Bool) → Bool·beq b b ≡ true
+beq-refl true = refl
+beq-refl false = refl
+
+pub beq-sym : (a b : Bool) → Bool·beq a b ≡ Bool·beq b a
+beq-sym true true = refl
+beq-sym true false = refl
+beq-sym false true = refl
+beq-sym false false = refl
 
 -- ---- `||` of tests that hold
 pub or-l : (a b : Bool) → T a → T (a || b)

@@ -9,48 +9,49 @@ use mathlib.Core.List.{List}
 use lib.ListN.{length, getD, set, take}
 use lib.Seq.{getD-set-same, getD-set-other, take-set-le, take-set-lt, getD-take, length-take-le}
 use borrow.Author.Tests.{eqb-true}
+use Rattle.words.specs.Words.{wordValues}
 use Rattle.bits.proofs.Bools.{and-right}
-use Rattle.words.specs.Lists.{sumOf}
-use Rattle.words.proofs.Lists.{sum-set}
-use Rattle.blocks.specs.Format.{complement, checkWord}
-use Rattle.blocks.specs.Judged.{headed, marked, emptied, checked, sound}
+use Rattle.lists.specs.Parts.{sumOf}
+use Rattle.lists.proofs.Parts.{sum-set}
+use Rattle.blocks.specs.Format.{blockWords, summedWords, complement, checkWord}
+use Rattle.blocks.specs.Judged.{headed, recordsMarked, emptied, checked, soundBlock}
 
 -- the last word of a sound block
-last : (n b : ℕ) (ws : List ℕ) → sound n b ws ≡ true → getD ws 127 0 ≡ checkWord (take 127 ws)
-unfolding sound checked
-last n b ws h = eqb-true (getD ws 127 0) (checkWord (take 127 ws)) (and-right (headed n b ws && marked n b ws && emptied n b ws) (checked ws) h)
+last : (n b : ℕ) (ws : List ℕ) → soundBlock n b ws ≡ true → getD ws summedWords 0 ≡ checkWord (take summedWords ws)
+unfolding soundBlock checked
+last n b ws h = eqb-true (getD ws summedWords 0) (checkWord (take summedWords ws)) (and-right (headed n b ws && recordsMarked n b ws && emptied n b ws) (checked ws) h)
 
 -- two sums whose complements are the same
-same-rest : (s t : ℕ) → complement s ≡ complement t → s % 4294967296 ≡ t % 4294967296
+same-rest : (s t : ℕ) → complement s ≡ complement t → s % wordValues ≡ t % wordValues
 unfolding complement
 same-rest s t e = omega (arith, e)
 
 -- words by which such sums differ are the same
-same-word : (s t o w : ℕ) → s % 4294967296 ≡ t % 4294967296 → t + o ≡ s + w → o < 4294967296 → w < 4294967296 → o ≡ w
+same-word : (s t o w : ℕ) → s % wordValues ≡ t % wordValues → t + o ≡ s + w → o < wordValues → w < wordValues → o ≡ w
 same-word s t o w e f h k = le-antisymm (omega arith) (omega arith)
 
 -- 'a block in which exactly one word was changed is always noticed'
-pub one-word : (n b : ℕ) (ws : List ℕ) (i w : ℕ) → length ws ≡ 128 → i < 128 → getD ws i 0 < 4294967296 → w < 4294967296 → w ≢ getD ws i 0
-    → sound n b ws ≡ true → sound n b (set ws i w) ≡ true → ⊥
+pub one-word : (n b : ℕ) (ws : List ℕ) (i w : ℕ) → length ws ≡ blockWords → i < blockWords → getD ws i 0 < wordValues → w < wordValues → w ≢ getD ws i 0
+    → soundBlock n b ws ≡ true → soundBlock n b (set ws i w) ≡ true → ⊥
 unfolding checkWord
 one-word n b ws i w l h j k d e f = ⊎-elim in-the-sum among (eq-or-lt-of-le (below h))
   where
-    below : i < 128 → i ≤ 127
+    below : i < blockWords → i ≤ summedWords
     below x = omega arith
 
-    in-the-sum : i ≡ 127 → ⊥
+    in-the-sum : i ≡ summedWords → ⊥
     in-the-sum x =
         d (sym (getD-set-same ws i w 0 (omega (arith, l, h)))
         ∙ (ap (λ (m : ℕ). getD (set ws i w) m 0) x
         ∙ (last n b (set ws i w) f
-        ∙ (ap (λ (v : List ℕ). complement (sumOf v)) (take-set-le 127 ws i w (omega (arith, x))) ∙ (sym (last n b ws e) ∙ ap (λ (m : ℕ). getD ws m 0) (sym x))))))
+        ∙ (ap (λ (v : List ℕ). complement (sumOf v)) (take-set-le summedWords ws i w (omega (arith, x))) ∙ (sym (last n b ws e) ∙ ap (λ (m : ℕ). getD ws m 0) (sym x))))))
 
-    among : i < 127 → ⊥
+    among : i < summedWords → ⊥
     among x =
-        let same = sym (last n b ws e) ∙ (sym (getD-set-other ws i 127 w 0 (apart x)) ∙ (last n b (set ws i w) f ∙ ap (λ (v : List ℕ). complement (sumOf v)) (take-set-lt 127 ws i w x))) in
-        let sums = sum-set (take 127 ws) i w (omega (arith, x, length-take-le 127 ws (omega (arith, l)))) in
-        d (sym (same-word (sumOf (take 127 ws)) (sumOf (set (take 127 ws) i w)) (getD ws i 0) w (same-rest (sumOf (take 127 ws)) (sumOf (set (take 127 ws) i w)) same)
-        (ap (λ (m : ℕ). sumOf (set (take 127 ws) i w) + m) (sym (getD-take 127 ws i 0 x)) ∙ sums) j k))
+        let same = sym (last n b ws e) ∙ (sym (getD-set-other ws i summedWords w 0 (apart x)) ∙ (last n b (set ws i w) f ∙ ap (λ (v : List ℕ). complement (sumOf v)) (take-set-lt summedWords ws i w x))) in
+        let sums = sum-set (take summedWords ws) i w (omega (arith, x, length-take-le summedWords ws (omega (arith, l)))) in
+        d (sym (same-word (sumOf (take summedWords ws)) (sumOf (set (take summedWords ws) i w)) (getD ws i 0) w (same-rest (sumOf (take summedWords ws)) (sumOf (set (take summedWords ws) i w)) same)
+        (ap (λ (m : ℕ). sumOf (set (take summedWords ws) i w) + m) (sym (getD-take summedWords ws i 0 x)) ∙ sums) j k))
       where
-        apart : i < 127 → 127 ≢ i
+        apart : i < summedWords → summedWords ≢ i
         apart y z = omega (arith, y, z)

@@ -8,62 +8,62 @@ use lib.ListN.{length, getD, take, drop, length-take, length-drop}
 use lib.Seq.{getD-take, getD-drop, ext-getD}
 use lib.Dec.{eqb, ltb}
 use borrow.Author.Tests.{ltb-true, ltb-false, eq-eqb, ne-eqb}
-use Rattle.words.specs.Lists.{joined, part}
+use Rattle.lists.specs.Parts.{joined, part}
 use Rattle.words.specs.Words.{wordAt, wordsAt}
 use Rattle.words.proofs.Words.{same-word, word-of, length-words, words-part}
-use Rattle.blocks.specs.Format.{used, usedWords}
-use Rattle.blocks.specs.Judged.{sound, blockAt, good, lost, recordsRead}
+use Rattle.blocks.specs.Format.{blockBytes, blockWords, headerWords, recordsUsed, usedWords}
+use Rattle.blocks.specs.Judged.{soundBlock, blockAt, good, lost, recordsRead}
 use Rattle.blocks.proofs.Counts.{used-words-le}
 
 -- whether a block is there, by the length of its bytes
-there : (b : ℕ) (bs : List ℕ) → ltb b (length bs / 512) ≡ eqb (length (part (512 * b) 512 bs)) 512
+there : (b : ℕ) (bs : List ℕ) → ltb b (length bs / blockBytes) ≡ eqb (length (part (blockBytes * b) blockBytes bs)) blockBytes
 unfolding part
-there b bs = go (ltb b (length bs / 512)) refl
+there b bs = go (ltb b (length bs / blockBytes)) refl
   where
-    size : length (take 512 (drop (512 * b) bs)) ≡ min 512 (length bs - 512 * b)
-    size = length-take 512 (drop (512 * b) bs) ∙ ap (min 512) (length-drop (512 * b) bs)
+    size : length (take blockBytes (drop (blockBytes * b) bs)) ≡ min blockBytes (length bs - blockBytes * b)
+    size = length-take blockBytes (drop (blockBytes * b) bs) ∙ ap (min blockBytes) (length-drop (blockBytes * b) bs)
 
-    go : (x : Bool) → ltb b (length bs / 512) ≡ x → ltb b (length bs / 512) ≡ eqb (length (take 512 (drop (512 * b) bs))) 512
-    go true h = h ∙ sym (eq-eqb (length (take 512 (drop (512 * b) bs))) 512 (omega (arith, size, ltb-true b (length bs / 512) h)))
-    go false h = h ∙ sym (ne-eqb (length (take 512 (drop (512 * b) bs))) 512 (λ e. omega (arith, e, size, ltb-false b (length bs / 512) h)))
+    go : (x : Bool) → ltb b (length bs / blockBytes) ≡ x → ltb b (length bs / blockBytes) ≡ eqb (length (take blockBytes (drop (blockBytes * b) bs))) blockBytes
+    go true h = h ∙ sym (eq-eqb (length (take blockBytes (drop (blockBytes * b) bs))) blockBytes (omega (arith, size, ltb-true b (length bs / blockBytes) h)))
+    go false h = h ∙ sym (ne-eqb (length (take blockBytes (drop (blockBytes * b) bs))) blockBytes (λ e. omega (arith, e, size, ltb-false b (length bs / blockBytes) h)))
 
-module _ (n b : ℕ) (bs cs : List ℕ) (e : part (512 * b) 512 bs ≡ part (512 * b) 512 cs) where
+module _ (n b : ℕ) (bs cs : List ℕ) (e : part (blockBytes * b) blockBytes bs ≡ part (blockBytes * b) blockBytes cs) where
   -- each byte
-  byte : (i : ℕ) → i < 512 → getD bs (512 * b + i) 0 ≡ getD cs (512 * b + i) 0
+  byte : (i : ℕ) → i < blockBytes → getD bs (blockBytes * b + i) 0 ≡ getD cs (blockBytes * b + i) 0
   unfolding part
   byte i h = sym (of bs) ∙ (ap (λ (l : List ℕ). getD l i 0) e ∙ of cs)
     where
-      of : (l : List ℕ) → getD (take 512 (drop (512 * b) l)) i 0 ≡ getD l (512 * b + i) 0
-      of l = getD-take 512 (drop (512 * b) l) i 0 h ∙ getD-drop (512 * b) l i 0
+      of : (l : List ℕ) → getD (take blockBytes (drop (blockBytes * b) l)) i 0 ≡ getD l (blockBytes * b + i) 0
+      of l = getD-take blockBytes (drop (blockBytes * b) l) i 0 h ∙ getD-drop (blockBytes * b) l i 0
 
   -- each word
-  word : (i : ℕ) → i < 128 → wordAt bs (128 * b + i) ≡ wordAt cs (128 * b + i)
+  word : (i : ℕ) → i < blockWords → wordAt bs (blockWords * b + i) ≡ wordAt cs (blockWords * b + i)
   word i h =
-      same-word bs cs (128 * b + i) (128 * b + i)
+      same-word bs cs (blockWords * b + i) (blockWords * b + i)
       (λ k l. ap (λ (j : ℕ). getD bs j 0) (place i k) ∙ (byte (4 * i + k) (omega (arith, h, l)) ∙ ap (λ (j : ℕ). getD cs j 0) (sym (place i k))))
     where
-      place : (i k : ℕ) → 4 * (128 * b + i) + k ≡ 512 * b + (4 * i + k)
+      place : (i k : ℕ) → 4 * (blockWords * b + i) + k ≡ blockBytes * b + (4 * i + k)
       place i k = omega arith
 
   same-block : blockAt b bs ≡ blockAt b cs
   unfolding blockAt
   same-block =
-      ext-getD 0 (wordsAt bs (128 * b) 128) (wordsAt cs (128 * b) 128) (length-words bs (128 * b) 128 ∙ sym (length-words cs (128 * b) 128))
-      (λ i l. at i (omega (arith, l, length-words bs (128 * b) 128)))
+      ext-getD 0 (wordsAt bs (blockWords * b) blockWords) (wordsAt cs (blockWords * b) blockWords) (length-words bs (blockWords * b) blockWords ∙ sym (length-words cs (blockWords * b) blockWords))
+      (λ i l. at i (omega (arith, l, length-words bs (blockWords * b) blockWords)))
     where
-      at : (i : ℕ) → i < 128 → getD (wordsAt bs (128 * b) 128) i 0 ≡ getD (wordsAt cs (128 * b) 128) i 0
-      at i h = word-of bs (128 * b) 128 i h ∙ (word i h ∙ sym (word-of cs (128 * b) 128 i h))
+      at : (i : ℕ) → i < blockWords → getD (wordsAt bs (blockWords * b) blockWords) i 0 ≡ getD (wordsAt cs (blockWords * b) blockWords) i 0
+      at i h = word-of bs (blockWords * b) blockWords i h ∙ (word i h ∙ sym (word-of cs (blockWords * b) blockWords i h))
 
   pub same-good : good n b bs ≡ good n b cs
   unfolding good
-  same-good = λ z. (there b bs ∙ (ap (λ (l : List ℕ). eqb (length l) 512) e ∙ sym (there b cs))) z && sound n b (same-block z)
+  same-good = λ z. (there b bs ∙ (ap (λ (l : List ℕ). eqb (length l) blockBytes) e ∙ sym (there b cs))) z && soundBlock n b (same-block z)
 
   pub same-read : recordsRead n b bs ≡ recordsRead n b cs
   unfolding recordsRead blockAt
-  same-read = λ z. cond (same-good z) (same-words z) (joined (used n b) (λ _. lost))
+  same-read = λ z. cond (same-good z) (same-words z) (joined (recordsUsed n b) (λ _. lost))
     where
-      own : (l : List ℕ) → part 7 (usedWords n b) (wordsAt l (128 * b) 128) ≡ wordsAt l (128 * b + 7) (usedWords n b)
-      own l = words-part l (128 * b) 7 (usedWords n b) 128 (omega (arith, used-words-le n b))
+      own : (l : List ℕ) → part headerWords (usedWords n b) (wordsAt l (blockWords * b) blockWords) ≡ wordsAt l (blockWords * b + headerWords) (usedWords n b)
+      own l = words-part l (blockWords * b) headerWords (usedWords n b) blockWords (omega (arith, used-words-le n b))
 
-      same-words : wordsAt bs (128 * b + 7) (usedWords n b) ≡ wordsAt cs (128 * b + 7) (usedWords n b)
-      same-words = sym (own bs) ∙ (ap (part 7 (usedWords n b)) same-block ∙ own cs)
+      same-words : wordsAt bs (blockWords * b + headerWords) (usedWords n b) ≡ wordsAt cs (blockWords * b + headerWords) (usedWords n b)
+      same-words = sym (own bs) ∙ (ap (part headerWords (usedWords n b)) same-block ∙ own cs)

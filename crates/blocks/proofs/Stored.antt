@@ -5,32 +5,32 @@ use mathlib.Core.Path.{_≡_, refl, sym, ap, _∙_}
 use mathlib.Core.List.{List, [], _∷_, _++_}
 use lib.ListN.{length, take, replicate, length-append}
 use lib.Seq.{sets, take-all}
-use Rattle.words.specs.Lists.{sumOf, part}
+use Rattle.lists.specs.Parts.{sumOf, part}
 use Rattle.words.specs.Words.{wordBytes, bytesOf}
-use Rattle.words.proofs.Lists.{length-zeros, sum-append, sum-zeros, length-part}
+use Rattle.lists.proofs.Parts.{length-zeros, sum-append, sum-zeros, length-part}
 use Rattle.words.proofs.Stores.{sets-join}
 use Rattle.words.proofs.Words.{bytes-append, bytes-one, length-bytes}
-use Rattle.blocks.specs.Format.{usedWords, header, body, complement, checkWord, block, blockOf}
+use Rattle.blocks.specs.Format.{blockBytes, blockWords, headerWords, roomWords, summedWords, usedWords, header, body, complement, checkWord, block, blockOf}
 use Rattle.blocks.proofs.Counts.{used-words-le}
 
 -- the words before the records are seven
-pub length-header : (n b : ℕ) → length (header n b) ≡ 7
+pub length-header : (n b : ℕ) → length (header n b) ≡ headerWords
 unfolding header
 length-header n b = refl
 
 -- all words but the last are 127
-pub length-body : (n b : ℕ) (rs : List ℕ) → length rs ≡ usedWords n b → length (body n b rs) ≡ 127
+pub length-body : (n b : ℕ) (rs : List ℕ) → length rs ≡ usedWords n b → length (body n b rs) ≡ summedWords
 unfolding body
 length-body n b rs e =
-    length-append (header n b ++ rs) (replicate (120 - usedWords n b) 0)
-    ∙ omega (arith, length-append (header n b) rs, length-header n b, length-zeros (120 - usedWords n b), used-words-le n b)
+    length-append (header n b ++ rs) (replicate (roomWords - usedWords n b) 0)
+    ∙ omega (arith, length-append (header n b) rs, length-header n b, length-zeros (roomWords - usedWords n b), used-words-le n b)
 
 -- and all are 128
-pub length-block : (n b : ℕ) (rs : List ℕ) → length rs ≡ usedWords n b → length (block n b rs) ≡ 128
+pub length-block : (n b : ℕ) (rs : List ℕ) → length rs ≡ usedWords n b → length (block n b rs) ≡ blockWords
 unfolding block
 length-block n b rs e = length-append (body n b rs) (checkWord (body n b rs) ∷ []) ∙ omega (arith, length-body n b rs e)
 
-pub length-block-bytes : (n b : ℕ) (rs : List ℕ) → length rs ≡ usedWords n b → length (blockOf n b rs) ≡ 512
+pub length-block-bytes : (n b : ℕ) (rs : List ℕ) → length rs ≡ usedWords n b → length (blockOf n b rs) ≡ blockBytes
 unfolding blockOf
 length-block-bytes n b rs e = length-bytes (block n b rs) ∙ omega (arith, length-block n b rs e)
 
@@ -38,7 +38,7 @@ length-block-bytes n b rs e = length-bytes (block n b rs) ∙ omega (arith, leng
 sum-body : (n b : ℕ) (rs : List ℕ) → sumOf (body n b rs) ≡ sumOf (header n b) + sumOf rs
 unfolding body
 sum-body n b rs =
-    sum-append (header n b ++ rs) (replicate (120 - usedWords n b) 0) ∙ omega (arith, sum-append (header n b) rs, sum-zeros (120 - usedWords n b))
+    sum-append (header n b ++ rs) (replicate (roomWords - usedWords n b) 0) ∙ omega (arith, sum-append (header n b) rs, sum-zeros (roomWords - usedWords n b))
 
 -- words that are stored after words
 then : (l u : List ℕ) (p q : ℕ) (xs ys : List ℕ) → u ≡ sets l (4 * p) (bytesOf xs) → q ≡ p + length xs → sets u (4 * q) (bytesOf ys) ≡ sets l (4 * p) (bytesOf (xs ++ ys))
@@ -57,37 +57,37 @@ module _ (card h records : List ℕ) (at n b from u : ℕ) (head : h ≡ header 
   length-own : length rs ≡ usedWords n b
   length-own = length-part from (usedWords n b) records (omega (arith, enough, count))
 
-  first : part 0 7 h ≡ header n b
+  first : part 0 headerWords h ≡ header n b
   unfolding part
-  first = ap (take 7) head ∙ take-all 7 (header n b) (omega (arith, length-header n b))
+  first = ap (take headerWords) head ∙ take-all headerWords (header n b) (omega (arith, length-header n b))
 
   pub block-stored : (c d e f : List ℕ) (s t w : ℕ)
-      → c ≡ sets card (4 * (128 * at)) (bytesOf (part 0 7 h)) → d ≡ sets c (4 * (128 * at + 7)) (bytesOf (part from u records))
-      → e ≡ sets d (4 * (128 * at + 7 + u)) (bytesOf (replicate (120 - u) 0)) → f ≡ sets e (4 * (128 * at + 127)) (wordBytes w)
-      → s ≡ sumOf (part 0 7 h) → t ≡ sumOf (part from u records) → w ≡ complement (s + t)
-      → f ≡ sets card (512 * at) (blockOf n b (part from (usedWords n b) records))
+      → c ≡ sets card (4 * (blockWords * at)) (bytesOf (part 0 headerWords h)) → d ≡ sets c (4 * (blockWords * at + headerWords)) (bytesOf (part from u records))
+      → e ≡ sets d (4 * (blockWords * at + headerWords + u)) (bytesOf (replicate (roomWords - u) 0)) → f ≡ sets e (4 * (blockWords * at + summedWords)) (wordBytes w)
+      → s ≡ sumOf (part 0 headerWords h) → t ≡ sumOf (part from u records) → w ≡ complement (s + t)
+      → f ≡ sets card (blockBytes * at) (blockOf n b (part from (usedWords n b) records))
   unfolding blockOf block body checkWord
   block-stored c d e f s t w p q r k x y z =
-      k ∙ (ap (λ (v : List ℕ). sets e (4 * (128 * at + 127)) v) (sym (bytes-one w))
-      ∙ (then card e (128 * at) (128 * at + 127) (body n b rs) (w ∷ []) zeros (omega (arith, length-body n b rs length-own))
+      k ∙ (ap (λ (v : List ℕ). sets e (4 * (blockWords * at + summedWords)) v) (sym (bytes-one w))
+      ∙ (then card e (blockWords * at) (blockWords * at + summedWords) (body n b rs) (w ∷ []) zeros (omega (arith, length-body n b rs length-own))
       ∙ (λ i. sets card (place i) (bytesOf (body n b rs ++ last i ∷ [])))))
     where
-      place : 4 * (128 * at) ≡ 512 * at
+      place : 4 * (blockWords * at) ≡ blockBytes * at
       place = omega arith
 
       last : w ≡ complement (sumOf (body n b rs))
       last = z ∙ ap complement ((λ i. (x ∙ ap sumOf first) i + (y ∙ ap sumOf own) i) ∙ sym (sum-body n b rs))
 
-      start : c ≡ sets card (4 * (128 * at)) (bytesOf (header n b))
-      start = p ∙ ap (λ (v : List ℕ). sets card (4 * (128 * at)) (bytesOf v)) first
+      start : c ≡ sets card (4 * (blockWords * at)) (bytesOf (header n b))
+      start = p ∙ ap (λ (v : List ℕ). sets card (4 * (blockWords * at)) (bytesOf v)) first
 
-      filled : d ≡ sets card (4 * (128 * at)) (bytesOf (header n b ++ rs))
+      filled : d ≡ sets card (4 * (blockWords * at)) (bytesOf (header n b ++ rs))
       filled =
-          q ∙ (ap (λ (v : List ℕ). sets c (4 * (128 * at + 7)) (bytesOf v)) own
-          ∙ then card c (128 * at) (128 * at + 7) (header n b) rs start (omega (arith, length-header n b)))
+          q ∙ (ap (λ (v : List ℕ). sets c (4 * (blockWords * at + headerWords)) (bytesOf v)) own
+          ∙ then card c (blockWords * at) (blockWords * at + headerWords) (header n b) rs start (omega (arith, length-header n b)))
 
-      zeros : e ≡ sets card (4 * (128 * at)) (bytesOf (header n b ++ rs ++ replicate (120 - usedWords n b) 0))
+      zeros : e ≡ sets card (4 * (blockWords * at)) (bytesOf (header n b ++ rs ++ replicate (roomWords - usedWords n b) 0))
       zeros =
-          r ∙ (ap (λ (v : ℕ). sets d (4 * (128 * at + 7 + v)) (bytesOf (replicate (120 - v) 0))) count
-          ∙ then card d (128 * at) (128 * at + 7 + usedWords n b) (header n b ++ rs) (replicate (120 - usedWords n b) 0) filled
+          r ∙ (ap (λ (v : ℕ). sets d (4 * (blockWords * at + headerWords + v)) (bytesOf (replicate (roomWords - v) 0))) count
+          ∙ then card d (blockWords * at) (blockWords * at + headerWords + usedWords n b) (header n b ++ rs) (replicate (roomWords - usedWords n b) 0) filled
           (omega (arith, length-append (header n b) rs, length-header n b, length-own)))

@@ -2,19 +2,17 @@
 use Prim.Native.Nat.{ℕ, _+_, _-_, _*_, _/_, _%_, min}
 use mathlib.Core.List.{List, [], _∷_, _++_}
 use lib.ListN.{replicate}
-use Rattle.words.specs.Lists.{sumOf, part}
-use Rattle.words.specs.Words.{bytesOf}
+use Rattle.tangent.specs.Slot.{slotWords}
+use Rattle.lists.specs.Parts.{sumOf, part}
+use Rattle.words.specs.Words.{wordValues, bytesOf}
 
--- 'A block is 512 bytes, 128 little-endian words'
-abbrev pub blockBytes : ℕ
-blockBytes = 512
+-- the words before the records: number, used, total and four zero words
+abbrev pub headerWords : ℕ
+headerWords = 7
 
-abbrev pub blockWords : ℕ
-blockWords = 128
-
--- '12 records of ten words'
+-- '12 records of ten words': a record is a slot's words
 abbrev pub recordWords : ℕ
-recordWords = 10
+recordWords = slotWords
 
 abbrev pub recordsHeld : ℕ
 recordsHeld = 12
@@ -23,25 +21,32 @@ recordsHeld = 12
 abbrev pub roomWords : ℕ
 roomWords = recordsHeld * recordWords
 
+-- the words that are summed: those before the records, and the records
+abbrev pub summedWords : ℕ
+summedWords = headerWords + roomWords
+
+-- 'A block is 512 bytes, 128 little-endian words': those that are summed, and the sum
+abbrev pub blockWords : ℕ
+blockWords = summedWords + 1
+
+abbrev pub blockBytes : ℕ
+blockBytes = 4 * blockWords
+
 -- 'four zero words'
 abbrev pub spare : List ℕ
 spare = 0 ∷ 0 ∷ 0 ∷ 0 ∷ []
-
--- the words before the records
-abbrev pub headerWords : ℕ
-headerWords = 7
 
 -- how many blocks n records take: 'No records, no blocks; only the last may be part full'
 unfoldable pub blocksFor : ℕ → ℕ
 blocksFor n = (n + (recordsHeld - 1)) / recordsHeld
 
 -- 'records used (1 to 12)': how many of n records are in block b
-unfoldable pub used : ℕ → ℕ → ℕ
-used n b = min recordsHeld (n - recordsHeld * b)
+unfoldable pub recordsUsed : ℕ → ℕ → ℕ
+recordsUsed n b = min recordsHeld (n - recordsHeld * b)
 
 -- and how many words they are
 unfoldable pub usedWords : ℕ → ℕ → ℕ
-usedWords n b = recordWords * used n b
+usedWords n b = recordWords * recordsUsed n b
 
 -- the records of block b in a list of n records
 unfoldable pub recordsIn : ℕ → ℕ → List ℕ → List ℕ
@@ -49,7 +54,7 @@ recordsIn n b l = part (roomWords * b) (usedWords n b) l
 
 -- 'block number from 0, records used (1 to 12), total records, four zero words'
 unfoldable pub header : ℕ → ℕ → List ℕ
-header n b = b ∷ used n b ∷ n ∷ spare
+header n b = b ∷ recordsUsed n b ∷ n ∷ spare
 
 -- all words but the last: '.. 12 records of ten words (unused ones zero)'
 unfoldable pub body : ℕ → ℕ → List ℕ → List ℕ
@@ -57,7 +62,7 @@ body n b rs = header n b ++ rs ++ replicate (roomWords - usedWords n b) 0
 
 -- 'the bitwise complement .., modulo 2^32': every bit of a word turned is the word taken from 2^32 - 1
 unfoldable pub complement : ℕ → ℕ
-complement s = 4294967295 - s % 4294967296
+complement s = wordValues - 1 - s % wordValues
 
 -- 'the bitwise complement of the sum of the other 127 words, modulo 2^32'
 unfoldable pub checkWord : List ℕ → ℕ

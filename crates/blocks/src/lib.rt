@@ -4,36 +4,51 @@ ghost use Prim.Native.Nat.{_+_, _*_, _≤_, _<_};
 ghost use lib.Dec.{eqb, leb};
 ghost use lib.ListN.{length, getD};
 ghost use lib.Seq.{sets};
-ghost use Rattle.words.specs.Lists.{part, joined, everyBelow};
+ghost use Rattle.lists.specs.Parts.{part, joined, everyBelow};
 ghost use Rattle.words.specs.Words.{wordsAt, wordAt};
 ghost use Rattle.blocks.specs.Format as format;
 ghost use Rattle.blocks.specs.Judged as spec;
 
+// The numbers of specs/Format.antt. The words before the records; the words of a record, which are a slot's; how many records a block holds, and the words that they take; the words that are summed; a block's words, with the sum, and its bytes.
+pub const HEADER_WORDS: usize = 7;
+
+pub const RECORD_WORDS: usize = tangent::SLOT_WORDS;
+
+pub const RECORDS_HELD: usize = 12;
+
+pub const ROOM_WORDS: usize = RECORDS_HELD * RECORD_WORDS;
+
+pub const SUMMED_WORDS: usize = HEADER_WORDS + ROOM_WORDS;
+
+pub const BLOCK_WORDS: usize = SUMMED_WORDS + 1;
+
+pub const BLOCK_BYTES: usize = 4 * BLOCK_WORDS;
+
 // How many blocks so many records take.
 pub fn blocks_for(total: u32) -> usize
-    ensures { λ r. ⌜ (r ≡ format.blocksFor total) × (12 * r < total + 12) ⌝ }
+    ensures { λ r. ⌜ (r ≡ format.blocksFor total) × (format.recordsHeld * r < total + format.recordsHeld) ⌝ }
 {
-    (total as usize + 11) / 12
+    (total as usize + (RECORDS_HELD - 1)) / RECORDS_HELD
 }
 
 // How many of the records are in block b.
-pub fn used(total: u32, b: usize) -> usize
-    requires { ⌜ 12 * b < total ⌝ }
-    ensures { λ r. ⌜ (r ≡ format.used total b) × (r ≤ 12) × (12 * b + r ≤ total) ⌝ }
+pub fn records_used(total: u32, b: usize) -> usize
+    requires { ⌜ format.recordsHeld * b < total ⌝ }
+    ensures { λ r. ⌜ (r ≡ format.recordsUsed total b) × (r ≤ format.recordsHeld) × (format.recordsHeld * b + r ≤ total) ⌝ }
 {
-    let left = total as usize - 12 * b;
-    if left < 12 {
+    let left = total as usize - RECORDS_HELD * b;
+    if left < RECORDS_HELD {
         return left;
     }
-    12
+    RECORDS_HELD
 }
 
 // The words of block b before its records.
-fn header(total: u32, b: usize) -> [u32; 7]
-    requires { ⌜ 12 * b < total ⌝ }
+fn header(total: u32, b: usize) -> [u32; HEADER_WORDS]
+    requires { ⌜ format.recordsHeld * b < total ⌝ }
     ensures { λ r. ⌜ r ≡ format.header total b ⌝ }
 {
-    [b as u32, used(total, b) as u32, total, 0, 0, 0, 0]
+    [b as u32, records_used(total, b) as u32, total, 0, 0, 0, 0]
 }
 
 // The last word of a block whose other words have this sum.
@@ -45,24 +60,24 @@ fn complement(sum: u64) -> u32
 
 // Block b stored at place `at` of the card; its records are those of the list from word `from` on.
 pub fn put_block(card: &mut [u8], at: usize, total: u32, b: usize, records: &[u32], from: usize)
-    requires { ⌜ (512 * at + 512 ≤ length (now card)) × (12 * b < total) × (from + format.usedWords total b ≤ length (now records)) ⌝ }
-    ensures { λ _. ⌜ now (card .exit) ≡ sets (now (card .entry)) (512 * at) (format.blockOf total b (part from (format.usedWords total b) (now (records .entry)))) ⌝ }
+    requires { ⌜ (format.blockBytes * at + format.blockBytes ≤ length (now card)) × (format.recordsHeld * b < total) × (from + format.usedWords total b ≤ length (now records)) ⌝ }
+    ensures { λ _. ⌜ now (card .exit) ≡ sets (now (card .entry)) (format.blockBytes * at) (format.blockOf total b (part from (format.usedWords total b) (now (records .entry)))) ⌝ }
 {
-    let p = 128 * at;
-    let count = 10 * used(total, b);
+    let p = BLOCK_WORDS * at;
+    let count = RECORD_WORDS * records_used(total, b);
     let h = header(total, b);
-    let first = words::put_words(card, p, &h, 0, 7);
-    let second = words::put_words(card, p + 7, records, from, count);
-    words::put_zeros(card, p + 7 + count, 120 - count);
-    words::put_word(card, p + 127, complement(first + second));
+    let first = words::put_words(card, p, &h, 0, HEADER_WORDS);
+    let second = words::put_words(card, p + HEADER_WORDS, records, from, count);
+    words::put_zeros(card, p + HEADER_WORDS + count, ROOM_WORDS - count);
+    words::put_word(card, p + SUMMED_WORDS, complement(first + second));
 }
 
 // Whether the words of the card from word p on are these.
-fn headed(card: &[u8], p: usize, h: [u32; 7]) -> bool
-    requires { ⌜ 4 * (p + 7) ≤ length (now card) ⌝ }
-    ensures { λ r. ⌜ r ≡ everyBelow 7 (λ i. eqb (wordAt (now (card .entry)) (p + i)) (getD h i 0)) ⌝ }
+fn headed(card: &[u8], p: usize, h: [u32; HEADER_WORDS]) -> bool
+    requires { ⌜ 4 * (p + format.headerWords) ≤ length (now card) ⌝ }
+    ensures { λ r. ⌜ r ≡ everyBelow format.headerWords (λ i. eqb (wordAt (now (card .entry)) (p + i)) (getD h i 0)) ⌝ }
 {
-    for i in 0..7 {
+    for i in 0..HEADER_WORDS {
         if words::word_at(card, p + i) != h[i] {
             return false;
         }
@@ -70,13 +85,13 @@ fn headed(card: &[u8], p: usize, h: [u32; 7]) -> bool
     true
 }
 
-// Whether each of `used` records from word p on has 0 or 1 in its word 0.
-fn marked(card: &[u8], p: usize, used: usize) -> bool
-    requires { ⌜ 4 * (p + 10 * used) ≤ length (now card) ⌝ }
-    ensures { λ r. ⌜ r ≡ everyBelow used (λ r. leb (wordAt (now (card .entry)) (p + 10 * r)) 1) ⌝ }
+// Whether each of `count` records from word p on has 0 or 1 in its word 0.
+fn records_marked(card: &[u8], p: usize, count: usize) -> bool
+    requires { ⌜ 4 * (p + format.recordWords * count) ≤ length (now card) ⌝ }
+    ensures { λ r. ⌜ r ≡ everyBelow count (λ r. leb (wordAt (now (card .entry)) (p + format.recordWords * r)) 1) ⌝ }
 {
-    for r in 0..used {
-        if 1 < words::word_at(card, p + 10 * r) {
+    for r in 0..count {
+        if 1 < words::word_at(card, p + RECORD_WORDS * r) {
             return false;
         }
     }
@@ -96,31 +111,35 @@ fn emptied(card: &[u8], p: usize, count: usize) -> bool
     true
 }
 
-// Whether the last of 128 words from word p on is the complement of the sum of the others.
+// Whether the last word of the block from word p on is the complement of the sum of the others.
 fn checked(card: &[u8], p: usize) -> bool
-    requires { ⌜ 4 * (p + 128) ≤ length (now card) ⌝ }
-    ensures { λ r. ⌜ r ≡ spec.checked (wordsAt (now (card .entry)) p 128) ⌝ }
+    requires { ⌜ 4 * (p + format.blockWords) ≤ length (now card) ⌝ }
+    ensures { λ r. ⌜ r ≡ spec.checked (wordsAt (now (card .entry)) p format.blockWords) ⌝ }
 {
-    words::word_at(card, p + 127) == complement(words::sum_at(card, p, 127))
+    words::word_at(card, p + SUMMED_WORDS) == complement(words::sum_at(card, p, SUMMED_WORDS))
 }
 
 // Whether block b is there, and is what its place calls for.
 fn good(card: &[u8], total: u32, b: usize) -> bool
-    requires { ⌜ 12 * b < total ⌝ }
+    requires { ⌜ format.recordsHeld * b < total ⌝ }
     ensures { λ r. ⌜ r ≡ spec.good total b (now (card .entry)) ⌝ }
 {
-    if card.len() / 512 <= b {
+    if card.len() / BLOCK_BYTES <= b {
         return false;
     }
-    let p = 128 * b;
-    let count = used(total, b);
+    let p = BLOCK_WORDS * b;
+    let count = records_used(total, b);
     if !headed(card, p, header(total, b)) {
         return false;
     }
-    if !marked(card, p + 7, count) {
+    if !records_marked(card, p + HEADER_WORDS, count) {
         return false;
     }
-    if !emptied(card, p + 7 + 10 * count, 120 - 10 * count) {
+    if !emptied(
+        card,
+        p + HEADER_WORDS + RECORD_WORDS * count,
+        ROOM_WORDS - RECORD_WORDS * count,
+    ) {
         return false;
     }
     checked(card, p)
@@ -128,34 +147,40 @@ fn good(card: &[u8], total: u32, b: usize) -> bool
 
 // One record made lost, from word p on.
 fn lose_one(answer: &mut [u32], p: usize)
-    requires { ⌜ p + 10 ≤ length (now answer) ⌝ }
+    requires { ⌜ p + format.recordWords ≤ length (now answer) ⌝ }
     ensures { λ _. ⌜ now (answer .exit) ≡ sets (now (answer .entry)) p spec.lost ⌝ }
 {
     let lost = [2, 0, 0, 0, 0, 0, 0, 0, 0, 0];
-    for i in 0..10 {
+    for i in 0..RECORD_WORDS {
         answer[p + i] = lost[i];
     }
 }
 
 // `count` records made lost, from word p on.
 fn lose(answer: &mut [u32], p: usize, count: usize)
-    requires { ⌜ p + 10 * count ≤ length (now answer) ⌝ }
+    requires { ⌜ p + format.recordWords * count ≤ length (now answer) ⌝ }
     ensures { λ _. ⌜ now (answer .exit) ≡ sets (now (answer .entry)) p (joined count (λ _. spec.lost)) ⌝ }
 {
     for r in 0..count {
-        lose_one(answer, p + 10 * r);
+        lose_one(answer, p + RECORD_WORDS * r);
     }
 }
 
 // The records of block b into the answer list, at their places.
 pub fn read_block(card: &[u8], total: u32, b: usize, answer: &mut [u32])
-    requires { ⌜ (12 * b < total) × (10 * total ≤ length (now answer)) ⌝ }
-    ensures { λ _. ⌜ now (answer .exit) ≡ sets (now (answer .entry)) (120 * b) (spec.recordsRead total b (now (card .entry))) ⌝ }
+    requires { ⌜ (format.recordsHeld * b < total) × (format.recordWords * total ≤ length (now answer)) ⌝ }
+    ensures { λ _. ⌜ now (answer .exit) ≡ sets (now (answer .entry)) (format.roomWords * b) (spec.recordsRead total b (now (card .entry))) ⌝ }
 {
-    let count = used(total, b);
+    let count = records_used(total, b);
     if good(card, total, b) {
-        words::get_words(card, 128 * b + 7, answer, 120 * b, 10 * count);
+        words::get_words(
+            card,
+            BLOCK_WORDS * b + HEADER_WORDS,
+            answer,
+            ROOM_WORDS * b,
+            RECORD_WORDS * count,
+        );
     } else {
-        lose(answer, 120 * b, count);
+        lose(answer, ROOM_WORDS * b, count);
     }
 }

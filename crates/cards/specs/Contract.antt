@@ -2,23 +2,23 @@
 use Prim.Native.Nat.{ℕ}
 use mathlib.Core.Path.{_≡_}
 use mathlib.Core.List.{List}
-use Rattle.cards.specs.Writer.{Wrote, wrote}
-use Rattle.cards.specs.Reader.{Got, got}
+use Rattle.cards.specs.Writer.{WriteLeft, writeLeft}
+use Rattle.cards.specs.Reader.{ReadLeft, readLeft}
 use Rattle.cards.specs.declared.Written.{Written}
-use Rattle.cards.specs.declared.Found.{Found}
+use Rattle.cards.specs.declared.CardFound.{CardFound}
 
 -- all that a call of the writer leaves behind: what it returned, and the lent list
-unfoldable pub afterWrite : Written → List ℕ → Wrote
+unfoldable pub afterWrite : Written → List ℕ → WriteLeft
 afterWrite r card = record { number = r .number; bytes = r .bytes; card = card }
 
 -- The writer's contract. Handed in: the answer words l; lent: the list c, which it leaves as d; returned: r.
 abbrev pub Writes : List ℕ → List ℕ → Written → List ℕ → Type 0
-Writes l c r d = afterWrite r d ≡ wrote l c
+Writes l c r d = afterWrite r d ≡ writeLeft l c
 
 -- all that a call of the reader leaves behind
-unfoldable pub afterRead : Found → List ℕ → Got
+unfoldable pub afterRead : CardFound → List ℕ → ReadLeft
 afterRead r answer = record { number = r .number; past = r .past; answer = answer }
 
 -- The reader's contract. Handed in: the bytes bs and the total n; lent: the list a, which it leaves as b; returned: r.
-abbrev pub Reads : List ℕ → ℕ → List ℕ → Found → List ℕ → Type 0
-Reads bs n a r b = afterRead r b ≡ got n bs a
+abbrev pub Reads : List ℕ → ℕ → List ℕ → CardFound → List ℕ → Type 0
+Reads bs n a r b = afterRead r b ≡ readLeft n bs a

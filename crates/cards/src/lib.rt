@@ -4,8 +4,8 @@ ghost use Prim.Native.Nat.{_+_, _*_, _≤_, _<_};
 ghost use lib.ListN.{length, getD, drop};
 ghost use mathlib.Core.List.{_++_};
 ghost use lib.Dec.{leb};
-ghost use Rattle.words.specs.Lists.{everyBelow};
-ghost use Rattle.blocks.specs.Format.{blocksFor};
+ghost use Rattle.lists.specs.Parts.{everyBelow};
+ghost use Rattle.blocks.specs.Format.{recordWords, blocksFor};
 ghost use Rattle.cards.specs.Writer as writer;
 ghost use Rattle.cards.specs.Reader as reader;
 ghost use Rattle.cards.specs.Contract.{Writes, Reads};
@@ -19,18 +19,18 @@ pub struct Written {
 
 // What the reader returns: 0 and how many bytes stand past the last whole block that the total calls for, or a refusal and 0.
 #[repr(C)]
-pub struct Found {
+pub struct CardFound {
     pub number: u32,
     pub past: usize,
 }
 
 // Whether each of `count` records has 0 or 1 in its word 0.
-fn marked(answer: &[u32], count: usize) -> bool
-    requires { ⌜ 10 * count ≤ length (now answer) ⌝ }
-    ensures { λ r. ⌜ r ≡ everyBelow count (λ r. leb (getD (now (answer .entry)) (10 * r) 0) 1) ⌝ }
+fn all_marked(answer: &[u32], count: usize) -> bool
+    requires { ⌜ recordWords * count ≤ length (now answer) ⌝ }
+    ensures { λ r. ⌜ r ≡ everyBelow count (λ r. leb (getD (now (answer .entry)) (recordWords * r) 0) 1) ⌝ }
 {
     for r in 0..count {
-        if 1 < answer[10 * r] {
+        if 1 < answer[blocks::RECORD_WORDS * r] {
             return false;
         }
     }
@@ -41,22 +41,22 @@ fn marked(answer: &[u32], count: usize) -> bool
 pub fn writable(answer: &[u32]) -> bool
     ensures { λ r. ⌜ r ≡ writer.writable (now (answer .entry)) ⌝ }
 {
-    if answer.len() % 10 != 0 {
+    if answer.len() % blocks::RECORD_WORDS != 0 {
         return false;
     }
-    if 4294967296 <= answer.len() / 10 {
+    if 4294967296 <= answer.len() / blocks::RECORD_WORDS {
         return false;
     }
-    marked(answer, answer.len() / 10)
+    all_marked(answer, answer.len() / blocks::RECORD_WORDS)
 }
 
 // All blocks of a card.
 fn write_blocks(answer: &[u32], total: u32, card: &mut [u8])
-    requires { ⌜ (10 * total ≤ length (now answer)) × (writer.cardBytes total ≤ length (now card)) ⌝ }
+    requires { ⌜ (recordWords * total ≤ length (now answer)) × (writer.cardBytes total ≤ length (now card)) ⌝ }
     ensures { λ _. ⌜ now (card .exit) ≡ writer.blocksOf (blocksFor total) total (now (answer .entry)) ++ drop (writer.cardBytes total) (now (card .entry)) ⌝ }
 {
     for b in 0..blocks::blocks_for(total) {
-        blocks::put_block(card, b, total, b, answer, 120 * b);
+        blocks::put_block(card, b, total, b, answer, blocks::ROOM_WORDS * b);
     }
 }
 
@@ -70,8 +70,8 @@ pub fn write(answer: &[u32], card: &mut [u8]) -> Written
             bytes: 0,
         };
     }
-    let total = (answer.len() / 10) as u32;
-    let bytes = 512 * blocks::blocks_for(total);
+    let total = (answer.len() / blocks::RECORD_WORDS) as u32;
+    let bytes = blocks::BLOCK_BYTES * blocks::blocks_for(total);
     if card.len() < bytes {
         return Written {
             number: 2,
@@ -87,8 +87,8 @@ pub fn write(answer: &[u32], card: &mut [u8]) -> Written
 
 // All records of a card.
 fn read_blocks(card: &[u8], total: u32, answer: &mut [u32])
-    requires { ⌜ 10 * total ≤ length (now answer) ⌝ }
-    ensures { λ _. ⌜ now (answer .exit) ≡ reader.readings total (now (card .entry)) ++ drop (10 * total) (now (answer .entry)) ⌝ }
+    requires { ⌜ recordWords * total ≤ length (now answer) ⌝ }
+    ensures { λ _. ⌜ now (answer .exit) ≡ reader.readings total (now (card .entry)) ++ drop (recordWords * total) (now (answer .entry)) ⌝ }
 {
     for b in 0..blocks::blocks_for(total) {
         blocks::read_block(card, total, b, answer);
@@ -99,23 +99,23 @@ fn read_blocks(card: &[u8], total: u32, answer: &mut [u32])
 fn bytes_past(card: &[u8], total: u32) -> usize
     ensures { λ r. ⌜ r ≡ reader.bytesPast total (now (card .entry)) ⌝ }
 {
-    let there = card.len() / 512;
+    let there = card.len() / blocks::BLOCK_BYTES;
     let called = blocks::blocks_for(total);
     if there < called {
-        return card.len() - 512 * there;
+        return card.len() - blocks::BLOCK_BYTES * there;
     }
-    card.len() - 512 * called
+    card.len() - blocks::BLOCK_BYTES * called
 }
 
 // The records of a card, lost ones told apart: refused with 2 where the answer list is too short.
-pub fn read(card: &[u8], total: u32, answer: &mut [u32]) -> Found
+pub fn read(card: &[u8], total: u32, answer: &mut [u32]) -> CardFound
     ensures { λ r. ⌜ Reads (now (card .entry)) total (now (answer .entry)) r (now (answer .exit)) ⌝ }
 {
-    if answer.len() / 10 < total as usize {
-        return Found { number: 2, past: 0 };
+    if answer.len() / blocks::RECORD_WORDS < total as usize {
+        return CardFound { number: 2, past: 0 };
     }
     read_blocks(card, total, answer);
-    Found {
+    CardFound {
         number: 0,
         past: bytes_past(card, total),
     }

@@ -21,10 +21,10 @@ use Rattle.table.specs.Table.{cell, column}
 use Rattle.table.specs.Columns.{columns, cornerColumn, sxColumn, syColumn, szColumn, txColumn, tyColumn, tzColumn, openingColumn}
 use Rattle.table.proofs.Laws.{getD-column, length-column, column-ends}
 use Rattle.definition.specs.declared.Triangle.{Triangle}
-use Rattle.definition.specs.Handed.{vectorAt, cornerAt}
+use Rattle.definition.specs.Handed.{handed, vectorAt, cornerAt}
 use Rattle.definition.specs.Mesh.{Third, one, two, three, Spot, after, before, next, prior, kept, cornerOf}
 use Rattle.definition.specs.Step7Sums.{projected, opening}
-use Rattle.laws.proofs.Part.{Every, every-nil, every-cons}
+use Rattle.lists.specs.Every.{Every, every-nil, every-cons}
 use Rattle.sums.specs.Sums.{openingAt}
 use Rattle.view.specs.Frame.{outside, Only}
 use Rattle.view.specs.Stores.{Entry, storing}
@@ -100,7 +100,7 @@ brings-kept rows k w u s S B = record { along = S .along ∙ B .along; up = S .u
 
 module _ (rows : ℕ) (ps ns : List Float) (t : ℕ) (room : 3 * t + 3 ≤ rows) where
   -- one corner, where the columns tell of the triangle
-  corner-brings : (sizes : List ℕ) (ts : List Float) (x : Triangle) (g : RawTangentSpace) (w u : List ℕ) → Told rows sizes ps ns ts w t x → g .s ≡ x .tangent .s → g .t ≡ x .tangent .t
+  corner-brings : (sizes : List ℕ) (ts : List Float) (x : Triangle) (g : RawTangentSpace) (w u : List ℕ) → Told rows (handed sizes ps ns ts) w t x → g .s ≡ x .tangent .s → g .t ≡ x .tangent .t
       → (i : Third) → Brought rows ps ns g (row t i) (row t (after i)) (row t (before i)) w u → Brings rows u (row t i) (record { tri = x; at = i })
   unfolding cornerOf cornerAt opening openingAt next prior
   corner-brings sizes ts x g w u S es et i B = record {
@@ -137,8 +137,8 @@ module _ (rows : ℕ) (ps ns : List Float) (t : ℕ) (room : 3 * t + 3 ≤ rows)
       brings = λ sizes ts x S i.
           let es : g .s ≡ x .tangent .s = ap (λ (y : RawTangentSpace). y .s) e ∙ S .along in
           let et : g .t ≡ x .tangent .t = ap (λ (y : RawTangentSpace). y .t) e ∙ S .up in
-          let Su = told-kept rows sizes ps ns ts contributionColumns w u t x room refl (A .only) S in
-          let Sv = told-kept rows sizes ps ns ts contributionColumns u v t x room refl (B .only) Su in
+          let Su = told-kept rows (handed sizes ps ns ts) contributionColumns w u t x room refl (A .only) S in
+          let Sv = told-kept rows (handed sizes ps ns ts) contributionColumns u v t x room refl (B .only) Su in
           elim i [
             | one ↦ brings-kept rows (row t one) v z (record { tri = x; at = one }) (C .others (row t one) (omega arith) (apart one three (omega arith)))
                 (brings-kept rows (row t one) u v (record { tri = x; at = one }) (B .others (row t one) (omega arith) (apart one two (omega arith))) (corner-brings sizes ts x g w u S es et one A))
@@ -157,7 +157,7 @@ module _ (rows : ℕ) (ps ns : List Float) (t : ℕ) (room : 3 * t + 3 ≤ rows)
 
 -- the first n triangles bring what they should, where the columns told of all at the start
 pub record Done (rows : ℕ) (ps ns : List Float) (tris n : ℕ) (w u : List ℕ) : Type 0 where
-  pub brings : (sizes : List ℕ) (ts : List Float) (ss : List Triangle) (d : Triangle) → length ss ≡ tris → Tells rows sizes ps ns ts ss d w → (t : ℕ) (i : Third) → t < n → Brings rows u (row t i) (spotAt ss d t i)
+  pub brings : (sizes : List ℕ) (ts : List Float) (ss : List Triangle) (d : Triangle) → length ss ≡ tris → Tells rows (handed sizes ps ns ts) ss d w → (t : ℕ) (i : Third) → t < n → Brings rows u (row t i) (spotAt ss d t i)
   pub only : Only contributionColumns rows w u
 
 module _ (rows : ℕ) (ps ns : List Float) (tris : ℕ) (w : List ℕ) where
@@ -167,7 +167,7 @@ module _ (rows : ℕ) (ps ns : List Float) (tris : ℕ) (w : List ℕ) where
   pub one-more : (n : ℕ) (u v : List ℕ) → 3 * n + 3 ≤ rows → n < tris → Done rows ps ns tris n w u → Turn rows ps ns n u v → Done rows ps ns tris (n + 1) w v
   one-more n u v room l D T = record {
     brings = λ sizes ts ss d e S t i h. ⊎-elim
-        (λ q. subst (λ (k : ℕ). Brings rows v (row k i) (spotAt ss d k i)) (sym q) (T .brings sizes ts (getD ss n d) (told-kept rows sizes ps ns ts contributionColumns w u n (getD ss n d) room refl (D .only) (S n (omega (arith, e, l)))) i))
+        (λ q. subst (λ (k : ℕ). Brings rows v (row k i) (spotAt ss d k i)) (sym q) (T .brings sizes ts (getD ss n d) (told-kept rows (handed sizes ps ns ts) contributionColumns w u n (getD ss n d) room refl (D .only) (S n (omega (arith, e, l)))) i))
         (λ q. brings-kept rows (row t i) u v (spotAt ss d t i) (T .before (row t i) (row-lt t n i q)) (D .brings sizes ts ss d e S t i q))
         (eq-or-lt-of-le (lt-suc t n h));
     only = only-trans contributionColumns rows w u v (D .only) (T .only);

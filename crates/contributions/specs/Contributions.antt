@@ -12,7 +12,7 @@ use Rattle.tangent.specs.Slot.{vectorOf}
 use Rattle.table.specs.Table.{cell}
 use Rattle.table.specs.Columns.{cornerColumn, sColumn, tColumn, magnitudeColumn, openingColumn}
 use Rattle.definition.specs.declared.Triangle.{Triangle}
-use Rattle.definition.specs.Handed.{vectorAt}
+use Rattle.definition.specs.Handed.{handed, vectorAt}
 use Rattle.definition.specs.Mesh.{Third, Spot}
 use Rattle.definition.specs.Step7Sums.{projected}
 use Rattle.sums.specs.Sums.{openingAt}
@@ -53,6 +53,6 @@ Brought rows ps ns g r q p w u =
 
 -- the three corners of triangle t bring what they should, where the columns tell of it; the rows before them have what they had
 pub record Turn (rows : ℕ) (ps ns : List Float) (t : ℕ) (w u : List ℕ) : Type 0 where
-  pub brings : (sizes : List ℕ) (ts : List Float) (x : Triangle) → Told rows sizes ps ns ts w t x → (i : Third) → Brings rows u (row t i) (record { tri = x; at = i })
+  pub brings : (sizes : List ℕ) (ts : List Float) (x : Triangle) → Told rows (handed sizes ps ns ts) w t x → (i : Third) → Brings rows u (row t i) (record { tri = x; at = i })
   pub before : (k : ℕ) → k < 3 * t → Same rows k w u
   pub only : Only contributionColumns rows w u

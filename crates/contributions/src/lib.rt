@@ -10,6 +10,7 @@ ghost use Rattle.angle.specs.Table as angles;
 ghost use Rattle.math.specs.Held.{HeldVec};
 ghost use Rattle.tangent.specs.Slot.{vectorOf};
 ghost use Rattle.table.specs.Columns.{columns, sColumn, tColumn, magnitudeColumn};
+ghost use Rattle.definition.specs.Handed.{handed};
 ghost use Rattle.definition.specs.declared.Triangle.{Triangle};
 ghost use Rattle.view.specs.Frame.{Only};
 ghost use Rattle.view.specs.Records.{Tells};
@@ -210,7 +211,7 @@ pub fn contribute_all(
     normals: &[f32],
 )
     requires { ⌜ (3 * tris ≤ rows) × (columns * rows ≤ length (now work)) ⌝ }
-    ensures brings { λ _. ⌜ ((sizes : List ℕ) (ts : List Float) (ss : List Triangle) (d : Triangle) → length ss ≡ tris → Tells rows sizes (now (positions .entry)) (now (normals .entry)) ts ss d (now (work .entry)) → Contributed rows ss d (now (work .exit))) ⌝ }
+    ensures brings { λ _. ⌜ ((sizes : List ℕ) (ts : List Float) (ss : List Triangle) (d : Triangle) → length ss ≡ tris → Tells rows (handed sizes (now (positions .entry)) (now (normals .entry)) ts) ss d (now (work .entry)) → Contributed rows ss d (now (work .exit))) ⌝ }
     ensures only { λ _. ⌜ Only contributionColumns rows (now (work .entry)) (now (work .exit)) ⌝ }
 {
     let cosines = angle::table();

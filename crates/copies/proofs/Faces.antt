@@ -13,7 +13,7 @@ use Rattle.tangent.specs.declared.Reading.{Reading}
 use Rattle.definition.specs.declared.Corner.{Corner}
 use Rattle.definition.specs.declared.Kept.{Kept}
 use Rattle.definition.specs.declared.Triangle.{Triangle}
-use Rattle.definition.specs.Lists.{keep, first}
+use Rattle.lists.specs.Lists.{keep, first}
 use Rattle.definition.specs.Mesh.{Third, one, two, three, Spot, kept, cornerOf, slotOf}
 use Rattle.definition.specs.Step1Cut.{cut02}
 use Rattle.definition.specs.Step2Degenerate.{exactlyOne}
@@ -22,7 +22,8 @@ use Rattle.definition.specs.Step4Order.{isSound, sound, spots}
 use Rattle.definition.specs.Step7Sums.{Brought}
 use Rattle.definition.specs.Step8Slots.{reading}
 use Rattle.definition.specs.Step9Copies.{copied, fromSound, fromKept, fromMarked, finalOf, nooks}
-use Rattle.laws.proofs.Part.{Every, every-nil, every-cons, every-map, every-cond}
+use Rattle.lists.specs.Every.{Every, every-nil, every-cons}
+use Rattle.laws.proofs.Part.{every-map, every-cond}
 use Rattle.laws.proofs.Targets.{takesCopy, sources-stay, own-stays, own-stays-quad}
 use Rattle.laws.proofs.Marked.{keepsAt, marked-keeps}
 

@@ -11,10 +11,11 @@ use lib.Seq.{getD-append-add}
 use borrow.Author.Tests.{ltb-true, ltb-false, not-true}
 use Rattle.definition.specs.declared.Corner.{Corner}
 use Rattle.definition.specs.declared.Triangle.{Triangle}
-use Rattle.definition.specs.Lists.{keep, first}
+use Rattle.lists.specs.Lists.{keep, first}
 use Rattle.definition.specs.Mesh.{Spot, cornerOf}
 use Rattle.definition.specs.Step4Order.{isSound, sound, broken, spots, welded}
-use Rattle.laws.proofs.Part.{Every, every-nil, every-cons, keep-passes}
+use Rattle.lists.specs.Every.{Every, every-nil, every-cons}
+use Rattle.laws.proofs.Part.{keep-passes}
 use Rattle.view.specs.Rows.{third, spotRow}
 use Rattle.view.specs.Weld.{First}
 use Rattle.view.proofs.Lists.{first-at, first-not, every-index}

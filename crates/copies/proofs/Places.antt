@@ -15,7 +15,8 @@ use Rattle.definition.specs.Triangles.{nook, usable, pieces, triangles}
 use Rattle.definition.specs.Frames.{numbered}
 use Rattle.definition.specs.Step7Sums.{Brought}
 use Rattle.definition.specs.Step9Copies.{finalOf, nooks, faceReadings}
-use Rattle.laws.proofs.Part.{Every, every-nil, every-cons, every-map, every-append, every-pair}
+use Rattle.lists.specs.Every.{Every, every-nil, every-cons}
+use Rattle.laws.proofs.Part.{every-map, every-append, every-pair}
 use Rattle.laws.proofs.Bridge.{face-slots}
 use Rattle.laws.proofs.Numbers.{pieces-face}
 use Rattle.view.specs.Answer.{HasSlot, finalAt}

@@ -15,22 +15,23 @@ use Rattle.math.specs.Vector.{equals}
 use Rattle.tangent.specs.declared.Reading.{Reading}
 use Rattle.tangent.specs.declared.Reading.the-variants.{Absent}
 use Rattle.tangent.specs.Slot.{flag}
-use Rattle.table.specs.Loop.{upTo}
+use Rattle.lists.specs.Loops.{upTo}
 use Rattle.table.specs.Table.{cell}
 use Rattle.table.specs.Columns.{cornerColumn, slotColumn, vertexColumn}
-use Rattle.table.proofs.Loops.{upTo-ind}
+use Rattle.lists.proofs.Loops.{upTo-ind, last-or-before}
 use Rattle.definition.specs.declared.Corner.{Corner}
 use Rattle.definition.specs.declared.Triangle.{Triangle}
-use Rattle.definition.specs.Lists.{first, has}
+use Rattle.lists.specs.Lists.{first, has}
 use Rattle.definition.specs.Mesh.{Third, one, two, three, Spot, kept, cornerOf, slotOf}
-use Rattle.definition.specs.Handed.{vectorAt, cornerAt, meshFrom, cornerCount, slotCount}
+use Rattle.definition.specs.Handed.{handed, vectorAt, cornerAt, meshFrom, cornerCount, slotCount}
 use Rattle.definition.specs.Triangles.{nook, pieces, triangles}
 use Rattle.definition.specs.Frames.{numbered}
 use Rattle.definition.specs.Step4Order.{isSound, sound, broken, spots}
 use Rattle.definition.specs.Step7Sums.{Brought}
 use Rattle.definition.specs.Step8Slots.{reading}
 use Rattle.definition.specs.Step9Copies.{copied, fromSound, finalOf}
-use Rattle.laws.proofs.Part.{Every, every-map, every-append, every-keep, every-pair}
+use Rattle.lists.specs.Every.{Every}
+use Rattle.laws.proofs.Part.{every-map, every-append, every-keep, every-pair}
 use Rattle.laws.proofs.Numbers.{pieces-face}
 use Rattle.bits.proofs.Bools.{and-left, and-right}
 use Rattle.laws.proofs.Marked.{keepsAt}
@@ -85,13 +86,6 @@ equal-row x c t e = first-row x t (same one) (same two) (same three) e
   where
     same : Third → Bool
     same i = equals (kept x i .corner .place) (c .place)
-
--- below the next number: that number, or below it
-until : (P : ℕ → Type 0) (n t : ℕ) → t < suc n → P n → (t < n → P t) → P t
-until P n t h e f = ⊎-elim (λ q. subst P (sym q) e) f (eq-or-lt-of-le (before t n h))
-  where
-    before : (t n : ℕ) → t < suc n → t ≤ n
-    before t n h = omega arith
 
 -- ---- one slot
 
@@ -174,7 +168,7 @@ module _ (rows : ℕ) (ps : List Float) (w sizes : List ℕ) (ns ts : List Float
   far-broken : (p q : ℕ) (R : ℕ → ℕ → Reading) → Far p q R → (at p .marked ≡ false → (i : Third) → Ended R p i) → Far (suc p) q R
   far-broken p q R F e = record {
     own = F .own;
-    broken = λ t i l h m. until (λ u. at u .marked ≡ false → length ss ≤ u → Ended R u i) p t h (λ n k. e n i) (λ g n k. F .broken t i k g n) m l;
+    broken = λ t i l h m. last-or-before (λ u. at u .marked ≡ false → length ss ≤ u → Ended R u i) p t h (λ n k. e n i) (λ g n k. F .broken t i k g n) m l;
     missed = F .missed;
   }
 
@@ -183,10 +177,10 @@ module _ (rows : ℕ) (ps : List Float) (w sizes : List ℕ) (ns ts : List Float
   far-missed p q R F e = record {
     own = F .own;
     broken = F .broken;
-    missed = λ t h m. until (λ u. at u .marked ≡ true → Filled R u) q t h e (λ g n. F .missed t g n) m;
+    missed = λ t h m. last-or-before (λ u. at u .marked ≡ true → Filled R u) q t h e (λ g n. F .missed t g n) m;
   }
 
-  module _ (T : Tells rows sizes ps ns ts ys d w) (W : Vertices rows ys d w) where
+  module _ (T : Tells rows (handed sizes ps ns ts) ys d w) (W : Vertices rows ys d w) where
     -- ---- what is final, by the number of a triangle
 
     -- its corners have slots
@@ -311,7 +305,7 @@ module _ (rows : ℕ) (ps : List Float) (w sizes : List ℕ) (ns ts : List Float
       gone = cornerAt ps ns ts (base + here .missing)
 
       -- what the columns tell of it, and step 9
-      abbrev told : Told rows sizes ps ns ts w t here
+      abbrev told : Told rows (handed sizes ps ns ts) w t here
       told = T t (fewer t h)
 
       abbrev piece : Placed bs ss mesh here

@@ -9,10 +9,10 @@ use lib.Ieee.{Float}
 use borrow.Author.Tests.{eq-eqb, ne-eqb, lt-ltb, le-ltb}
 use Rattle.math.specs.declared.Vec3.{Vec3}
 use Rattle.math.specs.Vector.{equals}
-use Rattle.table.specs.Loop.{upTo}
+use Rattle.lists.specs.Loops.{upTo}
 use Rattle.table.specs.Table.{cell}
 use Rattle.table.specs.Columns.{cornerColumn, slotColumn, vertexColumn}
-use Rattle.table.proofs.Loops.{upTo-none, upTo-more}
+use Rattle.lists.proofs.Loops.{upTo-none, upTo-more}
 use Rattle.definition.specs.Handed.{vectorAt}
 use Rattle.slots.specs.Slots.{copiedAt, clearedAt}
 use Rattle.copies.specs.Copies.{markedAt, cornerCopied, triangleCopied, brokenCopied, missed, missedAt, keptAt, equalAt, missingCopied}

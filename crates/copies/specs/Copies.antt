@@ -8,13 +8,12 @@ use lib.ListN.{length}
 use lib.Ieee.{Float}
 use Rattle.math.specs.declared.Vec3.{Vec3}
 use Rattle.math.specs.Vector.{equals}
-use Rattle.table.specs.Loop.{upTo}
+use Rattle.lists.specs.Loops.{upTo}
 use Rattle.table.specs.Table.{cell}
 use Rattle.table.specs.Columns.{cornerColumn, slotColumn, nameColumn, magnitudeColumn, vertexColumn}
 use Rattle.definition.specs.declared.Triangle.{Triangle}
-use Rattle.definition.specs.Handed.{vectorAt, meshFrom}
-use Rattle.definition.specs.Triangles.{triangles}
-use Rattle.definition.specs.Frames.{numbered}
+use Rattle.definition.specs.Handed.{meshOf, handed, vectorAt}
+use Rattle.definition.specs.Frames.{trianglesOf}
 use Rattle.definition.specs.Step4Order.{sound, broken}
 use Rattle.definition.specs.Step7Sums.{Brought}
 use Rattle.definition.specs.Step8Slots.{reading}
@@ -86,11 +85,11 @@ framesCopied rows n all ps w a = missingsCopied rows ps w n (brokenCopied rows n
 -- What is left in the answer list, where the columns hold the triangles of a mesh, the n sound ones first, and the answer list shows what was brought to each slot: it shows the final readings.
 pub record Copied (rows n all : ℕ) (ps : List Float) (w a u : List ℕ) : Type 0 where
   pub final : (sizes : List ℕ) (ns ts : List Float) (bs : List Brought) (d : Triangle) (a₀ : List ℕ)
-      → let m = meshFrom ps ns ts 0 sizes in
-      let xs = triangles (numbered 0 m) in
+      → let mesh = handed sizes ps ns ts in
+      let xs = trianglesOf mesh in
       length (sound xs) ≡ n
       → length (sound xs ++ broken xs) ≡ all
-      → Tells rows sizes ps ns ts (sound xs ++ broken xs) d w
+      → Tells rows mesh (sound xs ++ broken xs) d w
       → Vertices rows (sound xs ++ broken xs) d w
       → Shows sizes (reading bs) a₀ a
-      → Shows sizes (finalAt bs (sound xs) m) a₀ u
+      → Shows sizes (finalAt bs (sound xs) (meshOf mesh)) a₀ u

@@ -18,7 +18,7 @@ use Rattle.math.specs.Vector as Vector′
 use Rattle.tangent.specs.Space as Space′
 use Rattle.tangent.specs.Slot as Slot′
 use Rattle.bits.specs.Word as Word′
-use Rattle.definition.specs.Lists as Lists′
+use Rattle.lists.specs.Lists as Lists′
 use Rattle.definition.specs.Mesh as Mesh′
 use Rattle.definition.specs.Handed as Handed′
 use Rattle.definition.specs.Step1Cut as Step1Cut′

@@ -11,8 +11,8 @@ use Rattle.math.specs.declared.Vec3.{Vec3}
 use Rattle.tangent.specs.Slot.{slotWords}
 use Rattle.definition.specs.declared.Corner.{Corner}
 use Rattle.definition.specs.Limits.{faceLimit, workWords}
-use Rattle.definition.specs.Lists.{first}
-use Rattle.definition.specs.Handed.{meshFrom, used, cornerCount, slotCount}
+use Rattle.lists.specs.Lists.{first}
+use Rattle.definition.specs.Handed.{Handed, Call, meshOf, used, cornerCount, slotCount}
 
 -- a vector of three finite numbers
 unfoldable pub finiteVector : Vec3 → Bool
@@ -22,10 +22,10 @@ finiteVector v = isFinite (v .x) && isFinite (v .y) && isFinite (v .z)
 unfoldable pub finiteCorner : Corner → Bool
 finiteCorner c = finiteVector (c .place) && finiteVector (c .normal) && isFinite (c .u) && isFinite (c .v)
 
--- the lowest of the corners, counted from i, that 'holds a NaN or infinity'
-unfoldable pub badIn : ℕ → List Corner → Option ℕ
-badIn i [] = none
-badIn i (c ∷ l) = let r = badIn (suc i) l in cond (finiteCorner c) r (some i)
+-- the lowest of the corners, counted from i, that fails a test
+unfoldable pub badIn : (Corner → Bool) → ℕ → List Corner → Option ℕ
+badIn fine i [] = none
+badIn fine i (c ∷ l) = let r = badIn fine (suc i) l in cond (fine c) r (some i)
 
 -- the first of the two, if there is one
 unfoldable pub orElse : Option ℕ → Option ℕ → Option ℕ
@@ -33,9 +33,13 @@ orElse none o = o
 orElse (some i) o = some i
 
 -- 'lowest such corner, counted from 0 over all C', among the faces of 3 or 4; i counts the corners passed
-unfoldable pub badCorner : ℕ → List (List Corner) → Option ℕ
-badCorner i [] = none
-badCorner i (f ∷ m) = let r = badCorner (i + length f) m in orElse (cond (used (length f)) (badIn i f) none) r
+unfoldable pub badCorner : (Corner → Bool) → ℕ → List (List Corner) → Option ℕ
+badCorner fine i [] = none
+badCorner fine i (f ∷ m) = let r = badCorner fine (i + length f) m in orElse (cond (used (length f)) (badIn fine i f) none) r
+
+-- 4: the lowest corner of a mesh that 'holds a NaN or infinity'
+abbrev pub notFinite : Handed → Option ℕ
+notFinite mesh = badCorner finiteCorner 0 (meshOf mesh)
 
 -- whether there is one
 unfoldable pub isThere : Option ℕ → Bool
@@ -55,9 +59,9 @@ tooMany sizes = ltb faceLimit (length sizes)
 unfoldable pub unfit : ℕ → ℕ → ℕ → ℕ → Bool
 unfit corners positions normals texture = not (eqb positions (3 * corners) && eqb normals (3 * corners) && eqb texture (2 * corners))
 
--- the same of the lists themselves
-unfoldable pub misfit : List ℕ → List Float → List Float → List Float → Bool
-misfit sizes ps ns ts = unfit (cornerCount sizes) (length ps) (length ns) (length ts)
+-- the same of a mesh
+unfoldable pub misfit : Handed → Bool
+misfit mesh = unfit (cornerCount (mesh .sizes)) (length (mesh .positions)) (length (mesh .normals)) (length (mesh .texture))
 
 -- a row of the table: its number, whether it applies, its place
 pub record Row : Type 0 where
@@ -65,18 +69,36 @@ pub record Row : Type 0 where
   pub applies : Bool
   pub place : ℕ
 
--- the six rows in the table's order, for these face sizes, positions, normals, texture coordinates, threshold, and lengths of the answer list and of the work list
-unfoldable pub table : List ℕ → List Float → List Float → List Float → Float → ℕ → ℕ → List Row
-table sizes ps ns ts h answer work =
-    let bad = badCorner 0 (meshFrom ps ns ts 0 sizes) in
-    record { number = 1; applies = tooMany sizes; place = 0 }
-    ∷ record { number = 2; applies = misfit sizes ps ns ts; place = 0 }
-    ∷ record { number = 3; applies = not (isFinite h); place = 0 }
-    ∷ record { number = 4; applies = isThere bad; place = orZero bad }
-    ∷ record { number = 5; applies = ltb answer (slotWords * slotCount sizes); place = 0 }
-    ∷ record { number = 6; applies = ltb work (workWords * length sizes); place = 0 }
+-- what a call shows at the desk: its mesh, its threshold, and how long the two lists are that it lends
+pub record Shown : Type 0 where
+  pub mesh : Handed
+  pub threshold : Float
+  pub answer : ℕ
+  pub work : ℕ
+
+-- shown are these
+abbrev pub shown : Handed → Float → ℕ → ℕ → Shown
+shown mesh h answer work = record { mesh = mesh; threshold = h; answer = answer; work = work }
+
+-- what a call shows
+abbrev pub atDesk : Call → Shown
+atDesk x = shown (x .mesh) (x .threshold) (length (x .answer)) (length (x .work))
+
+-- the rows in the table's order
+unfoldable pub table : Shown → List Row
+table x =
+    record { number = 1; applies = tooMany (x .mesh .sizes); place = 0 }
+    ∷ record { number = 2; applies = misfit (x .mesh); place = 0 }
+    ∷ record { number = 3; applies = not (isFinite (x .threshold)); place = 0 }
+    ∷ record { number = 4; applies = isThere (notFinite (x .mesh)); place = orZero (notFinite (x .mesh)) }
+    ∷ record { number = 5; applies = ltb (x .answer) (slotWords * slotCount (x .mesh .sizes)); place = 0 }
+    ∷ record { number = 6; applies = ltb (x .work) (workWords * length (x .mesh .sizes)); place = 0 }
     ∷ []
 
 -- 'Checked in this order; the first that applies is given, and none is given otherwise'
-unfoldable pub verdict : List ℕ → List Float → List Float → List Float → Float → ℕ → ℕ → Option Row
-verdict sizes ps ns ts h answer work = first (λ r. r .applies) (table sizes ps ns ts h answer work)
+unfoldable pub verdict : Shown → Option Row
+verdict x = first (λ r. r .applies) (table x)
+
+-- the row of a table that has a number, if one has
+unfoldable pub rowOf : ℕ → List Row → Option Row
+rowOf n l = first (λ r. eqb (r .number) n) l

@@ -6,6 +6,7 @@ use Rattle.tangent.specs.declared.Reading.{Reading}
 use Rattle.definition.specs.declared.Corner.{Corner}
 use Rattle.definition.specs.declared.Triangle.{Triangle}
 use Rattle.definition.specs.Mesh.{Face}
+use Rattle.definition.specs.Handed.{Handed, meshOf}
 use Rattle.definition.specs.Triangles.{triangles}
 use Rattle.definition.specs.Step4Order.{sound}
 use Rattle.definition.specs.Step5Links.{links}
@@ -17,6 +18,10 @@ use Rattle.definition.specs.Step9Copies.{faceReadings}
 unfoldable pub numbered : ℕ → List (List Corner) → List Face
 numbered n [] = []
 numbered n (c ∷ m) = record { number = n; corners = c } ∷ numbered (suc n) m
+
+-- all triangles of a mesh that is handed in
+abbrev pub trianglesOf : Handed → List Triangle
+trianglesOf mesh = triangles (numbered 0 (meshOf mesh))
 
 -- the readings of every face's slots, from the sound triangles and what was brought
 unfoldable pub framesFrom : List Face → List Triangle → List Brought → List (List Reading)

@@ -9,7 +9,7 @@ use Rattle.tangent.specs.declared.Reading.{Reading}
 use Rattle.definition.specs.declared.Corner.{Corner}
 use Rattle.definition.specs.declared.Kept.{Kept}
 use Rattle.definition.specs.declared.Triangle.{Triangle}
-use Rattle.definition.specs.Lists.{first}
+use Rattle.lists.specs.Lists.{first}
 use Rattle.definition.specs.Mesh.{Face, Spot, cornerOf, slotOf}
 use Rattle.definition.specs.Triangles.{usable, pieces, triangles}
 use Rattle.definition.specs.Step4Order.{sound, broken, spots}

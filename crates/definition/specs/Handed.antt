@@ -9,6 +9,28 @@ use Rattle.math.specs.declared.Vec3.{Vec3}
 use Rattle.math.specs.Vector.{vec}
 use Rattle.definition.specs.declared.Corner.{Corner}
 
+-- a mesh as it is handed in: 'a size for each face', positions and normals, three numbers a corner, and texture coordinates, two
+pub record Handed : Type 0 where
+  pub sizes : List ℕ
+  pub positions : List Float
+  pub normals : List Float
+  pub texture : List Float
+
+-- these lists as a mesh
+abbrev pub handed : List ℕ → List Float → List Float → List Float → Handed
+handed sizes ps ns ts = record { sizes = sizes; positions = ps; normals = ns; texture = ts }
+
+-- a call: a mesh, a threshold, and the answer list and the work list that are lent
+pub record Call : Type 0 where
+  pub mesh : Handed
+  pub threshold : Float
+  pub answer : List ℕ
+  pub work : List ℕ
+
+-- a call of these
+abbrev pub call : Handed → Float → List ℕ → List ℕ → Call
+call mesh h answer work = record { mesh = mesh; threshold = h; answer = answer; work = work }
+
 -- the three numbers of corner number i, of positions or normals. (Past a list's end there is a NaN; such lists are refused.)
 unfoldable pub vectorAt : List Float → ℕ → Vec3
 vectorAt xs i = vec (getD xs (i * 3) nan) (getD xs (i * 3 + 1) nan) (getD xs (i * 3 + 2) nan)
@@ -33,6 +55,10 @@ cornersFrom ps ns ts i (suc n) = cornerAt ps ns ts i ∷ cornersFrom ps ns ts (s
 unfoldable pub meshFrom : List Float → List Float → List Float → ℕ → List ℕ → List (List Corner)
 meshFrom ps ns ts i [] = []
 meshFrom ps ns ts i (n ∷ sizes) = cornersFrom ps ns ts i n ∷ meshFrom ps ns ts (i + n) sizes
+
+-- the faces of a mesh
+abbrev pub meshOf : Handed → List (List Corner)
+meshOf mesh = meshFrom (mesh .positions) (mesh .normals) (mesh .texture) 0 (mesh .sizes)
 
 -- the sizes that take slots: 3 and 4
 unfoldable pub used : ℕ → Bool

@@ -1,6 +1,6 @@
-pub mod Lists
 pub mod Limits
 pub mod Mesh
+pub mod Names
 pub mod Handed
 pub mod Step1Cut
 pub mod Step2Degenerate

@@ -8,3 +8,7 @@ faceLimit = 65536
 -- refusal 6 and acceptance: '128F' words of the work list
 abbrev pub workWords : ℕ
 workWords = 128
+
+-- the highest number of a refusal
+abbrev pub highestRefusal : ℕ
+highestRefusal = 6

@@ -3,14 +3,13 @@ use Prim.Native.Nat.{ℕ, _*_}
 use mathlib.Core.List.{List, _++_, flatMap}
 use mathlib.Core.Option.{Option, none, some}
 use lib.ListN.{length, drop, replicate}
-use lib.Ieee.{Float}
 use Rattle.tangent.specs.declared.Reading.{Reading}
 use Rattle.tangent.specs.Slot as slot
 use Rattle.tangent.specs.Slot.{slotWords}
 use Rattle.definition.specs.Limits.{workWords}
-use Rattle.definition.specs.Handed.{meshFrom, slotCount}
+use Rattle.definition.specs.Handed.{Call, meshOf, slotCount}
 use Rattle.definition.specs.Frames.{frames}
-use Rattle.definition.specs.Desk.{Row, verdict}
+use Rattle.definition.specs.Desk.{Row, atDesk, verdict}
 
 -- the words of all slots: 'Slots run by face, then by corner', each of them ten words
 unfoldable pub answerWords : List (List Reading) → List ℕ
@@ -25,14 +24,14 @@ pub record Result : Type 0 where
   pub work : List ℕ
 
 -- 'Acceptance returns 0, 0 and S, writes the first 10S answer words, sets the first 128F work words to zero and alters nothing past them'
-unfoldable pub accepted : List ℕ → List Float → List Float → List Float → Float → List ℕ → List ℕ → Result
-accepted sizes ps ns ts h answer work =
+unfoldable pub accepted : Call → Result
+accepted x =
     record {
       number = 0;
       place = 0;
-      slots = slotCount sizes;
-      answer = answerWords (frames h (meshFrom ps ns ts 0 sizes)) ++ drop (slotWords * slotCount sizes) answer;
-      work = replicate (workWords * length sizes) 0 ++ drop (workWords * length sizes) work;
+      slots = slotCount (x .mesh .sizes);
+      answer = answerWords (frames (x .threshold) (meshOf (x .mesh))) ++ drop (slotWords * slotCount (x .mesh .sizes)) (x .answer);
+      work = replicate (workWords * length (x .mesh .sizes)) 0 ++ drop (workWords * length (x .mesh .sizes)) (x .work);
     }
 
 -- 'A refusal returns its number, its place and a slot count of 0, and alters nothing'; without one the call is accepted
@@ -40,7 +39,6 @@ unfoldable pub answered : Option Row → Result → List ℕ → List ℕ → Re
 answered none taken answer work = taken
 answered (some r) taken answer work = record { number = r .number; place = r .place; slots = 0; answer = answer; work = work }
 
--- what a call leaves behind, from the lists handed in, the threshold and the two lent lists
-unfoldable pub outcome : List ℕ → List Float → List Float → List Float → Float → List ℕ → List ℕ → Result
-outcome sizes ps ns ts h answer work =
-    answered (verdict sizes ps ns ts h (length answer) (length work)) (accepted sizes ps ns ts h answer work) answer work
+-- what a call leaves behind
+unfoldable pub outcome : Call → Result
+outcome x = answered (verdict (atDesk x)) (accepted x) (x .answer) (x .work)

@@ -2,7 +2,7 @@
 use mathlib.Core.Bool.{Bool, true, false}
 use mathlib.Core.List.{List, [], _∷_, flatMap}
 use Rattle.definition.specs.declared.Corner.{Corner}
-use Rattle.definition.specs.Lists.{has}
+use Rattle.lists.specs.Lists.{has}
 use Rattle.definition.specs.Triangles.{usable}
 use Rattle.definition.specs.Step4Order.{welded}
 

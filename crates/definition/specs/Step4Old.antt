@@ -14,7 +14,7 @@ use Rattle.math.specs.Vector.{equals, vec}
 use Rattle.definition.specs.declared.Corner.{Corner}
 use Rattle.definition.specs.declared.Kept.{Kept}
 use Rattle.definition.specs.declared.Triangle.{Triangle}
-use Rattle.definition.specs.Lists.{first, run}
+use Rattle.lists.specs.Lists.{first, run}
 use Rattle.definition.specs.Mesh.{Third, one, two, three, Spot, cornerOf, slotOf}
 use Rattle.definition.specs.Step4Order.{ordered}
 use Rattle.definition.specs.Step5Sorted.{sortedBy}

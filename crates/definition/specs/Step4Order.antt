@@ -8,7 +8,7 @@ use Rattle.bits.specs.Word.{word}
 use Rattle.math.specs.declared.Vec3.{Vec3}
 use Rattle.definition.specs.declared.Corner.{Corner}
 use Rattle.definition.specs.declared.Triangle.{Triangle}
-use Rattle.definition.specs.Lists.{keep, first}
+use Rattle.lists.specs.Lists.{keep, first}
 use Rattle.definition.specs.Mesh.{one, two, three, Spot, cornerOf}
 
 -- a triangle that isn't degenerate

@@ -4,7 +4,7 @@ use mathlib.Core.List.{List, [], _∷_}
 use mathlib.Core.Option.{Option, none, some}
 use Rattle.definition.specs.declared.Corner.{Corner}
 use Rattle.definition.specs.declared.Triangle.{Triangle}
-use Rattle.definition.specs.Lists.{first, has}
+use Rattle.lists.specs.Lists.{first, has}
 use Rattle.definition.specs.Mesh.{Spot, next, cornerOf, sameSpot}
 use Rattle.definition.specs.Step4Order.{spots, welded}
 

@@ -6,7 +6,7 @@ use mathlib.Core.Option.{Option, none, some}
 use lib.ListN.{length}
 use Rattle.definition.specs.declared.Corner.{Corner}
 use Rattle.definition.specs.declared.Triangle.{Triangle}
-use Rattle.definition.specs.Lists.{keep, first, has, run}
+use Rattle.lists.specs.Lists.{keep, first, has, run}
 use Rattle.definition.specs.Mesh.{Spot, prior, cornerOf, sameTriangle, sameSpot}
 use Rattle.definition.specs.Step4Order.{spots, welded}
 use Rattle.definition.specs.Step5Links.{Link, beyond}

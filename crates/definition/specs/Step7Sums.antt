@@ -15,7 +15,7 @@ use Rattle.tangent.specs.Space.{zeroTangent}
 use Rattle.definition.specs.declared.Corner.{Corner}
 use Rattle.definition.specs.declared.Triangle.{Triangle}
 use Rattle.definition.specs.declared.Sum.{Sum}
-use Rattle.definition.specs.Lists.{keep, has, run}
+use Rattle.lists.specs.Lists.{keep, has, run}
 use Rattle.definition.specs.Mesh.{Spot, next, prior, cornerOf, slotOf, sameTriangle}
 use Rattle.definition.specs.Step6Groups.{Mark, members, cornerIn}
 

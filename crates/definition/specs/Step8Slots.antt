@@ -6,7 +6,7 @@ use lib.Dec.{eqb}
 use Rattle.tangent.specs.declared.Reading.{Reading}
 use Rattle.tangent.specs.declared.Reading.the-variants.{Absent}
 use Rattle.tangent.specs.Space.{reached}
-use Rattle.definition.specs.Lists.{keep, run}
+use Rattle.lists.specs.Lists.{keep, run}
 use Rattle.definition.specs.Step7Sums.{Brought}
 
 -- a slot reached once more, by what is brought

@@ -2,6 +2,11 @@
 use math::Vec3;
 use tangent::RawTangentSpace;
 
+// The numbers of specs/Limits.antt: the greatest number of faces that is accepted, and the words of work that a face needs.
+pub const FACE_LIMIT: usize = 65536;
+
+pub const WORK_WORDS: usize = 128;
+
 // A corner: its position, its normal, its texture coordinates; and its tag: 0 in edition 1, in edition 2 what step 4 merges it with.
 pub struct Corner {
     pub place: Vec3,

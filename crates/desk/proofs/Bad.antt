@@ -21,20 +21,20 @@ one-less n = omega arith
 module _ (ps ns ts : List Float) where
   -- the lowest of n corners from number i on
   abbrev pub lowest : ℕ → ℕ → Option ℕ
-  lowest i n = badIn i (cornersFrom ps ns ts i n)
+  lowest i n = badIn finiteCorner i (cornersFrom ps ns ts i n)
 
   -- ---- one corner after the other
   pub none-left : (i : ℕ) → lowest i 0 ≡ none
-  unfolding badIn cornersFrom
+  unfolding badIn finiteCorner cornersFrom
   none-left i = refl
 
   pub bad-here : (i n : ℕ) → 0 < n → finiteCorner (cornerAt ps ns ts i) ≡ false → lowest i n ≡ some i
-  unfolding badIn cornersFrom
+  unfolding badIn finiteCorner cornersFrom
   bad-here i zero h e = absurd (omega arith)
   bad-here i (suc n) h e = rw (e)
 
   pub bad-later : (i n : ℕ) → 0 < n → finiteCorner (cornerAt ps ns ts i) ≡ true → lowest (i + 1) (n - 1) ≡ lowest i n
-  unfolding badIn cornersFrom
+  unfolding badIn finiteCorner cornersFrom
   bad-later i zero h e = absurd (omega arith)
   bad-later i (suc n) h e = rw (e, add-one i, one-less n)
 
@@ -49,14 +49,14 @@ module _ (ps ns ts : List Float) where
   inFace i n = cond (used n) (lowest i n) none
 
   abbrev pub inFaces : ℕ → List ℕ → Option ℕ
-  inFaces i sizes = badCorner i (meshFrom ps ns ts i sizes)
+  inFaces i sizes = badCorner finiteCorner i (meshFrom ps ns ts i sizes)
 
   pub no-face : (i : ℕ) → inFaces i [] ≡ none
-  unfolding badCorner meshFrom
+  unfolding badCorner finiteCorner meshFrom
   no-face i = refl
 
   pub face-first : (i n : ℕ) (sizes : List ℕ) → inFaces i (n ∷ sizes) ≡ orElse (inFace i n) (inFaces (i + n) sizes)
-  unfolding badCorner meshFrom
+  unfolding badCorner finiteCorner meshFrom
   face-first i n sizes = rw (corners-length i n)
 
 -- ---- a face of no slots

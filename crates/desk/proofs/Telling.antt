@@ -2,57 +2,45 @@
 use Prim.Native.Nat.{ℕ, _*_, _≤_, _<_}
 use mathlib.Core.Path.{_≡_, refl}
 use mathlib.Core.Bool.{Bool, true, false, cond}
-use mathlib.Core.List.{List}
 use mathlib.Core.Option.{Option, none, some}
 use lib.Dec.{ltb}
 use borrow.Author.Tests.{lt-ltb, le-ltb}
 use lib.ListN.{length}
-use lib.Ieee.{Float}
 use Rattle.bits.specs.Word.{isFinite}
 use Rattle.tangent.specs.Slot.{slotWords}
-use Rattle.definition.specs.Limits.{workWords}
-use Rattle.definition.specs.Lists.{first}
-use Rattle.definition.specs.Handed.{meshFrom, cornerCount, slotCount}
-use Rattle.definition.specs.Desk.{tooMany, unfit, misfit, badCorner, isThere, orZero, table, verdict}
+use Rattle.lists.specs.Lists.{first}
+use Rattle.definition.specs.Limits.{faceLimit, workWords}
+use Rattle.definition.specs.Handed.{cornerCount, slotCount}
+use Rattle.definition.specs.Desk.{Shown, tooMany, unfit, misfit, notFinite, isThere, orZero, table, verdict}
 use Rattle.desk.specs.declared.Verdict.{Verdict}
 use Rattle.desk.specs.Verdict.{said, told, lentNumber}
 
--- what the desk is asked about
-pub record Asked : Type 0 where
-  pub sizes : List ℕ
-  pub ps : List Float
-  pub ns : List Float
-  pub ts : List Float
-  pub h : Float
-  pub answer : ℕ
-  pub work : ℕ
-
-module _ (q : Asked) where
+module _ (x : Shown) where
   -- ---- what the rows say
   abbrev pub IsMany : Bool → Type 0
-  IsMany b = tooMany (q .sizes) ≡ b
+  IsMany b = tooMany (x .mesh .sizes) ≡ b
 
   abbrev pub IsMisfit : Bool → Type 0
-  IsMisfit b = misfit (q .sizes) (q .ps) (q .ns) (q .ts) ≡ b
+  IsMisfit b = misfit (x .mesh) ≡ b
 
   abbrev pub IsFinite : Bool → Type 0
-  IsFinite b = isFinite (q .h) ≡ b
+  IsFinite b = isFinite (x .threshold) ≡ b
 
   abbrev pub Lowest : Option ℕ → Type 0
-  Lowest o = badCorner 0 (meshFrom (q .ps) (q .ns) (q .ts) 0 (q .sizes)) ≡ o
+  Lowest o = notFinite (x .mesh) ≡ o
 
   abbrev Told : Verdict → Type 0
-  Told v = v ≡ told (verdict (q .sizes) (q .ps) (q .ns) (q .ts) (q .h) (q .answer) (q .work))
+  Told v = v ≡ told (verdict x)
 
-  pub many : 65536 < length (q .sizes) → IsMany true
+  pub many : faceLimit < length (x .mesh .sizes) → IsMany true
   unfolding tooMany
-  many l = lt-ltb 65536 (length (q .sizes)) l
+  many l = lt-ltb faceLimit (length (x .mesh .sizes)) l
 
-  pub few : length (q .sizes) ≤ 65536 → IsMany false
+  pub few : length (x .mesh .sizes) ≤ faceLimit → IsMany false
   unfolding tooMany
-  few l = le-ltb 65536 (length (q .sizes)) l
+  few l = le-ltb faceLimit (length (x .mesh .sizes)) l
 
-  pub fits : (n : ℕ) → n ≡ cornerCount (q .sizes) → misfit (q .sizes) (q .ps) (q .ns) (q .ts) ≡ unfit n (length (q .ps)) (length (q .ns)) (length (q .ts))
+  pub fits : (n : ℕ) → n ≡ cornerCount (x .mesh .sizes) → misfit (x .mesh) ≡ unfit n (length (x .mesh .positions)) (length (x .mesh .normals)) (length (x .mesh .texture))
   unfolding misfit
   fits n e = rw (e)
 
@@ -73,9 +61,9 @@ module _ (q : Asked) where
   unfolding told verdict table first isThere orZero
   row4 m f t i b = rw (m, f, t, b)
 
-  pub rows56 : IsMany false → IsMisfit false → IsFinite true → Lowest none → Told (said (lentNumber (slotCount (q .sizes)) (length (q .sizes)) (q .answer) (q .work)) 0)
+  pub rows56 : IsMany false → IsMisfit false → IsFinite true → Lowest none → Told (said (lentNumber (slotCount (x .mesh .sizes)) (length (x .mesh .sizes)) (x .answer) (x .work)) 0)
   unfolding told verdict table first isThere orZero lentNumber
-  rows56 m f t b = rw (m, f, t, b) (last (ltb (q .answer) (slotWords * slotCount (q .sizes))) (ltb (q .work) (workWords * length (q .sizes))))
+  rows56 m f t b = rw (m, f, t, b) (last (ltb (x .answer) (slotWords * slotCount (x .mesh .sizes))) (ltb (x .work) (workWords * length (x .mesh .sizes))))
     where
       last : (a w : Bool) → said (cond a 5 (cond w 6 0)) 0 ≡ told (cond a (some (record { number = 5; applies = a; place = 0 })) (cond w (some (record { number = 6; applies = w; place = 0 })) none))
       last true w = unfold told in refl

@@ -4,8 +4,9 @@ ghost use mathlib.Core.Bool.{cond};
 ghost use mathlib.Core.Option.{none};
 ghost use Prim.Native.Nat.{_+_, _*_, _≤_, _<_, _^_};
 ghost use lib.ListN.{length};
+ghost use Rattle.definition.specs.Desk.{shown, finiteCorner};
 ghost use Rattle.definition.specs.Desk as desk;
-ghost use Rattle.definition.specs.Handed.{cornersFrom, meshFrom, used, cornerCount, slotCount};
+ghost use Rattle.definition.specs.Handed.{handed, cornersFrom, used, cornerCount, slotCount};
 ghost use Rattle.definition.specs.Limits.{faceLimit};
 ghost use Rattle.desk.specs.Verdict as spec;
 use definition::Corner;
@@ -57,7 +58,7 @@ fn finite_corner(c: Corner) -> bool
 // The lowest of count corners from number from on that holds a NaN or infinity.
 fn bad_in(positions: &[f32], normals: &[f32], texture: &[f32], from: u32, count: u32) -> Found
     requires { ⌜ from + count < 2 ^ 32 ⌝ }
-    ensures { λ r. ⌜ r ≡ spec.found (desk.badIn from (cornersFrom (now (positions .entry)) (now (normals .entry)) (now (texture .entry)) from count)) ⌝ }
+    ensures { λ r. ⌜ r ≡ spec.found (desk.badIn finiteCorner from (cornersFrom (now (positions .entry)) (now (normals .entry)) (now (texture .entry)) from count)) ⌝ }
 {
     let mut i = from;
     let mut left = count;
@@ -74,7 +75,7 @@ fn bad_in(positions: &[f32], normals: &[f32], texture: &[f32], from: u32, count:
 // The same of a face of a size, which counts only if it is 3 or 4.
 fn bad_face(positions: &[f32], normals: &[f32], texture: &[f32], from: u32, size: u8) -> Found
     requires { ⌜ from + size < 2 ^ 32 ⌝ }
-    ensures { λ r. ⌜ r ≡ spec.found (cond (used size) (desk.badIn from (cornersFrom (now (positions .entry)) (now (normals .entry)) (now (texture .entry)) from size)) none) ⌝ }
+    ensures { λ r. ⌜ r ≡ spec.found (cond (used size) (desk.badIn finiteCorner from (cornersFrom (now (positions .entry)) (now (normals .entry)) (now (texture .entry)) from size)) none) ⌝ }
 {
     if mesh::slots_of(size) == 0 {
         return Found::Nothing;
@@ -92,7 +93,7 @@ fn bad_by_now(
     size: u8,
 ) -> Found
     requires { ⌜ from + size < 2 ^ 32 ⌝ }
-    ensures { λ r. ⌜ r ≡ spec.found (spec.unlessFound bad (cond (used size) (desk.badIn from (cornersFrom (now (positions .entry)) (now (normals .entry)) (now (texture .entry)) from size)) none)) ⌝ }
+    ensures { λ r. ⌜ r ≡ spec.found (spec.unlessFound bad (cond (used size) (desk.badIn finiteCorner from (cornersFrom (now (positions .entry)) (now (normals .entry)) (now (texture .entry)) from size)) none)) ⌝ }
 {
     if let Found::At(i) = bad {
         return Found::At(i);
@@ -103,7 +104,7 @@ fn bad_by_now(
 // One pass over all lists: C, S, and the lowest such corner of all faces of 3 or 4, counted over all C. C is at most 255 * 65,536, so no sum overflows.
 fn look_over(sizes: &[u8], positions: &[f32], normals: &[f32], texture: &[f32]) -> Seen
     requires { ⌜ length (now sizes) ≤ faceLimit ⌝ }
-    ensures { λ r. ⌜ (r .corners ≡ cornerCount (now (sizes .entry))) × (r .slots ≡ slotCount (now (sizes .entry))) × (r .bad ≡ spec.found (desk.badCorner 0 (meshFrom (now (positions .entry)) (now (normals .entry)) (now (texture .entry)) 0 (now (sizes .entry))))) ⌝ }
+    ensures { λ r. ⌜ (r .corners ≡ cornerCount (now (sizes .entry))) × (r .slots ≡ slotCount (now (sizes .entry))) × (r .bad ≡ spec.found (desk.notFinite (handed (now (sizes .entry)) (now (positions .entry)) (now (normals .entry)) (now (texture .entry))))) ⌝ }
 {
     let mut corners: u32 = 0;
     let mut slots: u32 = 0;
@@ -123,29 +124,15 @@ fn look_over(sizes: &[u8], positions: &[f32], normals: &[f32], texture: &[f32]) 
     }
 }
 
-// Whether refusal 2 applies, for so many corners and lists of these lengths.
-fn unfit(corners: u32, positions: usize, normals: usize, texture: usize) -> bool
-    ensures { λ r. ⌜ r ≡ desk.unfit corners positions normals texture ⌝ }
-{
-    let triple = 3 * (corners as usize);
-    if positions != triple {
-        return true;
-    }
-    if normals != triple {
-        return true;
-    }
-    texture != 2 * (corners as usize)
-}
-
 // Refusals 5 and 6 for so many slots, and 0 where neither applies.
 fn lent(sizes: &[u8], slots: u32, answer: usize, work: usize) -> u32
     requires { ⌜ length (now sizes) ≤ faceLimit ⌝ }
     ensures { λ r. ⌜ r ≡ spec.lentNumber slots (length (now (sizes .entry))) answer work ⌝ }
 {
-    if answer < 10 * (slots as usize) {
+    if answer < tangent::SLOT_WORDS * (slots as usize) {
         return 5;
     }
-    if work < 128 * sizes.len() {
+    if work < definition::WORK_WORDS * sizes.len() {
         return 6;
     }
     0
@@ -168,13 +155,13 @@ pub fn judge(
     answer: usize,
     work: usize,
 ) -> Verdict
-    ensures { λ r. ⌜ r ≡ spec.told (desk.verdict (now (sizes .entry)) (now (positions .entry)) (now (normals .entry)) (now (texture .entry)) threshold answer work) ⌝ }
+    ensures { λ r. ⌜ r ≡ spec.told (desk.verdict (shown (handed (now (sizes .entry)) (now (positions .entry)) (now (normals .entry)) (now (texture .entry))) threshold answer work)) ⌝ }
 {
-    if 65536 < sizes.len() {
+    if definition::FACE_LIMIT < sizes.len() {
         return said(1, 0);
     }
     let seen = look_over(sizes, positions, normals, texture);
-    if unfit(seen.corners, positions.len(), normals.len(), texture.len()) {
+    if mesh::unfit(seen.corners, positions.len(), normals.len(), texture.len()) {
         return said(2, 0);
     }
     if !bits::is_finite(threshold) {

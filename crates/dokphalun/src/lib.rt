@@ -1,5 +1,7 @@
 // The archive: the public calls for programs in other languages. `rt staticlib dokphalun` writes libdokphalun.a.
 // A list is handed over as a pointer to its first element and a number of elements.
+ghost use Rattle.definition.specs.Handed.{call, handed};
+ghost use mathlib.Core.Path.{_≡_};
 ghost use Rattle.mikktspace.specs.Contract.{Contract};
 ghost use Rattle.labels.specs.Labels.{Labels};
 ghost use Rattle.apart.specs.Call.{lists, Contract as Islands};
@@ -7,16 +9,40 @@ ghost use Rattle.appends.specs.Contract.{Follows, Appends};
 ghost use Rattle.cards.specs.Contract.{Writes, Reads};
 ghost use Rattle.packed.specs.Contract.{Packs, Unpacks};
 ghost use Rattle.examine.specs.Contract.{Examines, Hands};
+ghost use Rattle.tangent.specs.Slot.{slotWords};
+ghost use Rattle.dokphalun.specs.Interface.{interfaceEdition};
 use appends::Appended;
 use appends::Next;
-use cards::Found;
+use cards::CardFound;
 use cards::Written;
 use examine::Examined;
-use examine::Handed;
+use examine::Owned;
 use labels::Labelled;
 use mikktspace::Outcome;
 use packed::Packed;
 use packed::Unpacked;
+
+// The words of a slot.
+const SLOT_WORDS: u32 = tangent::SLOT_WORDS as u32;
+
+// The edition of the interface.
+const INTERFACE: u32 = 1;
+
+// How many words a slot has.
+#[no_mangle]
+pub extern "C" fn dokphalun_slot_words() -> u32
+    ensures { λ r. ⌜ r ≡ slotWords ⌝ }
+{
+    SLOT_WORDS
+}
+
+// Which edition of the interface this is: a program that was made for another has to refuse it.
+#[no_mangle]
+pub extern "C" fn dokphalun_interface() -> u32
+    ensures { λ r. ⌜ r ≡ interfaceEdition ⌝ }
+{
+    INTERFACE
+}
 
 // See mikktspace::generate_tangent_space.
 #[no_mangle]
@@ -29,7 +55,7 @@ pub extern "C" fn dokphalun_frames(
     answer: &mut [u32],
     work: &mut [u32],
 ) -> Outcome
-    ensures { λ r. ⌜ Contract (now (sizes .entry)) (now (positions .entry)) (now (normals .entry)) (now (texture .entry)) threshold (now (answer .entry)) (now (work .entry)) r (now (answer .exit)) (now (work .exit)) ⌝ }
+    ensures { λ r. ⌜ Contract (call (handed (now (sizes .entry)) (now (positions .entry)) (now (normals .entry)) (now (texture .entry))) threshold (now (answer .entry)) (now (work .entry))) r (now (answer .exit)) (now (work .exit)) ⌝ }
 {
     mikktspace::generate_tangent_space(sizes, positions, normals, texture, threshold, answer, work)
 }
@@ -40,13 +66,13 @@ pub extern "C" fn dokphalun_labels(
     sizes: &[u8],
     positions: &[f32],
     normals: &[f32],
-    coordinates: &[f32],
+    texture: &[f32],
     labels: &mut [u32],
     work: &mut [u32],
 ) -> Labelled
-    ensures { λ r. ⌜ Labels (now (sizes .entry)) (now (positions .entry)) (now (normals .entry)) (now (coordinates .entry)) (now (labels .entry)) (now (work .entry)) r (now (labels .exit)) (now (work .exit)) ⌝ }
+    ensures { λ r. ⌜ Labels (handed (now (sizes .entry)) (now (positions .entry)) (now (normals .entry)) (now (texture .entry))) (now (labels .entry)) (now (work .entry)) r (now (labels .exit)) (now (work .exit)) ⌝ }
 {
-    labels::label_faces(sizes, positions, normals, coordinates, labels, work)
+    labels::label_faces(sizes, positions, normals, texture, labels, work)
 }
 
 // See apart::frames_by_islands.
@@ -55,7 +81,7 @@ pub extern "C" fn dokphalun_frames_by_islands(
     sizes: &[u8],
     positions: &[f32],
     normals: &[f32],
-    coordinates: &[f32],
+    texture: &[f32],
     threshold: f32,
     answer: &mut [u32],
     work: &mut [u32],
@@ -65,13 +91,13 @@ pub extern "C" fn dokphalun_frames_by_islands(
     own_numbers: &mut [f32],
     own_frames: &mut [u32],
 ) -> Outcome
-    ensures { λ r. ⌜ Islands (now (sizes .entry)) (now (positions .entry)) (now (normals .entry)) (now (coordinates .entry)) threshold (now (answer .entry)) (now (work .entry)) (lists (now (labels .entry)) (now (chains .entry)) (now («own_sizes» .entry)) (now («own_numbers» .entry)) (now («own_frames» .entry))) r (now (answer .exit)) (now (work .exit)) (lists (now (labels .exit)) (now (chains .exit)) (now («own_sizes» .exit)) (now («own_numbers» .exit)) (now («own_frames» .exit))) ⌝ }
+    ensures { λ r. ⌜ Islands (call (handed (now (sizes .entry)) (now (positions .entry)) (now (normals .entry)) (now (texture .entry))) threshold (now (answer .entry)) (now (work .entry))) (lists (now (labels .entry)) (now (chains .entry)) (now («own_sizes» .entry)) (now («own_numbers» .entry)) (now («own_frames» .entry))) r (now (answer .exit)) (now (work .exit)) (lists (now (labels .exit)) (now (chains .exit)) (now («own_sizes» .exit)) (now («own_numbers» .exit)) (now («own_frames» .exit))) ⌝ }
 {
     apart::frames_by_islands(
         sizes,
         positions,
         normals,
-        coordinates,
+        texture,
         threshold,
         answer,
         work,
@@ -93,7 +119,7 @@ pub extern "C" fn dokphalun_card_write(answer: &[u32], card: &mut [u8]) -> Writt
 
 // See cards::read.
 #[no_mangle]
-pub extern "C" fn dokphalun_card_read(card: &[u8], total: u32, answer: &mut [u32]) -> Found
+pub extern "C" fn dokphalun_card_read(card: &[u8], total: u32, answer: &mut [u32]) -> CardFound
     ensures { λ r. ⌜ Reads (now (card .entry)) total (now (answer .entry)) r (now (answer .exit)) ⌝ }
 {
     cards::read(card, total, answer)
@@ -148,7 +174,7 @@ pub extern "C" fn dokphalun_examine(
     orientations: &[u32],
     work: &mut [u32],
 ) -> Examined
-    ensures { λ r. ⌜ Examines (now (sizes .entry)) (now (positions .entry)) (now (normals .entry)) (now (texture .entry)) (now (links .entry)) (now (groups .entry)) (now (orientations .entry)) (now (work .entry)) r (now (work .exit)) ⌝ }
+    ensures { λ r. ⌜ Examines (handed (now (sizes .entry)) (now (positions .entry)) (now (normals .entry)) (now (texture .entry))) (now (links .entry)) (now (groups .entry)) (now (orientations .entry)) (now (work .entry)) r (now (work .exit)) ⌝ }
 {
     examine::examine(
         sizes,
@@ -173,8 +199,8 @@ pub extern "C" fn dokphalun_links(
     groups: &mut [u32],
     orientations: &mut [u32],
     work: &mut [u32],
-) -> Handed
-    ensures { λ r. ⌜ Hands (now (sizes .entry)) (now (positions .entry)) (now (normals .entry)) (now (texture .entry)) (now (links .entry)) (now (groups .entry)) (now (orientations .entry)) (now (work .entry)) r (now (links .exit)) (now (groups .exit)) (now (orientations .exit)) (now (work .exit)) ⌝ }
+) -> Owned
+    ensures { λ r. ⌜ Hands (handed (now (sizes .entry)) (now (positions .entry)) (now (normals .entry)) (now (texture .entry))) (now (links .entry)) (now (groups .entry)) (now (orientations .entry)) (now (work .entry)) r (now (links .exit)) (now (groups .exit)) (now (orientations .exit)) (now (work .exit)) ⌝ }
 {
     examine::own_links(
         sizes,

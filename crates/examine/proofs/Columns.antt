@@ -7,15 +7,15 @@ use mathlib.Core.List.{List, _++_}
 use mathlib.Core.Option.{none}
 use lib.ListN.{length, getD, drop, replicate, length-append, List·getD-append}
 use lib.Seq.{drop-drop}
-use lib.Ieee.{Float}
 use borrow.Author.Tests.{eq-eqb, eqb-true}
+use Rattle.definition.specs.Frames.{trianglesOf}
 use Rattle.tangent.specs.Slot.{flag}
 use Rattle.table.specs.Table.{cell}
 use Rattle.table.specs.Columns.{columns, rowsOf, orientationColumn, anyColumn, vertexColumn}
+use Rattle.definition.specs.Handed.{Handed}
 use Rattle.definition.specs.declared.Triangle.{Triangle}
 use Rattle.definition.specs.Limits.{workWords}
-use Rattle.definition.specs.Handed.{meshFrom}
-use Rattle.definition.specs.Desk.{badCorner}
+use Rattle.definition.specs.Desk.{notFinite}
 use Rattle.definition.specs.Mesh.{Third, after}
 use Rattle.definition.specs.Step4Order.{sound, broken}
 use Rattle.neighbors.specs.Sides.{endRow}
@@ -25,8 +25,8 @@ use Rattle.view.specs.Weld.{Welds}
 use Rattle.view.specs.Links.{Five}
 use Rattle.view.proofs.Rows.{row-is, tri-lt}
 use Rattle.view.proofs.Weld.{welds, sound-welds}
-use Rattle.linked.specs.Links.{Left}
-use Rattle.grouped.specs.declared.Counts.{Counts}
+use Rattle.grouped.specs.Links.{LeftByFive}
+use Rattle.grouped.specs.declared.MeshCounts.{MeshCounts}
 use Rattle.grouped.specs.Grouped as grouped
 use Rattle.asked.specs.Lowest.{Verdict}
 use Rattle.asked.specs.Links.{Equal}
@@ -36,7 +36,7 @@ use Rattle.asked.proofs.Likes.{applies-like}
 use Rattle.asked.proofs.Stages.{verdict-like}
 use Rattle.fellows.specs.Fellows.{told}
 use Rattle.examine.specs.Deciding.{Overall}
-use Rattle.examine.specs.Contract.{trianglesOf, soundOf, clearedFor, Decides}
+use Rattle.examine.specs.Contract.{soundOf, clearedFor, Decides}
 
 -- the work list is as it was past what is cleared
 pub cleared : (sizes w z y : List ℕ) → drop (columns * rowsOf (length sizes)) z ≡ drop (columns * rowsOf (length sizes)) w → y ≡ clearedFor sizes z → y ≡ clearedFor sizes w
@@ -50,11 +50,11 @@ cleared sizes w z y past e =
 sound-fit : (xs : List Triangle) (n rows : ℕ) → n ≡ length (sound xs) → 3 * length (sound xs ++ broken xs) ≤ rows → 3 * n ≤ rows
 sound-fit xs n rows e h = omega (arith, length-append (sound xs) (broken xs))
 
-pub linked-fit : (sizes : List ℕ) (ps ns ts : List Float) (xs : List Triangle) (n m : ℕ) (w u : List ℕ) → Left sizes ps ns ts xs n m w u → 3 * n ≤ rowsOf (length sizes)
-linked-fit sizes ps ns ts xs n m w u K = sound-fit xs n (rowsOf (length sizes)) (K .sound-count) (K .fits)
+pub linked-fit : (mesh : Handed) (n m : ℕ) (w u : List ℕ) → LeftByFive mesh n m w u → 3 * n ≤ rowsOf (length (mesh .sizes))
+linked-fit mesh n m w u K = sound-fit (trianglesOf mesh) n (rowsOf (length (mesh .sizes))) (K .sound-count) (K .fits)
 
-pub grouped-fit : (sizes : List ℕ) (ps ns ts : List Float) (xs : List Triangle) (c : Counts) (w u : List ℕ) → grouped.Left sizes ps ns ts xs c w u → 3 * c .sound ≤ rowsOf (length sizes)
-grouped-fit sizes ps ns ts xs c w u K = sound-fit xs (c .sound) (rowsOf (length sizes)) (K .sound-count) (K .fits)
+pub grouped-fit : (mesh : Handed) (c : MeshCounts) (w u : List ℕ) → grouped.LeftBySix mesh c w u → 3 * c .sound ≤ rowsOf (length (mesh .sizes))
+grouped-fit mesh c w u K = sound-fit (trianglesOf mesh) (c .sound) (rowsOf (length (mesh .sizes))) (K .sound-count) (K .fits)
 
 -- ---- the triangles in the columns
 
@@ -69,7 +69,7 @@ module _ (rows : ℕ) (ss : List Triangle) (d : Triangle) (u : List ℕ) (W : We
       ap (λ (x : ℕ). cell rows vertexColumn x u) (sym (row-is r))
       ∙ (eqb-true _ _ (W (r / 3) (q / 3) (third (r % 3)) (third (q % 3)) (tri-lt r (length ss) h) (tri-lt q (length ss) k) ∙ s) ∙ ap (λ (x : ℕ). cell rows vertexColumn x u) (row-is q))
 
-module _ (rows : ℕ) (sizes : List ℕ) (ps ns ts : List Float) (xs : List Triangle) (d : Triangle) (u : List ℕ) (five : Five rows sizes ps ns ts xs d u) where
+module _ (rows : ℕ) (mesh : Handed) (xs : List Triangle) (d : Triangle) (u : List ℕ) (five : Five rows mesh xs d u) where
   abbrev ss : List Triangle
   ss = sound xs
 
@@ -104,13 +104,13 @@ module _ (rows : ℕ) (sizes : List ℕ) (ps ns ts : List Float) (xs : List Tria
       (applies-like (length ss) (Same ss d) (Equal vertex) L (from-same rows ss d u words) (to-same rows ss d u words) (anyOf ss d) (λ t. cell rows anyColumn t u) (wayOf ss d) (λ t. cell rows orientationColumn t u) G O (λ t h. sym (any-is t h)) (λ t h. sym (way-is t h)))
       number place
 
-pub decides : (sizes : List ℕ) (ps ns ts : List Float) (n m : ℕ) (w u L G O : List ℕ) (number place : ℕ) → Left sizes ps ns ts (trianglesOf sizes ps ns ts) n m w u → badCorner 0 (meshFrom ps ns ts 0 sizes) ≡ none → Overall (rowsOf (length sizes)) n u L G O number place → Decides (soundOf sizes ps ns ts) L G O number place
-decides sizes ps ns ts n m w u L G O number place K good R =
-    let rows = rowsOf (length sizes) in
+pub decides : (mesh : Handed) (n m : ℕ) (w u L G O : List ℕ) (number place : ℕ) → LeftByFive mesh n m w u → notFinite mesh ≡ none → Overall (rowsOf (length (mesh .sizes))) n u L G O number place → Decides (soundOf mesh) L G O number place
+decides mesh n m w u L G O number place K good R =
+    let rows = rowsOf (length (mesh .sizes)) in
     record {
-      verdict = λ d. verdict-is rows sizes ps ns ts (trianglesOf sizes ps ns ts) d u (K .stands good d) L G O number place (subst (λ (x : ℕ). Verdict (told rows x u L G O) 13 number place) (K .sound-count) (R .verdict));
+      verdict = λ d. verdict-is rows mesh (trianglesOf mesh) d u (K .stands good d) L G O number place (subst (λ (x : ℕ). Verdict (told rows x u L G O) 13 number place) (K .sound-count) (R .verdict));
       connected = λ e. subst (λ (x : ℕ). Connected x L G) (K .sound-count) (R .connected e);
     }
 
-pub sharp-left : (sizes : List ℕ) (ps ns ts : List Float) (d : Triangle) (n m : ℕ) (w u : List ℕ) → Left sizes ps ns ts (trianglesOf sizes ps ns ts) n m w u → badCorner 0 (meshFrom ps ns ts 0 sizes) ≡ none → (r : ℕ) → r < 3 * n → cell (rowsOf (length sizes)) vertexColumn r u ≡ cell (rowsOf (length sizes)) vertexColumn (endRow r) u → ⊥
-sharp-left sizes ps ns ts d n m w u K good r h = sharp-rows (rowsOf (length sizes)) sizes ps ns ts (trianglesOf sizes ps ns ts) d u (K .stands good d) r (subst (λ (x : ℕ). r < 3 * x) (K .sound-count) h)
+pub sharp-left : (mesh : Handed) (d : Triangle) (n m : ℕ) (w u : List ℕ) → LeftByFive mesh n m w u → notFinite mesh ≡ none → (r : ℕ) → r < 3 * n → cell (rowsOf (length (mesh .sizes))) vertexColumn r u ≡ cell (rowsOf (length (mesh .sizes))) vertexColumn (endRow r) u → ⊥
+sharp-left mesh d n m w u K good r h = sharp-rows (rowsOf (length (mesh .sizes))) mesh (trianglesOf mesh) d u (K .stands good d) r (subst (λ (x : ℕ). r < 3 * x) (K .sound-count) h)

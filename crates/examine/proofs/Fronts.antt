@@ -5,8 +5,8 @@ use mathlib.Core.Path.{_≡_, refl, sym, ap, _∙_}
 use mathlib.Core.List.{List, _++_}
 use lib.ListN.{length, set, take, drop}
 use lib.Seq.{sets, sets-eq, take-append-seam}
-use Rattle.table.specs.Loop.{listOf}
-use Rattle.table.proofs.Loops.{length-listOf}
+use Rattle.lists.specs.Loops.{listOf}
+use Rattle.lists.proofs.Loops.{length-listOf}
 use Rattle.table.proofs.Laws.{fill-none, fill-more}
 
 pub front-none : (h : ℕ → ℕ) (w : List ℕ) → w ≡ sets w 0 (listOf 0 h)

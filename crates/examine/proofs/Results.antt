@@ -6,13 +6,13 @@ use mathlib.Core.List.{List}
 use mathlib.Core.Option.{Option, none, some, Option·some-injective, Option·none-ne-some}
 use lib.Dec.{ltb}
 use lib.ListN.{length}
-use lib.Ieee.{Float}
 use borrow.Author.Tests.{ltb-false}
+use Rattle.definition.specs.Handed.{Handed}
 use Rattle.definition.specs.Desk.{Row}
 use Rattle.desk.specs.declared.Verdict.{Verdict}
 use Rattle.desk.specs.Verdict.{told}
 use Rattle.examine.specs.declared.Examined.{Examined}
-use Rattle.examine.specs.declared.Handed.{Handed}
+use Rattle.examine.specs.declared.Owned.{Owned}
 use Rattle.examine.specs.Contract.{refusal, tooShort, Refused, Decided, Examines, Withheld, Given, Hands}
 
 -- the desk's number and place where there is a refusal
@@ -30,23 +30,23 @@ pub not-none : (o : Option Row) (j : Verdict) → j ≡ told o → (j .number �
 unfolding told
 not-none o j e ne n = ne (ap (λ (v : Verdict). v .number) (e ∙ ap told n))
 
-module _ (sizes : List ℕ) (ps ns ts : List Float) (L G O w : List ℕ) where
+module _ (mesh : Handed) (L G O w : List ℕ) where
   abbrev desk : Option Row
-  desk = refusal sizes ps ns ts (length w)
+  desk = refusal mesh (length w)
 
-  pub examines-refused : (j : Verdict) (r : Examined) → j ≡ told desk → (j .number ≡ 0 → ⊥) → r ≡ record { refusal = j .number; objection = 0; place = j .place } → Examines sizes ps ns ts L G O w r w
+  pub examines-refused : (j : Verdict) (r : Examined) → j ≡ told desk → (j .number ≡ 0 → ⊥) → r ≡ record { refusal = j .number; objection = 0; place = j .place } → Examines mesh L G O w r w
   examines-refused j r e ne q =
       record {
         refused = λ x s. record { number = ap (λ (y : Examined). y .refusal) q ∙ number-is desk j e x s; none = ap (λ (y : Examined). y .objection) q; place = ap (λ (y : Examined). y .place) q ∙ place-is desk j e x s; work = refl };
         decided = λ n. absurd (not-none desk j e ne n);
       }
 
-  pub examines-decided : (r : Examined) (u : List ℕ) → desk ≡ none → Decided sizes ps ns ts L G O w r u → Examines sizes ps ns ts L G O w r u
+  pub examines-decided : (r : Examined) (u : List ℕ) → desk ≡ none → Decided mesh L G O w r u → Examines mesh L G O w r u
   examines-decided r u n D = record { refused = λ x s. absurd (Option·none-ne-some x (sym n ∙ s)); decided = λ _. D }
 
   -- ---- our own lists
 
-  pub hands-refused : (j : Verdict) (r : Handed) → j ≡ told desk → (j .number ≡ 0 → ⊥) → r ≡ record { number = j .number; place = j .place; sound = 0 } → Hands sizes ps ns ts L G O w r L G O w
+  pub hands-refused : (j : Verdict) (r : Owned) → j ≡ told desk → (j .number ≡ 0 → ⊥) → r ≡ record { number = j .number; place = j .place; sound = 0 } → Hands mesh L G O w r L G O w
   hands-refused j r e ne q =
       record {
         refused = λ x s. record { is = q ∙ (λ i. record { number = number-is desk j e x s i; place = place-is desk j e x s i; sound = 0 }); links = refl; groups = refl; ways = refl; work = refl };
@@ -54,8 +54,8 @@ module _ (sizes : List ℕ) (ps ns ts : List Float) (L G O w : List ℕ) where
         given = λ n. absurd (not-none desk j e ne n);
       }
 
-  module _ (b : Bool) (s : b ≡ tooShort (length sizes) (length L) (length G) (length O)) (n : desk ≡ none) where
-    pub hands-short : (r : Handed) → b ≡ true → r ≡ record { number = 9; place = 0; sound = 0 } → Hands sizes ps ns ts L G O w r L G O w
+  module _ (b : Bool) (s : b ≡ tooShort (length (mesh .sizes)) (length L) (length G) (length O)) (n : desk ≡ none) where
+    pub hands-short : (r : Owned) → b ≡ true → r ≡ record { number = 9; place = 0; sound = 0 } → Hands mesh L G O w r L G O w
     hands-short r t q =
         record {
           refused = λ x f. absurd (Option·none-ne-some x (sym n ∙ f));
@@ -63,7 +63,7 @@ module _ (sizes : List ℕ) (ps ns ts : List Float) (L G O w : List ℕ) where
           given = λ _ f. absurd (true≢false (sym t ∙ (s ∙ f)));
         }
 
-    pub hands-given : (r : Handed) (L′ G′ O′ u : List ℕ) → b ≡ false → Given sizes ps ns ts L G O w r L′ G′ O′ u → Hands sizes ps ns ts L G O w r L′ G′ O′ u
+    pub hands-given : (r : Owned) (L′ G′ O′ u : List ℕ) → b ≡ false → Given mesh L G O w r L′ G′ O′ u → Hands mesh L G O w r L′ G′ O′ u
     hands-given r L′ G′ O′ u t g = record { refused = λ x f. absurd (Option·none-ne-some x (sym n ∙ f)); short = λ _ f. absurd (true≢false (sym f ∙ (sym s ∙ t))); given = λ _ _. g }
 
 -- lists that are long enough

@@ -7,35 +7,29 @@ use mathlib.Core.Option.{Option, none, some}
 use lib.Dec.{ltb}
 use lib.ListN.{length, drop, replicate}
 use lib.Seq.{sets}
-use lib.Ieee.{Float}
 use Rattle.table.specs.Table.{cell}
-use Rattle.table.specs.Loop.{listOf}
+use Rattle.lists.specs.Loops.{listOf}
 use Rattle.table.specs.Columns.{rowsOf, orientationColumn, linkColumn, groupColumn}
+use Rattle.definition.specs.Handed.{Handed}
 use Rattle.definition.specs.declared.Triangle.{Triangle}
 use Rattle.definition.specs.Limits.{workWords}
-use Rattle.definition.specs.Handed.{meshFrom}
 use Rattle.definition.specs.Desk.{Row}
-use Rattle.definition.specs.Frames.{numbered}
-use Rattle.definition.specs.Triangles.{triangles}
+use Rattle.definition.specs.Frames.{trianglesOf}
 use Rattle.definition.specs.Step4Order.{sound}
 use Rattle.mikktspace.specs.Alone.{deskVerdict}
-use Rattle.grouped.specs.declared.Counts.{Counts}
-use Rattle.grouped.specs.Grouped.{Left}
+use Rattle.grouped.specs.declared.MeshCounts.{MeshCounts}
+use Rattle.grouped.specs.Grouped.{LeftBySix}
 use Rattle.asked.specs.Groups.{Connected}
 use Rattle.asked.specs.Meaning.{Examines as On}
 use Rattle.examine.specs.declared.Examined.{Examined}
-use Rattle.examine.specs.declared.Handed.{Handed}
+use Rattle.examine.specs.declared.Owned.{Owned}
 
 -- what the desk says, asked with a threshold of 0 and as long an answer list as there can be; the work list has so many words
-abbrev pub refusal : List ℕ → List Float → List Float → List Float → ℕ → Option Row
-refusal sizes ps ns ts work = deskVerdict sizes ps ns ts work
+abbrev pub refusal : Handed → ℕ → Option Row
+refusal mesh work = deskVerdict mesh work
 
--- all triangles of the mesh, and the sound ones
-abbrev pub trianglesOf : List ℕ → List Float → List Float → List Float → List Triangle
-trianglesOf sizes ps ns ts = triangles (numbered 0 (meshFrom ps ns ts 0 sizes))
-
-abbrev pub soundOf : List ℕ → List Float → List Float → List Float → List Triangle
-soundOf sizes ps ns ts = sound (trianglesOf sizes ps ns ts)
+abbrev pub soundOf : Handed → List Triangle
+soundOf mesh = sound (trianglesOf mesh)
 
 -- the work list with its first 128 words a face set to zero
 abbrev pub clearedFor : List ℕ → List ℕ → List ℕ
@@ -56,15 +50,15 @@ pub record Refused (x : Row) (w : List ℕ) (r : Examined) (u : List ℕ) : Type
   pub work : u ≡ w
 
 -- no refusal: the verdict, and the work list is cleared
-pub record Decided (sizes : List ℕ) (ps ns ts : List Float) (L G O w : List ℕ) (r : Examined) (u : List ℕ) : Type 0 where
+pub record Decided (mesh : Handed) (L G O w : List ℕ) (r : Examined) (u : List ℕ) : Type 0 where
   pub number : r .refusal ≡ 0
-  pub decides : Decides (soundOf sizes ps ns ts) L G O (r .objection) (r .place)
-  pub work : u ≡ clearedFor sizes w
+  pub decides : Decides (soundOf mesh) L G O (r .objection) (r .place)
+  pub work : u ≡ clearedFor (mesh .sizes) w
 
 -- the contract of `examine`, which returns r and leaves the work list as u
-pub record Examines (sizes : List ℕ) (ps ns ts : List Float) (L G O w : List ℕ) (r : Examined) (u : List ℕ) : Type 0 where
-  pub refused : (x : Row) → refusal sizes ps ns ts (length w) ≡ some x → Refused x w r u
-  pub decided : refusal sizes ps ns ts (length w) ≡ none → Decided sizes ps ns ts L G O w r u
+pub record Examines (mesh : Handed) (L G O w : List ℕ) (r : Examined) (u : List ℕ) : Type 0 where
+  pub refused : (x : Row) → refusal mesh (length w) ≡ some x → Refused x w r u
+  pub decided : refusal mesh (length w) ≡ none → Decided mesh L G O w r u
 
 -- ---- our own lists
 
@@ -77,18 +71,18 @@ abbrev pub front : ℕ → ℕ → ℕ → List ℕ → List ℕ → List ℕ
 front rows k n v list = sets list 0 (listOf n (λ i. cell rows k i v))
 
 -- the lists are what steps 1 to 6 leave in the columns of the work list, from w to v, before it is cleared
-pub record HandedOut (sizes : List ℕ) (ps ns ts : List Float) (L G O w : List ℕ) (n : ℕ) (L′ G′ O′ u : List ℕ) : Type 0 where
-  pub counts : Counts
+pub record HandedOut (mesh : Handed) (L G O w : List ℕ) (n : ℕ) (L′ G′ O′ u : List ℕ) : Type 0 where
+  pub counts : MeshCounts
   pub v : List ℕ
-  pub left : Left sizes ps ns ts (trianglesOf sizes ps ns ts) counts w v
+  pub left : LeftBySix mesh counts w v
   pub sound : n ≡ counts .sound
-  pub links : L′ ≡ front (rowsOf (length sizes)) linkColumn (3 * counts .sound) v L
-  pub groups : G′ ≡ front (rowsOf (length sizes)) groupColumn (3 * counts .sound) v G
-  pub ways : O′ ≡ front (rowsOf (length sizes)) orientationColumn (counts .sound) v O
-  pub work : u ≡ clearedFor sizes w
+  pub links : L′ ≡ front (rowsOf (length (mesh .sizes))) linkColumn (3 * counts .sound) v L
+  pub groups : G′ ≡ front (rowsOf (length (mesh .sizes))) groupColumn (3 * counts .sound) v G
+  pub ways : O′ ≡ front (rowsOf (length (mesh .sizes))) orientationColumn (counts .sound) v O
+  pub work : u ≡ clearedFor (mesh .sizes) w
 
 -- a refusal of this number and place: nothing is altered
-pub record Withheld (number place : ℕ) (L G O w : List ℕ) (r : Handed) (L′ G′ O′ u : List ℕ) : Type 0 where
+pub record Withheld (number place : ℕ) (L G O w : List ℕ) (r : Owned) (L′ G′ O′ u : List ℕ) : Type 0 where
   pub is : r ≡ record { number = number; place = place; sound = 0 }
   pub links : L′ ≡ L
   pub groups : G′ ≡ G
@@ -96,13 +90,13 @@ pub record Withheld (number place : ℕ) (L G O w : List ℕ) (r : Handed) (L′
   pub work : u ≡ w
 
 -- acceptance: 0, 0 and the number of sound triangles
-pub record Given (sizes : List ℕ) (ps ns ts : List Float) (L G O w : List ℕ) (r : Handed) (L′ G′ O′ u : List ℕ) : Type 0 where
+pub record Given (mesh : Handed) (L G O w : List ℕ) (r : Owned) (L′ G′ O′ u : List ℕ) : Type 0 where
   pub number : r .number ≡ 0
   pub place : r .place ≡ 0
-  pub handed : HandedOut sizes ps ns ts L G O w (r .sound) L′ G′ O′ u
+  pub handed : HandedOut mesh L G O w (r .sound) L′ G′ O′ u
 
 -- the contract of `own_links`, which returns r and leaves the lists as L′, G′, O′ and u
-pub record Hands (sizes : List ℕ) (ps ns ts : List Float) (L G O w : List ℕ) (r : Handed) (L′ G′ O′ u : List ℕ) : Type 0 where
-  pub refused : (x : Row) → refusal sizes ps ns ts (length w) ≡ some x → Withheld (x .number) (x .place) L G O w r L′ G′ O′ u
-  pub short : refusal sizes ps ns ts (length w) ≡ none → tooShort (length sizes) (length L) (length G) (length O) ≡ true → Withheld 9 0 L G O w r L′ G′ O′ u
-  pub given : refusal sizes ps ns ts (length w) ≡ none → tooShort (length sizes) (length L) (length G) (length O) ≡ false → Given sizes ps ns ts L G O w r L′ G′ O′ u
+pub record Hands (mesh : Handed) (L G O w : List ℕ) (r : Owned) (L′ G′ O′ u : List ℕ) : Type 0 where
+  pub refused : (x : Row) → refusal mesh (length w) ≡ some x → Withheld (x .number) (x .place) L G O w r L′ G′ O′ u
+  pub short : refusal mesh (length w) ≡ none → tooShort (length (mesh .sizes)) (length L) (length G) (length O) ≡ true → Withheld 9 0 L G O w r L′ G′ O′ u
+  pub given : refusal mesh (length w) ≡ none → tooShort (length (mesh .sizes)) (length L) (length G) (length O) ≡ false → Given mesh L G O w r L′ G′ O′ u

@@ -6,13 +6,15 @@ ghost use Prim.Native.Nat.{ℕ, _*_, _≤_, _<_};
 ghost use lib.ListN.{length};
 ghost use lib.Seq.{sets};
 ghost use Rattle.table.specs.Columns.{columns, vertexColumn};
-ghost use Rattle.table.specs.Loop.{listOf};
+ghost use Rattle.lists.specs.Loops.{listOf};
 ghost use Rattle.table.specs.Table.{cell};
 ghost use Rattle.view.specs.Frame.{Only};
 ghost use Rattle.neighbors.specs.Sides.{endRow};
 ghost use Rattle.desk.specs.Verdict as desk;
 ghost use Rattle.examine.specs.Contract as spec;
 ghost use Rattle.examine.specs.Deciding.{OnLengths, Overall, allColumns};
+ghost use Rattle.definition.specs.Handed.{handed};
+ghost use Rattle.definition.specs.Limits.{faceLimit};
 use desk::Verdict;
 use examiner::Objection;
 
@@ -26,7 +28,7 @@ pub struct Examined {
 
 // What is said with our own lists: the number of a refusal and its place, or 0 and 0; and how many triangles are sound.
 #[repr(C)]
-pub struct Handed {
+pub struct Owned {
     pub number: u32,
     pub place: u32,
     pub sound: u32,
@@ -34,9 +36,17 @@ pub struct Handed {
 
 // The desk, asked with a threshold of 0 and as long an answer list as there can be, so that refusals 3 and 5 never apply.
 fn ask(sizes: &[u8], positions: &[f32], normals: &[f32], texture: &[f32], work: usize) -> Verdict
-    ensures { λ r. ⌜ r ≡ desk.told (spec.refusal (now (sizes .entry)) (now (positions .entry)) (now (normals .entry)) (now (texture .entry)) work) ⌝ }
+    ensures { λ r. ⌜ r ≡ desk.told (spec.refusal (handed (now (sizes .entry)) (now (positions .entry)) (now (normals .entry)) (now (texture .entry))) work) ⌝ }
 {
-    desk::judge(sizes, positions, normals, texture, 0.0, 2621440, work)
+    desk::judge(
+        sizes,
+        positions,
+        normals,
+        texture,
+        0.0,
+        mikktspace::LONGEST_ANSWER,
+        work,
+    )
 }
 
 // ---- the examiner
@@ -93,14 +103,14 @@ fn decide(
     ways: &[u32],
     work: &mut [u32],
 ) -> Objection
-    requires { ⌜ spec.refusal (now sizes) (now positions) (now normals) (now texture) (length (now work)) ≡ none ⌝ }
-    ensures decides { λ s. ⌜ spec.Decides (spec.soundOf (now (sizes .entry)) (now (positions .entry)) (now (normals .entry)) (now (texture .entry))) (now (given .entry)) (now (groups .entry)) (now (ways .entry)) (s .number) (s .place) ⌝ }
+    requires { ⌜ spec.refusal (handed (now sizes) (now positions) (now normals) (now texture)) (length (now work)) ≡ none ⌝ }
+    ensures decides { λ s. ⌜ spec.Decides (spec.soundOf (handed (now (sizes .entry)) (now (positions .entry)) (now (normals .entry)) (now (texture .entry)))) (now (given .entry)) (now (groups .entry)) (now (ways .entry)) (s .number) (s .place) ⌝ }
     ensures clears { λ _. ⌜ now (work .exit) ≡ spec.clearedFor (now (sizes .entry)) (now (work .entry)) ⌝ }
 {
     let rows = 6 * sizes.len();
-    let counts = linked::link_mesh(positions, normals, texture, sizes, work);
+    let counts = grouped::link_mesh(sizes, positions, normals, texture, work);
     let o = examine_all(given, groups, ways, work, rows, counts.sound);
-    table::clear_first(work, 128 * sizes.len());
+    table::clear_first(work, definition::WORK_WORDS * sizes.len());
     o
 }
 
@@ -110,15 +120,15 @@ pub fn examine(
     sizes: &[u8],
     positions: &[f32],
     normals: &[f32],
-    tex_coords: &[f32],
+    texture: &[f32],
     links: &[u32],
     groups: &[u32],
     orientations: &[u32],
     work: &mut [u32],
 ) -> Examined
-    ensures { λ r. ⌜ spec.Examines (now (sizes .entry)) (now (positions .entry)) (now (normals .entry)) (now («tex_coords» .entry)) (now (links .entry)) (now (groups .entry)) (now (orientations .entry)) (now (work .entry)) r (now (work .exit)) ⌝ }
+    ensures { λ r. ⌜ spec.Examines (handed (now (sizes .entry)) (now (positions .entry)) (now (normals .entry)) (now (texture .entry))) (now (links .entry)) (now (groups .entry)) (now (orientations .entry)) (now (work .entry)) r (now (work .exit)) ⌝ }
 {
-    let v = ask(sizes, positions, normals, tex_coords, work.len());
+    let v = ask(sizes, positions, normals, texture, work.len());
     if v.number != 0 {
         return Examined {
             refusal: v.number,
@@ -130,7 +140,7 @@ pub fn examine(
         sizes,
         positions,
         normals,
-        tex_coords,
+        texture,
         links,
         groups,
         orientations,
@@ -157,7 +167,7 @@ fn copy_out(work: &[u32], rows: usize, column: usize, n: usize, list: &mut [u32]
 
 // Whether one of the three lists, of these lengths, is too short for so many faces.
 fn short(faces: usize, links: usize, groups: usize, orientations: usize) -> bool
-    requires { ⌜ faces ≤ 65536 ⌝ }
+    requires { ⌜ faces ≤ faceLimit ⌝ }
     ensures { λ r. ⌜ r ≡ spec.tooShort faces links groups orientations ⌝ }
 {
     if links < 6 * faces {
@@ -180,8 +190,8 @@ fn hand_out(
     normals: &[f32],
     texture: &[f32],
 ) -> u32
-    requires { ⌜ (spec.refusal (now sizes) (now positions) (now normals) (now texture) (length (now work)) ≡ none) × (6 * length (now sizes) ≤ length (now links)) × (6 * length (now sizes) ≤ length (now groups)) × (2 * length (now sizes) ≤ length (now orientations)) ⌝ }
-    ensures { λ n. ⌜ spec.HandedOut (now (sizes .entry)) (now (positions .entry)) (now (normals .entry)) (now (texture .entry)) (now (links .entry)) (now (groups .entry)) (now (orientations .entry)) (now (work .entry)) n (now (links .exit)) (now (groups .exit)) (now (orientations .exit)) (now (work .exit)) ⌝ }
+    requires { ⌜ (spec.refusal (handed (now sizes) (now positions) (now normals) (now texture)) (length (now work)) ≡ none) × (6 * length (now sizes) ≤ length (now links)) × (6 * length (now sizes) ≤ length (now groups)) × (2 * length (now sizes) ≤ length (now orientations)) ⌝ }
+    ensures { λ n. ⌜ spec.HandedOut (handed (now (sizes .entry)) (now (positions .entry)) (now (normals .entry)) (now (texture .entry))) (now (links .entry)) (now (groups .entry)) (now (orientations .entry)) (now (work .entry)) n (now (links .exit)) (now (groups .exit)) (now (orientations .exit)) (now (work .exit)) ⌝ }
 {
     let rows = 6 * sizes.len();
     let counts = grouped::group_mesh(sizes, positions, normals, texture, work);
@@ -189,7 +199,7 @@ fn hand_out(
     copy_out(work, rows, table::LINK, 3 * n, links);
     copy_out(work, rows, table::GROUP, 3 * n, groups);
     copy_out(work, rows, table::ORIENTATION, n, orientations);
-    table::clear_first(work, 128 * sizes.len());
+    table::clear_first(work, definition::WORK_WORDS * sizes.len());
     n as u32
 }
 
@@ -199,24 +209,24 @@ pub fn own_links(
     sizes: &[u8],
     positions: &[f32],
     normals: &[f32],
-    tex_coords: &[f32],
+    texture: &[f32],
     links: &mut [u32],
     groups: &mut [u32],
     orientations: &mut [u32],
     work: &mut [u32],
-) -> Handed
-    ensures { λ r. ⌜ spec.Hands (now (sizes .entry)) (now (positions .entry)) (now (normals .entry)) (now («tex_coords» .entry)) (now (links .entry)) (now (groups .entry)) (now (orientations .entry)) (now (work .entry)) r (now (links .exit)) (now (groups .exit)) (now (orientations .exit)) (now (work .exit)) ⌝ }
+) -> Owned
+    ensures { λ r. ⌜ spec.Hands (handed (now (sizes .entry)) (now (positions .entry)) (now (normals .entry)) (now (texture .entry))) (now (links .entry)) (now (groups .entry)) (now (orientations .entry)) (now (work .entry)) r (now (links .exit)) (now (groups .exit)) (now (orientations .exit)) (now (work .exit)) ⌝ }
 {
-    let said = ask(sizes, positions, normals, tex_coords, work.len());
+    let said = ask(sizes, positions, normals, texture, work.len());
     if said.number != 0 {
-        return Handed {
+        return Owned {
             number: said.number,
             place: said.place,
             sound: 0,
         };
     }
     if short(sizes.len(), links.len(), groups.len(), orientations.len()) {
-        return Handed {
+        return Owned {
             number: 9,
             place: 0,
             sound: 0,
@@ -230,9 +240,9 @@ pub fn own_links(
         sizes,
         positions,
         normals,
-        tex_coords,
+        texture,
     );
-    Handed {
+    Owned {
         number: 0,
         place: 0,
         sound,

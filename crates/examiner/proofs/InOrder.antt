@@ -8,7 +8,7 @@ use lib.Dec.{eqb}
 use lib.ListN.{length, getD, take}
 use borrow.Author.Tests.{eq-eqb, eqb-true}
 use Rattle.table.specs.Table.{cell, column}
-use Rattle.table.specs.Loop.{listOf}
+use Rattle.lists.specs.Loops.{listOf}
 use Rattle.table.specs.Columns.{columns, vertexColumn, lowerColumn, higherColumn, orderColumn, spareColumn}
 use Rattle.bits.proofs.Bools.{and-left, and-right}
 use Rattle.sort.specs.Sort.{ends}

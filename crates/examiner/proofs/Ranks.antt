@@ -5,7 +5,7 @@ use mathlib.Core.Path.{_≡_, refl, sym, _∙_, ap, subst}
 use mathlib.Core.List.{List}
 use lib.ListN.{length, getD, take}
 use Rattle.table.specs.Table.{cell, column}
-use Rattle.table.specs.Loop.{listOf}
+use Rattle.lists.specs.Loops.{listOf}
 use Rattle.table.specs.Columns.{orderColumn}
 use Rattle.sort.specs.Sort.{ends, key, sorted, inOrder, SortedPart}
 use Rattle.sort.proofs.Sorted.{All, all-index, rises-at, rises-sorted}

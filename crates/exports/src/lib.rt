@@ -4,7 +4,8 @@ ghost use mathlib.Core.Bool.{true};
 ghost use Prim.Native.Nat.{ℕ, _*_, _<_, _≤_};
 ghost use lib.ListN.{length};
 ghost use Rattle.angle.specs.Angle.{angle};
-ghost use Rattle.definition.specs.Desk.{verdict};
+ghost use Rattle.definition.specs.Handed.{handed};
+ghost use Rattle.definition.specs.Desk.{shown, verdict};
 ghost use Rattle.desk.specs.Verdict.{told};
 ghost use Rattle.exports.specs.Packed.{packed};
 ghost use Rattle.root.specs.Root.{sqrt};
@@ -52,58 +53,15 @@ pub extern "C" fn export_judge(
     normals: &[f32],
     texture: &[f32],
 ) -> u64
-    ensures { λ r. ⌜ r ≡ packed (told (verdict (now (sizes .entry)) (now (positions .entry)) (now (normals .entry)) (now (texture .entry)) threshold answer work)) ⌝ }
+    ensures { λ r. ⌜ r ≡ packed (told (verdict (shown (handed (now (sizes .entry)) (now (positions .entry)) (now (normals .entry)) (now (texture .entry))) threshold answer work))) ⌝ }
 {
     let v = desk::judge(sizes, positions, normals, texture, threshold, answer, work);
     (v.number as u64) * 0x1_0000_0000 + v.place as u64
 }
 
-// How many triangles are sound and there are, how many groups and members.
-#[repr(C)]
-pub struct Four {
-    pub sound: u32,
-    pub all: u32,
-    pub groups: u32,
-    pub members: u32,
-}
-
 // A count as a word.
 fn word(n: usize) -> u32 {
     (n % 0x1_0000_0000) as u32
-}
-
-// Steps 1 to 6 on the columns of the work list. Lists that refusal 1 or 6 would catch are left as they are.
-#[no_mangle]
-pub extern "C" fn export_groups(
-    sizes: &[u8],
-    positions: &[f32],
-    normals: &[f32],
-    texture: &[f32],
-    work: &mut [u32],
-) -> Four {
-    if 65536 < sizes.len() {
-        return Four {
-            sound: 0,
-            all: 0,
-            groups: 0,
-            members: 0,
-        };
-    }
-    if work.len() < 128 * sizes.len() {
-        return Four {
-            sound: 0,
-            all: 0,
-            groups: 0,
-            members: 0,
-        };
-    }
-    let c = grouped::group_mesh(sizes, positions, normals, texture, work);
-    Four {
-        sound: word(c.sound),
-        all: word(c.all),
-        groups: c.groups,
-        members: word(c.members),
-    }
 }
 
 // ---- the two walks of step 6, to compare them: on columns that hold anything whatever
@@ -149,7 +107,7 @@ fn may_walk(work: &[u32], rows: usize, tris: usize, most: usize) -> bool
 }
 
 // Groups times 2 ^ 32, and members; all ones where a walk may not be called, and then nothing is done.
-fn both(c: groups::Counts) -> u64 {
+fn both(c: groups::GroupCounts) -> u64 {
     (c.groups as u64) * 0x1_0000_0000 + word(c.members) as u64
 }
 

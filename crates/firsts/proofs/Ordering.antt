@@ -6,10 +6,10 @@ use mathlib.Core.List.{List, [], _∷_, _++_}
 use lib.ListN.{length, getD, take, drop, List·getD-append}
 use lib.Seq.{sets-eq, take-append-seam}
 use Rattle.table.specs.Table.{cell, column, filledTo}
-use Rattle.table.specs.Loop.{listOf}
+use Rattle.lists.specs.Loops.{listOf}
 use Rattle.table.specs.Columns.{columns, lowerColumn, higherColumn, orderColumn, spareColumn}
 use Rattle.table.proofs.Laws.{run-fills, getD-column, length-column, length-fill, column-ends}
-use Rattle.table.proofs.Loops.{length-listOf, getD-listOf}
+use Rattle.lists.proofs.Loops.{length-listOf, getD-listOf}
 use Rattle.sort.specs.Sort.{ends, SortedPart}
 use Rattle.sort.proofs.Keys.{ends-at}
 use Rattle.view.specs.Frame.{Only}

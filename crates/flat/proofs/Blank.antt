@@ -13,8 +13,8 @@ use lib.Seq.{sets, set-set, set-comm}
 use borrow.Author.Tests.{eqb-true, eqb-false, ltb-true, ltb-false}
 use Rattle.table.specs.Table.{cell, put, column}
 use Rattle.table.specs.Columns.{columns, vertexColumn, linkColumn, orientationColumn, anyColumn, groupColumn, metColumn, beginColumn}
-use Rattle.table.specs.Loop.{listOf}
-use Rattle.table.proofs.Loops.{length-listOf}
+use Rattle.lists.specs.Loops.{listOf}
+use Rattle.lists.proofs.Loops.{length-listOf}
 use Rattle.table.proofs.Laws.{column-ends}
 use Rattle.view.specs.Frame.{outside, Only}
 use Rattle.view.proofs.Frame.{only-none, only-run, cell-kept}

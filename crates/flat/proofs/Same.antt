@@ -10,14 +10,14 @@ use lib.ListN.{length, getD}
 use borrow.Author.Tests.{eqb-true}
 use Rattle.table.specs.Table.{cell, put}
 use Rattle.table.specs.Columns.{columns, linkColumn, vertexColumn, orientationColumn, anyColumn, groupColumn, metColumn, beginColumn}
-use Rattle.table.specs.Loop.{upTo}
+use Rattle.lists.specs.Loops.{upTo}
 use Rattle.definition.specs.declared.Triangle.{Triangle}
 use Rattle.definition.specs.Mesh.{one, Spot, sameSpot}
 use Rattle.definition.specs.Step5Links as step5
 use Rattle.definition.specs.Step6Groups.{Mark, marks}
 use Rattle.laws.proofs.Laws.{mark}
 use Rattle.laws.proofs.Enough.{spot-refl}
-use Rattle.laws.proofs.Mutual.{Names}
+use Rattle.definition.specs.Names.{Names}
 use Rattle.neighbors.specs.declared.Link.{Link}
 use Rattle.neighbors.specs.declared.Link.the-variants.{To, Nothing}
 use Rattle.neighbors.specs.Links.{linkOf}

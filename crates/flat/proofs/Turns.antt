@@ -11,15 +11,15 @@ use lib.Seq.{sets}
 use borrow.Author.Tests.{eq-eqb, ne-eqb}
 use Rattle.table.specs.Table.{cell, put, column}
 use Rattle.table.specs.Columns.{columns, vertexColumn, linkColumn, orientationColumn, anyColumn, groupColumn, metColumn, beginColumn}
-use Rattle.table.specs.Loop.{upTo, listOf}
-use Rattle.table.proofs.Loops.{length-listOf}
+use Rattle.lists.specs.Loops.{upTo, listOf}
+use Rattle.lists.proofs.Loops.{length-listOf}
 use Rattle.definition.specs.declared.Triangle.{Triangle}
 use Rattle.definition.specs.Mesh.{Third, one, Spot}
 use Rattle.definition.specs.Step5Links.{Link, beyond}
 use Rattle.definition.specs.Step6Groups.{Mark, marks}
 use Rattle.laws.proofs.Closed.{Between}
 use Rattle.laws.proofs.Laws.{mark}
-use Rattle.laws.proofs.Mutual.{Names}
+use Rattle.definition.specs.Names.{Names}
 use Rattle.view.specs.Rows.{row, spotAt}
 use Rattle.view.specs.Frame.{Only}
 use Rattle.view.specs.Weld.{Sharp}
@@ -27,7 +27,7 @@ use Rattle.view.specs.Links.{LinkWord}
 use Rattle.view.proofs.Frame.{only-none, only-trans, only-more, only-run, only-put, cell-kept}
 use Rattle.view.proofs.Rows.{row-lt}
 use Rattle.view.proofs.Groups.{grouping-kept}
-use Rattle.groups.specs.declared.Counts.{Counts}
+use Rattle.groups.specs.declared.GroupCounts.{GroupCounts}
 use Rattle.groups.specs.Marks.{Asked, Walked}
 use Rattle.groups.specs.Walk.{walkColumns, Walk, walk, corner, ungrouped, State, state, started, begun, turn, Turned, Ready, Steps, cleared}
 use Rattle.groups.proofs.Steps.{ready-steps, ready-next, ready-begun, ready-moves, only-begun, begun-ungrouped}
@@ -37,7 +37,7 @@ use Rattle.flat.proofs.Blank.{set-sets, blank-put, only-blank, only-unb
 
 -- ---- the turn of a corner
 
-module _ (rows tris k : ℕ) (w : List ℕ) (s : Counts) (h : k < 3 * tris) (few : s .groups ≤ k) (R : Ready rows tris (s .groups + 1) (s .members) w) where
+module _ (rows tris k : ℕ) (w : List ℕ) (s : GroupCounts) (h : k < 3 * tris) (few : s .groups ≤ k) (R : Ready rows tris (s .groups + 1) (s .members) w) where
   abbrev w₀ : List ℕ
   w₀ = blank rows w
 
@@ -129,7 +129,7 @@ asked-blank rows ss d ls w fits A = record {
     fit t i h = omega (arith, row-lt t (length ss) i h)
 
 -- step 6 by flat walks: what the loop leaves stands for the definition's marks
-pub flat-walked : (rows tris : ℕ) (ss : List Triangle) (d : Triangle) (ls : List Link) → Between ss ls → (w u : List ℕ) (c : Counts) → length ss ≡ tris → 3 * tris ≤ rows → columns * rows ≤ length w → c .groups ≤ 3 * tris → Names ss → Sharp ss d → Asked rows ss d ls w → state (blank rows u) c ≡ upTo (3 * tris) (turn rows) (state (blank rows (cleared rows w)) (record { groups = 0; members = 0 })) → Walked rows ss d ls w u (c .groups) (c .members)
+pub flat-walked : (rows tris : ℕ) (ss : List Triangle) (d : Triangle) (ls : List Link) → Between ss ls → (w u : List ℕ) (c : GroupCounts) → length ss ≡ tris → 3 * tris ≤ rows → columns * rows ≤ length w → c .groups ≤ 3 * tris → Names ss → Sharp ss d → Asked rows ss d ls w → state (blank rows u) c ≡ upTo (3 * tris) (turn rows) (state (blank rows (cleared rows w)) (record { groups = 0; members = 0 })) → Walked rows ss d ls w u (c .groups) (c .members)
 flat-walked rows tris ss d ls B w u c n fits long few N S A e =
     let fit : 3 * length ss ≤ rows = omega arith in
     let W = all-walked rows tris ss d ls B (blank rows w) (blank rows u) (c .groups) (c .members) n fits (omega (arith, only-blank rows w .size)) N S (asked-blank rows ss d ls w fit A)

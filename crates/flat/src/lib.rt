@@ -6,17 +6,17 @@ ghost use Prim.Native.Nat.{ℕ, _+_, _*_, _-_, _/_, _<_, _≤_};
 ghost use lib.ListN.{length};
 ghost use Rattle.table.specs.Columns.{columns, linkColumn};
 ghost use Rattle.table.specs.Table.{cell};
-ghost use Rattle.table.specs.Loop.{upTo};
+ghost use Rattle.lists.specs.Loops.{upTo};
 ghost use Rattle.definition.specs.declared.Triangle.{Triangle};
 ghost use Rattle.definition.specs.Step5Links as step5;
 ghost use Rattle.laws.proofs.Closed.{Between};
-ghost use Rattle.laws.proofs.Mutual.{Names};
+ghost use Rattle.definition.specs.Names.{Names};
 ghost use Rattle.view.specs.Frame.{Only};
 ghost use Rattle.view.specs.Weld.{Sharp};
 ghost use Rattle.groups.specs.Marks.{Asked, Walked};
 ghost use Rattle.groups.specs.Walk as walks;
 ghost use Rattle.flat.specs.Places as spec;
-use groups::Counts;
+use groups::GroupCounts;
 use groups::Entry;
 use neighbors::Link;
 
@@ -141,7 +141,7 @@ fn walk_from(
 // ---- the groups
 
 // The turn of corner k: a group starts there, unless its triangle is `group_with_any` or the corner is in a group.
-fn start_at(work: &mut [u32], rows: usize, tris: usize, k: usize, s: Counts) -> Counts
+fn start_at(work: &mut [u32], rows: usize, tris: usize, k: usize, s: GroupCounts) -> GroupCounts
     requires { ⌜ (k < 3 * tris) × (s .groups ≤ k) × walks.Ready rows tris (s .groups + 1) (s .members) (now work) ⌝ }
     ensures turned { λ r. ⌜ walks.Turned rows tris k (walks.state (spec.blank rows (now (work .entry))) s) (walks.state (spec.blank rows (now (work .exit))) r) ⌝ }
     ensures only { λ _. ⌜ Only spec.flatColumns rows (now (work .entry)) (now (work .exit)) ⌝ }
@@ -159,20 +159,20 @@ fn start_at(work: &mut [u32], rows: usize, tris: usize, k: usize, s: Counts) -> 
     let orient = work[table::ORIENTATION * rows + t];
     work[table::BEGIN * rows + groups as usize] = members as u32;
     let n = walk_from(work, rows, tris, t, groups + 1, vertex, orient, members);
-    Counts {
+    GroupCounts {
         groups: groups + 1,
         members: n,
     }
 }
 
 // All groups, in triangle and corner order.
-fn walk_all(work: &mut [u32], rows: usize, tris: usize) -> Counts
+fn walk_all(work: &mut [u32], rows: usize, tris: usize) -> GroupCounts
     requires { ⌜ (3 * tris ≤ rows) × (columns * rows ≤ length (now work)) × (rows < 4294967295) × ((r : ℕ) → r < 3 * tris → cell rows linkColumn r (now work) ≤ 3 * tris) ⌝ }
     ensures is { λ r. ⌜ walks.state (spec.blank rows (now (work .exit))) r ≡ upTo (3 * tris) (walks.turn rows) (walks.state (spec.blank rows (walks.cleared rows (now (work .entry)))) (record { groups = 0; members = 0 })) ⌝ }
     ensures few { λ r. ⌜ (r .groups ≤ 3 * tris) × (r .members ≤ rows) ⌝ }
     ensures only { λ _. ⌜ Only spec.flatColumns rows (now (work .entry)) (now (work .exit)) ⌝ }
 {
-    let mut s = Counts {
+    let mut s = GroupCounts {
         groups: 0,
         members: 0,
     };
@@ -184,7 +184,7 @@ fn walk_all(work: &mut [u32], rows: usize, tris: usize) -> Counts
 }
 
 // Step 6: the corners of sound triangles in groups, as `groups::build_4_rule_groups` has them.
-pub fn build_4_rule_groups(work: &mut [u32], rows: usize, tris: usize) -> Counts
+pub fn build_4_rule_groups(work: &mut [u32], rows: usize, tris: usize) -> GroupCounts
     requires { ⌜ (3 * tris ≤ rows) × (columns * rows ≤ length (now work)) × (rows < 4294967295) × ((r : ℕ) → r < 3 * tris → cell rows linkColumn r (now work) ≤ 3 * tris) ⌝ }
     ensures grouped { λ r. ⌜ ((ss : List Triangle) (d : Triangle) (ls : List step5.Link) → Between ss ls → length ss ≡ tris → Names ss → Sharp ss d → Asked rows ss d ls (now (work .entry)) → Walked rows ss d ls (now (work .entry)) (now (work .exit)) (r .groups) (r .members)) ⌝ }
     ensures few { λ r. ⌜ (r .groups ≤ 3 * tris) × (r .members ≤ rows) ⌝ }

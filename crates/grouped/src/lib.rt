@@ -2,19 +2,38 @@
 ghost use mathlib.Core.Path.{_≡_};
 ghost use Prim.Native.Nat.{_*_, _≤_};
 ghost use lib.ListN.{length};
-ghost use Rattle.definition.specs.Handed.{meshFrom};
+ghost use Rattle.definition.specs.Handed.{handed};
 ghost use Rattle.definition.specs.Limits.{faceLimit};
-ghost use Rattle.definition.specs.Triangles.{triangles};
-ghost use Rattle.definition.specs.Frames.{numbered};
 ghost use Rattle.table.specs.Columns.{columns, rowsOf};
-ghost use Rattle.grouped.specs.Grouped.{Left};
+ghost use Rattle.grouped.specs.Links.{LeftByFive};
+ghost use Rattle.grouped.specs.Grouped.{LeftBySix};
+
+use listing::TriangleCounts;
 
 // How many triangles are sound, and how many there are; how many groups there are, and members of them all.
-pub struct Counts {
+pub struct MeshCounts {
     pub sound: usize,
     pub all: usize,
     pub groups: u32,
     pub members: usize,
+}
+
+// Steps 1 to 5; the columns are spoken for where no corner is bad.
+pub fn link_mesh(
+    sizes: &[u8],
+    positions: &[f32],
+    normals: &[f32],
+    texture: &[f32],
+    work: &mut [u32],
+) -> TriangleCounts
+    requires { ⌜ (length (now sizes) ≤ faceLimit) × (columns * rowsOf (length (now sizes)) ≤ length (now work)) ⌝ }
+    ensures { λ r. ⌜ LeftByFive (handed (now (sizes .entry)) (now (positions .entry)) (now (normals .entry)) (now (texture .entry))) (r .sound) (r .all) (now (work .entry)) (now (work .exit)) ⌝ }
+{
+    let rows = 6 * sizes.len();
+    let counts = listing::list_triangles(work, sizes, positions, normals, texture);
+    weld::weld(work, rows, 3 * counts.all, positions, normals, texture);
+    neighbors::link_sides(work, rows, counts.sound);
+    counts
 }
 
 // Steps 1 to 6; the columns are spoken for where no corner is bad. The walk of step 6 goes up to 2F corners deep for F faces.
@@ -24,17 +43,17 @@ pub fn group_mesh(
     normals: &[f32],
     texture: &[f32],
     work: &mut [u32],
-) -> Counts
+) -> MeshCounts
     requires { ⌜ (length (now sizes) ≤ faceLimit) × (columns * rowsOf (length (now sizes)) ≤ length (now work)) ⌝ }
-    ensures { λ r. ⌜ Left (now (sizes .entry)) (now (positions .entry)) (now (normals .entry)) (now (texture .entry)) (triangles (numbered 0 (meshFrom (now (positions .entry)) (now (normals .entry)) (now (texture .entry)) 0 (now (sizes .entry))))) r (now (work .entry)) (now (work .exit)) ⌝ }
+    ensures { λ r. ⌜ LeftBySix (handed (now (sizes .entry)) (now (positions .entry)) (now (normals .entry)) (now (texture .entry))) r (now (work .entry)) (now (work .exit)) ⌝ }
 {
     let rows = 6 * sizes.len();
-    let triangles = linked::link_mesh(positions, normals, texture, sizes, work);
+    let triangles = link_mesh(sizes, positions, normals, texture, work);
     let counts = flat::build_4_rule_groups(work, rows, triangles.sound);
     let met = counts.groups;
     let members = counts.members;
     members::order_members(work, rows, counts);
-    Counts {
+    MeshCounts {
         sound: triangles.sound,
         all: triangles.all,
         groups: met,

@@ -11,19 +11,20 @@ use lib.Dec.{eqb}
 use lib.ListN.{length, getD, length-append}
 use lib.Seq.{getD-set-same}
 use borrow.Author.Tests.{eq-eqb, eqb-true}
+use Rattle.bits.proofs.Bools.{and-left, beq-refl}
 use Rattle.laws.proofs.Closed.{Between}
 use Rattle.tangent.specs.Slot.{flag}
 use Rattle.table.specs.Table.{cell, put, column}
 use Rattle.table.specs.Columns.{vertexColumn, orientationColumn, groupColumn, metColumn, beginColumn}
 use Rattle.definition.specs.declared.Corner.{Corner}
 use Rattle.definition.specs.declared.Triangle.{Triangle}
-use Rattle.definition.specs.Lists.{first}
+use Rattle.lists.specs.Lists.{first}
 use Rattle.definition.specs.Mesh.{Third, one, two, three, Spot, prior, cornerOf}
 use Rattle.definition.specs.Step4Order.{spots, welded}
 use Rattle.definition.specs.Step5Links.{Link}
 use Rattle.definition.specs.Step6Groups.{Mark, grouped, facing, stops, cornerIn, over, going, walk}
-use Rattle.laws.proofs.Mutual.{Names}
-use Rattle.laws.proofs.Laws.{mark, beq-refl}
+use Rattle.definition.specs.Names.{Names}
+use Rattle.laws.proofs.Laws.{mark}
 use Rattle.view.specs.Rows.{num, row, spotAt}
 use Rattle.view.specs.Groups.{numberOf}
 use Rattle.groups.specs.declared.Entry.{Entry}
@@ -92,10 +93,6 @@ module _ (rows : ℕ) (ss : List Triangle) (d : Triangle) (ls : List Link) (B : 
     adopted-same : (o : ℕ) → (getD ss t d .any && not (anyOf ms (getD ss t d))) ≡ false → adopted rows t o w ≡ w
     unfolding adopted
     adopted-same o e = ap (λ b. cond b (put rows orientationColumn t o w) w) (untouched-is ∙ e)
-
-    and-left : (a b : Bool) → (a && b) ≡ true → a ≡ true
-    and-left true b e = refl
-    and-left false b e = e
 
     and-not : (a b : Bool) → (a && not b) ≡ true → b ≡ false
     and-not true true e = absurd (false≢true e)

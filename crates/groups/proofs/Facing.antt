@@ -4,7 +4,7 @@ use mathlib.Core.Bool.{Bool, true, false, cond, not, _&&_, _||_, true≢false, f
 use mathlib.Core.List.{List, [], _∷_, _++_}
 use mathlib.Core.Option.{Option, none, some}
 use Rattle.definition.specs.declared.Triangle.{Triangle}
-use Rattle.definition.specs.Lists.{first, has}
+use Rattle.lists.specs.Lists.{first, has}
 use Rattle.definition.specs.Mesh.{Third, one, two, three, Spot, sameThird, sameTriangle, sameSpot}
 use Rattle.definition.specs.Step6Groups.{Mark, grouped, wayOf, touched, facing}
 

@@ -12,19 +12,19 @@ use borrow.Author.Tests.{eq-eqb, ne-eqb, eqb-true}
 use Rattle.laws.proofs.Closed.{Between}
 use Rattle.tangent.specs.Slot.{flag}
 use Rattle.table.specs.Table.{cell, column, filledTo}
-use Rattle.table.specs.Loop.{upTo, listOf}
+use Rattle.lists.specs.Loops.{upTo, listOf}
 use Rattle.table.specs.Columns.{columns, vertexColumn, linkColumn, orientationColumn, anyColumn, groupColumn, metColumn, beginColumn}
 use Rattle.table.proofs.Laws.{getD-column, filled-column}
-use Rattle.table.proofs.Loops.{length-listOf, getD-listOf}
+use Rattle.lists.proofs.Loops.{length-listOf, getD-listOf}
 use Rattle.definition.specs.declared.Corner.{Corner}
 use Rattle.definition.specs.declared.Triangle.{Triangle}
-use Rattle.definition.specs.Lists.{keep, first, has}
+use Rattle.lists.specs.Lists.{keep, first, has}
 use Rattle.definition.specs.Mesh.{Third, one, two, three, Spot, after, kept as keptAt, cornerOf, sameThird, sameTriangle, sameSpot}
 use Rattle.definition.specs.Step4Order.{welded}
 use Rattle.definition.specs.Step5Links.{Link, beyond}
 use Rattle.definition.specs.Step6Groups.{Mark, grouped, wayOf, touched, facing, cornerIn, marks, members}
 use Rattle.bits.proofs.Bools.{and-left, and-right}
-use Rattle.laws.proofs.Mutual.{Names}
+use Rattle.definition.specs.Names.{Names}
 use Rattle.laws.proofs.Weld.{welded-as}
 use Rattle.laws.proofs.Laws.{one-corner, final-way}
 use Rattle.laws.proofs.Sharp.{sharp-own}

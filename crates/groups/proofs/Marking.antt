@@ -3,7 +3,7 @@ use Prim.Native.Nat.{ℕ, zero, suc, _+_, _*_, _≤_, _<_}
 use native.Mathlib.Nat.{eq-or-lt-of-le, le-refl}
 use native.Mathlib.Omega.{arith}
 use mathlib.Core.Path.{_≡_, refl, sym, _∙_, ap, subst}
-use mathlib.Core.Bool.{Bool, true, false, cond, not, _&&_, _||_}
+use mathlib.Core.Bool.{Bool, true, false, cond, not, _&&_, _||_, or-true}
 use mathlib.Core.List.{List, [], _∷_, _++_}
 use mathlib.Core.Logic.{⊎-elim}
 use lib.Dec.{eqb}
@@ -19,7 +19,7 @@ use Rattle.definition.specs.declared.Triangle.{Triangle}
 use Rattle.definition.specs.Mesh.{Third, one, two, three, Spot, sameTriangle, sameSpot}
 use Rattle.definition.specs.Step5Links.{Link, beyond}
 use Rattle.definition.specs.Step6Groups.{Mark, grouped, facing, stops}
-use Rattle.laws.proofs.Mutual.{Names}
+use Rattle.definition.specs.Names.{Names}
 use Rattle.laws.proofs.Bridge.{index-same}
 use Rattle.laws.proofs.Laws.{mark, settled-new}
 use Rattle.view.specs.Frame.{Only}
@@ -32,10 +32,6 @@ use Rattle.groups.specs.Walk.{walkColumns, untouched, adopted, ungrouped
 use Rattle.groups.specs.Marks.{Fixed, Stands, Faces, Marked}
 use Rattle.groups.proofs.Laws.{cond-case, adopted-column, only-adopted, marked-grown}
 use Rattle.groups.proofs.Facing.{grouped-snoc, facing-other}
-
-or-true : (b : Bool) → (b || true) ≡ true
-or-true true = refl
-or-true false = refl
 
 or-false : (b : Bool) → (b || false) ≡ b
 or-false true = refl

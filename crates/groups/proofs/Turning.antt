@@ -14,19 +14,20 @@ use borrow.Author.Tests.{eq-eqb, ne-eqb, eqb-true, le-leb, lt-leb, lt-ltb, le-lt
 use Rattle.laws.proofs.Closed.{Between}
 use Rattle.tangent.specs.Slot.{flag}
 use Rattle.table.specs.Table.{cell, put, column}
-use Rattle.table.specs.Loop.{upTo}
+use Rattle.lists.specs.Loops.{upTo}
 use Rattle.table.specs.Columns.{columns, vertexColumn, linkColumn, orientationColumn, anyColumn, groupColumn, metColumn, beginColumn}
 use Rattle.table.proofs.Laws.{getD-column}
 use Rattle.definition.specs.declared.Corner.{Corner}
 use Rattle.definition.specs.declared.Triangle.{Triangle}
-use Rattle.definition.specs.Lists.{run}
+use Rattle.lists.specs.Lists.{run}
 use Rattle.definition.specs.Mesh.{Third, one, two, three, Spot, cornerOf, sameSpot}
 use Rattle.definition.specs.Step4Order.{spots, welded}
 use Rattle.definition.specs.Step5Links.{Link, beyond}
 use Rattle.definition.specs.Step6Groups.{Mark, grouped, wayOf, touched, facing, cornerIn, going, walk, fan, startAt, marks}
 use Rattle.laws.proofs.Enough.{Near, Grows, spot-refl}
 use Rattle.laws.proofs.Weld.{welded-refl}
-use Rattle.laws.proofs.Mutual.{Names, spot-sym}
+use Rattle.definition.specs.Names.{Names}
+use Rattle.laws.proofs.Mutual.{spot-sym}
 use Rattle.laws.proofs.Laws.{mark, start-marks, start-first, start-grows}
 use Rattle.view.specs.Rows.{num, row, spotAt}
 use Rattle.view.specs.Groups.{numberOf}

@@ -13,7 +13,7 @@ use Rattle.table.specs.Table.{cell}
 use Rattle.table.specs.Columns.{vertexColumn, linkColumn}
 use Rattle.definition.specs.declared.Corner.{Corner}
 use Rattle.definition.specs.declared.Triangle.{Triangle}
-use Rattle.definition.specs.Lists.{keep}
+use Rattle.lists.specs.Lists.{keep}
 use Rattle.definition.specs.Mesh.{Third, one, two, three, Spot, before, prior, cornerOf}
 use Rattle.definition.specs.Step4Order.{spots, welded}
 use Rattle.definition.specs.Step5Links.{Link, beyond}
@@ -21,7 +21,7 @@ use Rattle.definition.specs.Step6Groups.{Mark, cornerIn, overTo, over, going, w
 use Rattle.laws.proofs.World.{welded-sym}
 use Rattle.laws.proofs.Enough.{Near, enough, open-fan}
 use Rattle.laws.proofs.Closed.{Between, over-near}
-use Rattle.laws.proofs.Mutual.{Names}
+use Rattle.definition.specs.Names.{Names}
 use Rattle.laws.proofs.Laws.{mark}
 use Rattle.neighbors.specs.Links.{linkOf}
 use Rattle.view.specs.Rows.{num, row, spotAt}

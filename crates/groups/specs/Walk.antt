@@ -11,7 +11,7 @@ use Rattle.view.specs.Frame.{Only}
 use Rattle.neighbors.specs.declared.Link.{Link}
 use Rattle.neighbors.specs.declared.Link.the-variants.{To, Nothing}
 use Rattle.neighbors.specs.Links.{linkOf}
-use Rattle.groups.specs.declared.Counts.{Counts}
+use Rattle.groups.specs.declared.GroupCounts.{GroupCounts}
 use Rattle.groups.specs.declared.Entry.{Entry}
 use Rattle.groups.specs.declared.Entry.the-variants.{At, Stop}
 
@@ -122,7 +122,7 @@ pub record State : Type 0 where
   pub members : ℕ
 
 -- the state of a list and the code's counts
-abbrev pub state : List ℕ → Counts → State
+abbrev pub state : List ℕ → GroupCounts → State
 state w c = record { work = w; groups = c .groups; members = c .members }
 
 -- the state after a walk, the last of g groups

@@ -7,11 +7,11 @@ ghost use Prim.Native.Nat.{ℕ, _+_, _*_, _/_, _<_, _≤_};
 ghost use lib.ListN.{length};
 ghost use Rattle.table.specs.Columns.{columns, linkColumn};
 ghost use Rattle.table.specs.Table.{cell};
-ghost use Rattle.table.specs.Loop.{upTo};
+ghost use Rattle.lists.specs.Loops.{upTo};
 ghost use Rattle.definition.specs.declared.Triangle.{Triangle};
 ghost use Rattle.definition.specs.Step5Links as step5;
 ghost use Rattle.laws.proofs.Closed.{Between};
-ghost use Rattle.laws.proofs.Mutual.{Names};
+ghost use Rattle.definition.specs.Names.{Names};
 ghost use Rattle.view.specs.Frame.{Only};
 ghost use Rattle.view.specs.Weld.{Sharp};
 ghost use Rattle.groups.specs.Marks.{Asked, Walked};
@@ -25,7 +25,7 @@ pub enum Entry {
 }
 
 // How many groups and members there are.
-pub struct Counts {
+pub struct GroupCounts {
     pub groups: u32,
     pub members: usize,
 }
@@ -147,7 +147,7 @@ fn side_step(
 // ---- the groups
 
 // The turn of corner k: a group starts there, unless its triangle is `group_with_any` or the corner is in a group.
-fn start_at(work: &mut [u32], rows: usize, tris: usize, k: usize, s: Counts) -> Counts
+fn start_at(work: &mut [u32], rows: usize, tris: usize, k: usize, s: GroupCounts) -> GroupCounts
     requires { ⌜ (k < 3 * tris) × (s .groups ≤ k) × spec.Ready rows tris (s .groups + 1) (s .members) (now work) ⌝ }
     ensures { λ r. ⌜ spec.Turned rows tris k (spec.state (now (work .entry)) s) (spec.state (now (work .exit)) r) ⌝ }
 {
@@ -164,20 +164,20 @@ fn start_at(work: &mut [u32], rows: usize, tris: usize, k: usize, s: Counts) -> 
     let orient = work[table::ORIENTATION * rows + t];
     work[table::BEGIN * rows + groups as usize] = members as u32;
     let n = corner_step(work, rows, tris, t, groups + 1, vertex, orient, members);
-    Counts {
+    GroupCounts {
         groups: groups + 1,
         members: n,
     }
 }
 
 // All groups, in triangle and corner order.
-fn walk_all(work: &mut [u32], rows: usize, tris: usize) -> Counts
+fn walk_all(work: &mut [u32], rows: usize, tris: usize) -> GroupCounts
     requires { ⌜ (3 * tris ≤ rows) × (columns * rows ≤ length (now work)) × (rows < 4294967295) × ((r : ℕ) → r < 3 * tris → cell rows linkColumn r (now work) ≤ 3 * tris) ⌝ }
     ensures is { λ r. ⌜ spec.state (now (work .exit)) r ≡ upTo (3 * tris) (spec.turn rows) (spec.state (spec.cleared rows (now (work .entry))) (record { groups = 0; members = 0 })) ⌝ }
     ensures few { λ r. ⌜ (r .groups ≤ 3 * tris) × (r .members ≤ rows) ⌝ }
     ensures only { λ _. ⌜ Only spec.walkColumns rows (now (work .entry)) (now (work .exit)) ⌝ }
 {
-    let mut s = Counts {
+    let mut s = GroupCounts {
         groups: 0,
         members: 0,
     };
@@ -189,7 +189,7 @@ fn walk_all(work: &mut [u32], rows: usize, tris: usize) -> Counts
 }
 
 // Step 6: the corners of sound triangles in groups.
-pub fn build_4_rule_groups(work: &mut [u32], rows: usize, tris: usize) -> Counts
+pub fn build_4_rule_groups(work: &mut [u32], rows: usize, tris: usize) -> GroupCounts
     requires { ⌜ (3 * tris ≤ rows) × (columns * rows ≤ length (now work)) × (rows < 4294967295) × ((r : ℕ) → r < 3 * tris → cell rows linkColumn r (now work) ≤ 3 * tris) ⌝ }
     ensures grouped { λ r. ⌜ ((ss : List Triangle) (d : Triangle) (ls : List step5.Link) → Between ss ls → length ss ≡ tris → Names ss → Sharp ss d → Asked rows ss d ls (now (work .entry)) → Walked rows ss d ls (now (work .entry)) (now (work .exit)) (r .groups) (r .members)) ⌝ }
     ensures few { λ r. ⌜ (r .groups ≤ 3 * tris) × (r .members ≤ rows) ⌝ }

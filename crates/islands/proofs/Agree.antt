@@ -9,8 +9,8 @@ use lib.Dec.{eqb}
 use lib.ListN.{length, getD}
 use borrow.Author.Tests.{eq-eqb, eqb-true}
 use Rattle.definition.specs.declared.Corner.{Corner}
-use Rattle.table.specs.Loop.{upTo}
-use Rattle.table.proofs.Loops.{upTo-ind}
+use Rattle.lists.specs.Loops.{upTo}
+use Rattle.lists.proofs.Loops.{upTo-ind}
 use Rattle.islands.specs.Islands.{touches, Chain, alone, counted, noIsland, Given, lowest, other, merge, unite, uniteAll, lowestOf, islandOf}
 use Rattle.islands.proofs.Chains.{Right, right-lowest, touches-counted, touches-sym, counted-below, chain-join, chain-one, chain-sym}
 

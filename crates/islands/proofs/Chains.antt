@@ -8,7 +8,7 @@ use mathlib.Core.List.{List, [], _∷_, List·Memᴰ, List·Memᴰ·head, List·
 use lib.ListN.{length, getD}
 use Rattle.definition.specs.declared.Corner.{Corner}
 use Rattle.definition.specs.Handed.{used}
-use Rattle.definition.specs.Lists.{has}
+use Rattle.lists.specs.Lists.{has}
 use Rattle.definition.specs.Triangles.{usable}
 use Rattle.definition.specs.Step4Order.{welded}
 use Rattle.laws.proofs.World.{welded-sym}

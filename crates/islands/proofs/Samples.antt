@@ -5,7 +5,7 @@ use mathlib.Core.List.{List, [], _∷_}
 use lib.Ieee.{binary32, ofBits}
 use Rattle.math.specs.Vector.{vec, origin}
 use Rattle.definition.specs.declared.Corner.{Corner}
-use Rattle.table.specs.Loop.{listOf, upTo}
+use Rattle.lists.specs.Loops.{listOf, upTo}
 use Rattle.islands.specs.Islands.{touch, touches, counted, noIsland, merge, unite, uniteAll, lowestOf, islandOf}
 
 -- a corner that only its texture coordinate tells apart
@@ -24,5 +24,5 @@ mesh =
     ∷ []
 
 pub six-faces : listOf 6 (islandOf mesh) ≡ 0 ∷ noIsland ∷ 0 ∷ 0 ∷ 4 ∷ 4 ∷ []
-unfolding listOf islandOf lowestOf uniteAll unite merge upTo touches touch counted Rattle.definition.specs.Handed.used Rattle.definition.specs.Lists.has Rattle.definition.specs.Triangles.usable Rattle.definition.specs.Step4Order.welded Rattle.definition.specs.Step4Order.sameNumbers Rattle.definition.specs.Step4Order.sameVector Rattle.definition.specs.Step4Order.sameBits lib.Ieee.toBits ofBits
+unfolding listOf islandOf lowestOf uniteAll unite merge upTo touches touch counted Rattle.definition.specs.Handed.used Rattle.lists.specs.Lists.has Rattle.definition.specs.Triangles.usable Rattle.definition.specs.Step4Order.welded Rattle.definition.specs.Step4Order.sameNumbers Rattle.definition.specs.Step4Order.sameVector Rattle.definition.specs.Step4Order.sameBits lib.Ieee.toBits ofBits
 six-faces = refl

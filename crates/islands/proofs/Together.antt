@@ -14,7 +14,7 @@ use Rattle.tangent.specs.declared.Reading.{Reading}
 use Rattle.definition.specs.declared.Corner.{Corner}
 use Rattle.definition.specs.declared.Triangle.{Triangle}
 use Rattle.definition.specs.Handed.{used}
-use Rattle.definition.specs.Lists.{has}
+use Rattle.lists.specs.Lists.{has}
 use Rattle.definition.specs.Shuffle.{Shuffle, done, left, right, cornersOf, shares}
 use Rattle.definition.specs.Triangles.{usable}
 use Rattle.definition.specs.Step4Order.{welded}
@@ -22,8 +22,8 @@ use Rattle.definition.specs.Step7Sums.{Brought}
 use Rattle.definition.specs.Step9Copies.{nooks, faceReadings}
 use Rattle.definition.specs.Frames.{numbered, framesFrom, framesOf, frames}
 use Rattle.laws.proofs.Shuffled.{shuffled}
-use Rattle.table.specs.Loop.{listOf}
-use Rattle.table.proofs.Loops.{length-listOf, getD-listOf}
+use Rattle.lists.specs.Loops.{listOf}
+use Rattle.lists.proofs.Loops.{length-listOf, getD-listOf}
 use Rattle.islands.specs.Islands.{faceAt, touch, touches, counted, islandOf}
 use Rattle.islands.specs.Together.{picked, rank, Closed, inIsland, island, apartFrames, together}
 use Rattle.islands.proofs.Chains.{Passing, has-some, has-one}

@@ -8,10 +8,9 @@ use mathlib.Core.Bool.{Bool, true, false, cond}
 use mathlib.Core.List.{List, _++_}
 use lib.ListN.{length, getD, set, drop, length-set, length-append, length-drop, List·getD-append}
 use lib.Seq.{ext-getD, getD-set-same, getD-set-other, getD-append-add, getD-drop}
-use lib.Ieee.{Float}
-use Rattle.definition.specs.Handed.{meshFrom, used}
-use Rattle.table.specs.Loop.{listOf}
-use Rattle.table.proofs.Loops.{length-listOf, getD-listOf}
+use Rattle.definition.specs.Handed.{meshOf, Handed, used}
+use Rattle.lists.specs.Loops.{listOf}
+use Rattle.lists.proofs.Loops.{length-listOf, getD-listOf}
 use Rattle.unions.specs.Unions.{Beyond, Downward, Level, United}
 use Rattle.unions.proofs.Stores.{either, after, beyond-set, beyond-trans}
 use Rattle.islands.specs.Islands.{noIsland, islandOf}
@@ -54,26 +53,26 @@ struck sizes p q s = record { beyond = s .beyond; each = s .done }
 
 -- ---- the whole list
 
-module _ (sizes : List ℕ) (ps ns ts : List Float) (labels q : List ℕ) (long : length sizes ≤ length labels) (size : length q ≡ length labels) (each : (f : ℕ) → f < length sizes → getD q f 0 ≡ islandOf (meshFrom ps ns ts 0 sizes) f) (rest : (x : ℕ) → length sizes ≤ x → getD q x 0 ≡ getD labels x 0) where
+module _ (mesh : Handed) (labels q : List ℕ) (long : length (mesh .sizes) ≤ length labels) (size : length q ≡ length labels) (each : (f : ℕ) → f < length (mesh .sizes) → getD q f 0 ≡ islandOf (meshOf mesh) f) (rest : (x : ℕ) → length (mesh .sizes) ≤ x → getD q x 0 ≡ getD labels x 0) where
   abbrev n : ℕ
-  n = length sizes
+  n = length (mesh .sizes)
 
   abbrev new : List ℕ
-  new = listOf n (islandOf (meshFrom ps ns ts 0 sizes))
+  new = listOf n (islandOf (meshOf mesh))
 
   new-length : length new ≡ n
-  new-length = length-listOf n (islandOf (meshFrom ps ns ts 0 sizes))
+  new-length = length-listOf n (islandOf (meshOf mesh))
 
   whole-length : length (new ++ drop n labels) ≡ length labels
   whole-length = length-append new (drop n labels) ∙ (λ i. new-length i + length-drop n labels i) ∙ add-sub-of-le long
 
   at : (i : ℕ) → Dec (i < n) → getD q i 0 ≡ getD (new ++ drop n labels) i 0
-  at i (yes h) = each i h ∙ sym (List·getD-append new (drop n labels) 0 i (omega (arith, new-length)) ∙ getD-listOf n (islandOf (meshFrom ps ns ts 0 sizes)) 0 i h)
+  at i (yes h) = each i h ∙ sym (List·getD-append new (drop n labels) 0 i (omega (arith, new-length)) ∙ getD-listOf n (islandOf (meshOf mesh)) 0 i h)
   at i (no h) =
       let k : n ≤ i = omega arith in
       let e : length new + (i - n) ≡ i = ap (λ j. j + (i - n)) new-length ∙ add-sub-of-le k in
       rest i k ∙ ap (λ j. getD labels j 0) (sym (add-sub-of-le k)) ∙ sym (getD-drop n labels (i - n) 0) ∙ sym (getD-append-add new (drop n labels) (i - n) 0) ∙ ap (λ j. getD (new ++ drop n labels) j 0) e
 
-  pub labelled-is : q ≡ labelled sizes ps ns ts labels
+  pub labelled-is : q ≡ labelled mesh labels
   unfolding labelled
   labelled-is = ext-getD 0 q (new ++ drop n labels) (size ∙ sym whole-length) (λ i h. at i (decLt i n))

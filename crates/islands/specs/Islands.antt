@@ -7,10 +7,10 @@ use lib.Dec.{eqb}
 use lib.ListN.{length, getD}
 use Rattle.definition.specs.declared.Corner.{Corner}
 use Rattle.definition.specs.Handed.{used}
-use Rattle.definition.specs.Lists.{has}
+use Rattle.lists.specs.Lists.{has}
 use Rattle.definition.specs.Triangles.{usable}
 use Rattle.definition.specs.Step4Order.{welded}
-use Rattle.table.specs.Loop.{upTo}
+use Rattle.lists.specs.Loops.{upTo}
 
 -- ---- what an island is
 

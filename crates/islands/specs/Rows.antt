@@ -4,10 +4,9 @@ use mathlib.Core.Path.{_≡_}
 use mathlib.Core.Bool.{Bool, true, cond}
 use mathlib.Core.List.{List, [], _∷_, _++_}
 use lib.ListN.{length, getD, set, take, drop}
-use lib.Ieee.{Float}
 use Rattle.definition.specs.declared.Corner.{Corner}
-use Rattle.definition.specs.Handed.{meshFrom, used, cornerCount}
-use Rattle.table.specs.Loop.{listOf}
+use Rattle.definition.specs.Handed.{meshOf, Handed, used, cornerCount}
+use Rattle.lists.specs.Loops.{listOf}
 use Rattle.table.specs.Table.{cell}
 use Rattle.table.specs.Columns.{cornerColumn, nameColumn, vertexColumn}
 use Rattle.unions.specs.Unions.{Beyond, Downward, Level}
@@ -70,5 +69,5 @@ pub record Struck (sizes p q : List ℕ) : Type 0 where
   pub each : (f : ℕ) → f < length sizes → getD q f 0 ≡ cond (used (getD sizes f 0)) (getD p f 0) noIsland
 
 -- the numbers of all faces, and what stood behind them
-unfoldable pub labelled : List ℕ → List Float → List Float → List Float → List ℕ → List ℕ
-labelled sizes ps ns ts labels = listOf (length sizes) (islandOf (meshFrom ps ns ts 0 sizes)) ++ drop (length sizes) labels
+unfoldable pub labelled : Handed → List ℕ → List ℕ
+labelled mesh labels = listOf (length (mesh .sizes)) (islandOf (meshOf mesh)) ++ drop (length (mesh .sizes)) labels

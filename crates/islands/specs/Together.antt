@@ -9,7 +9,7 @@ use lib.Ieee.{Float}
 use Rattle.tangent.specs.declared.Reading.{Reading}
 use Rattle.definition.specs.declared.Corner.{Corner}
 use Rattle.definition.specs.Frames.{frames}
-use Rattle.table.specs.Loop.{listOf}
+use Rattle.lists.specs.Loops.{listOf}
 use Rattle.islands.specs.Islands.{touches, counted, islandOf}
 
 -- those of a list whose numbers, from n on, pass a test, in order

@@ -4,7 +4,7 @@ ghost use mathlib.Core.Bool.{true, cond};
 ghost use mathlib.Core.List.{List, [], _∷_};
 ghost use Prim.Native.Nat.{ℕ, _+_, _*_, _-_, _/_, _<_, _≤_, _^_};
 ghost use lib.ListN.{length, drop};
-ghost use Rattle.definition.specs.Handed.{used};
+ghost use Rattle.definition.specs.Handed.{handed, used};
 ghost use Rattle.definition.specs.Limits.{faceLimit};
 ghost use Rattle.table.specs.Columns.{columns, rowsOf};
 ghost use Rattle.view.specs.Frame.{Only};
@@ -112,7 +112,7 @@ pub fn label(
     work: &mut [u32],
 )
     requires { ⌜ (length (now sizes) ≤ faceLimit) × (length (now sizes) ≤ length (now labels)) × (columns * rowsOf (length (now sizes)) ≤ length (now work)) ⌝ }
-    ensures { λ _. ⌜ (now (labels .exit) ≡ spec.labelled (now (sizes .entry)) (now (positions .entry)) (now (normals .entry)) (now (texture .entry)) (now (labels .entry))) × (length (now (work .exit)) ≡ length (now (work .entry))) × (drop (columns * rowsOf (length (now (sizes .entry)))) (now (work .exit)) ≡ drop (columns * rowsOf (length (now (sizes .entry)))) (now (work .entry))) ⌝ }
+    ensures { λ _. ⌜ (now (labels .exit) ≡ spec.labelled (handed (now (sizes .entry)) (now (positions .entry)) (now (normals .entry)) (now (texture .entry))) (now (labels .entry))) × (length (now (work .exit)) ≡ length (now (work .entry))) × (drop (columns * rowsOf (length (now (sizes .entry)))) (now (work .exit)) ≡ drop (columns * rowsOf (length (now (sizes .entry)))) (now (work .entry))) ⌝ }
 {
     let faces = sizes.len();
     let rows = 6 * faces;

@@ -7,10 +7,9 @@ use mathlib.Core.Bool.{Bool, true, false, cond}
 use mathlib.Core.List.{List}
 use lib.Dec.{eqb}
 use lib.ListN.{length, getD, drop, length-append}
-use lib.Ieee.{Float}
-use Rattle.definition.specs.Handed.{meshFrom}
-use Rattle.table.specs.Loop.{listOf}
-use Rattle.table.proofs.Loops.{length-listOf}
+use Rattle.definition.specs.Handed.{meshOf, Handed}
+use Rattle.lists.specs.Loops.{listOf}
+use Rattle.lists.proofs.Loops.{length-listOf}
 use Rattle.islands.specs.Islands.{islandOf}
 use Rattle.islands.specs.Rows.{labelled}
 use Rattle.islands.proofs.Labels.{label-at}
@@ -44,18 +43,18 @@ own-same (suc n) l m h =
     let r = own-same n l m (λ f k. h f (omega arith)) in
     ap (λ x. x + cond (eqb (l n) n) 1 0) r ∙ ap (λ x. ownNumbers n m + cond (eqb x n) 1 0) (h n (omega arith))
 
-module _ (sizes : List ℕ) (ps ns ts : List Float) (labels : List ℕ) where
+module _ (mesh : Handed) (labels : List ℕ) where
   -- so that counting them counts the islands
-  pub counts-islands : (out : List ℕ) (n : ℕ) → out ≡ labelled sizes ps ns ts labels → n ≡ ownNumbers (length sizes) (λ f. getD out f 0) → n ≡ islandCount sizes ps ns ts
+  pub counts-islands : (out : List ℕ) (n : ℕ) → out ≡ labelled mesh labels → n ≡ ownNumbers (length (mesh .sizes)) (λ f. getD out f 0) → n ≡ islandCount mesh
   unfolding islandCount
   counts-islands out n e h =
-      h ∙ own-same (length sizes) (λ f. getD out f 0) (islandOf (meshFrom ps ns ts 0 sizes)) (λ f k. ap (λ l. getD l f 0) e ∙ label-at sizes ps ns ts labels f k)
+      h ∙ own-same (length (mesh .sizes)) (λ f. getD out f 0) (islandOf (meshOf mesh)) (λ f k. ap (λ l. getD l f 0) e ∙ label-at mesh labels f k)
 
 -- no label more and none less
-pub labels-length : (sizes : List ℕ) (ps ns ts : List Float) (labels out : List ℕ) → length sizes ≤ length labels → out ≡ labelled sizes ps ns ts labels → length sizes ≤ length out
+pub labels-length : (mesh : Handed) (labels out : List ℕ) → length (mesh .sizes) ≤ length labels → out ≡ labelled mesh labels → length (mesh .sizes) ≤ length out
 unfolding labelled
-labels-length sizes ps ns ts labels out h e =
-    let n = length sizes in
-    let g = islandOf (meshFrom ps ns ts 0 sizes) in
+labels-length mesh labels out h e =
+    let n = length (mesh .sizes) in
+    let g = islandOf (meshOf mesh) in
     let l = ap length e ∙ length-append (listOf n g) (drop n labels) in
     omega (arith, l, length-listOf n g)

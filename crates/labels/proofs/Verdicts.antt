@@ -7,13 +7,12 @@ use mathlib.Core.List.{List}
 use mathlib.Core.Option.{Option, none, some, Option·none-ne-some, Option·some-injective}
 use lib.Dec.{ltb}
 use lib.ListN.{length}
-use lib.Ieee.{Float}
 use borrow.Author.Tests.{ltb-false}
-use Rattle.definition.specs.Desk.{Row}
+use Rattle.definition.specs.Handed.{Handed}
+use Rattle.definition.specs.Desk.{Row, shown}
 use Rattle.bits.specs.Single.{zeroᶠ}
-use Rattle.laws.proofs.Part.{Each, each-none, each-some}
-use Rattle.laws.proofs.Closed.{Found}
-use Rattle.laws.proofs.Verdict.{verdict-numbered}
+use Rattle.lists.specs.Every.{Each, each-none, each-some}
+use Rattle.laws.proofs.Verdict.{verdict-numbered, InTable}
 use Rattle.desk.specs.Verdict.{told}
 use Rattle.islands.specs.Nine.{nine, afterwards}
 use Rattle.labels.specs.declared.Labelled.{Labelled}
@@ -47,16 +46,16 @@ passed none true e = absurd (Option·none-ne-some nine (sym e))
 passed none false e = (refl, refl)
 
 -- the same of the lists
-pub passed-labels : (sizes : List ℕ) (ps ns ts : List Float) (labels work : ℕ) → labelsVerdict sizes ps ns ts labels work ≡ none → (deskVerdict sizes ps ns ts work ≡ none) × (length sizes ≤ labels)
+pub passed-labels : (mesh : Handed) (labels work : ℕ) → labelsVerdict mesh labels work ≡ none → (deskVerdict mesh work ≡ none) × (length (mesh .sizes) ≤ labels)
 unfolding labelsVerdict
-passed-labels sizes ps ns ts labels work e = let p = passed _ _ e in (p .0, ltb-false labels (length sizes) (p .1))
+passed-labels mesh labels work e = let p = passed _ _ e in (p .0, ltb-false labels (length (mesh .sizes)) (p .1))
 
 -- the number of a row that is given is not 0
-pub given-number : (sizes : List ℕ) (ps ns ts : List Float) (labels work : ℕ) (r : Row) → labelsVerdict sizes ps ns ts labels work ≡ some r → 0 < r .number
+pub given-number : (mesh : Handed) (labels work : ℕ) (r : Row) → labelsVerdict mesh labels work ≡ some r → 0 < r .number
 unfolding labelsVerdict afterwards
-given-number sizes ps ns ts labels work r e = go (deskVerdict sizes ps ns ts work) (verdict-numbered sizes ps ns ts zeroᶠ longestAnswer work) (ltb labels (length sizes)) e
+given-number mesh labels work r e = go (deskVerdict mesh work) (verdict-numbered (shown mesh zeroᶠ longestAnswer work)) (ltb labels (length (mesh .sizes))) e
   where
-    go : (o : Option Row) → Each (Found (λ r. r .applies) (λ r. (0 < r .number) × (r .number ≤ 6))) o → (b : Bool) → afterwards o b ≡ some r → 0 < r .number
+    go : (o : Option Row) → Each InTable o → (b : Bool) → afterwards o b ≡ some r → 0 < r .number
     go none each-none true e = let q = ap (λ x. x .number) (Option·some-injective nine r e) in omega (arith, q)
     go none each-none false e = absurd (Option·none-ne-some r e)
     go (some s) (each-some f) b e = let q = ap (λ x. x .number) (Option·some-injective s r e) in omega (arith, q, f .known .0)

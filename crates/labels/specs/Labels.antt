@@ -6,9 +6,8 @@ use mathlib.Core.List.{List, _++_}
 use mathlib.Core.Option.{Option, none, some}
 use lib.Dec.{eqb, ltb}
 use lib.ListN.{length, drop, replicate}
-use lib.Ieee.{Float}
 use Rattle.definition.specs.Limits.{workWords}
-use Rattle.definition.specs.Handed.{meshFrom}
+use Rattle.definition.specs.Handed.{meshOf, Handed}
 use Rattle.definition.specs.Desk.{Row}
 use Rattle.mikktspace.specs.Alone.{deskVerdict}
 use Rattle.islands.specs.Islands.{islandOf}
@@ -17,8 +16,8 @@ use Rattle.islands.specs.Nine.{afterwards}
 use Rattle.labels.specs.declared.Labelled.{Labelled}
 
 -- the table, and then 9 where the list for the numbers has fewer than one a face
-unfoldable pub labelsVerdict : List ℕ → List Float → List Float → List Float → ℕ → ℕ → Option Row
-labelsVerdict sizes ps ns ts labels work = afterwards (deskVerdict sizes ps ns ts work) (ltb labels (length sizes))
+unfoldable pub labelsVerdict : Handed → ℕ → ℕ → Option Row
+labelsVerdict mesh labels work = afterwards (deskVerdict mesh work) (ltb labels (length (mesh .sizes)))
 
 -- how many of the faces before n have their own number: one of each island, its lowest
 unfoldable pub ownNumbers : ℕ → (ℕ → ℕ) → ℕ
@@ -26,8 +25,8 @@ ownNumbers zero l = 0
 ownNumbers (suc n) l = let r = ownNumbers n l in r + cond (eqb (l n) n) 1 0
 
 -- how many islands a mesh has
-unfoldable pub islandCount : List ℕ → List Float → List Float → List Float → ℕ
-islandCount sizes ps ns ts = ownNumbers (length sizes) (islandOf (meshFrom ps ns ts 0 sizes))
+unfoldable pub islandCount : Handed → ℕ
+islandCount mesh = ownNumbers (length (mesh .sizes)) (islandOf (meshOf mesh))
 
 -- all that the call leaves behind: what it returns, and the two lists
 pub record Leaving : Type 0 where
@@ -41,14 +40,14 @@ unfoldable pub left : Labelled → List ℕ → List ℕ → Leaving
 left r labels work = record { number = r .number; place = r .place; islands = r .islands; labels = labels; work = work }
 
 -- acceptance: each face's number, and the work list as one call for frames leaves it
-unfoldable pub acceptedLabels : List ℕ → List Float → List Float → List Float → List ℕ → List ℕ → Leaving
-acceptedLabels sizes ps ns ts labels work =
+unfoldable pub acceptedLabels : Handed → List ℕ → List ℕ → Leaving
+acceptedLabels mesh labels work =
     record {
       number = 0;
       place = 0;
-      islands = islandCount sizes ps ns ts;
-      labels = labelled sizes ps ns ts labels;
-      work = replicate (workWords * length sizes) 0 ++ drop (workWords * length sizes) work;
+      islands = islandCount mesh;
+      labels = labelled mesh labels;
+      work = replicate (workWords * length (mesh .sizes)) 0 ++ drop (workWords * length (mesh .sizes)) work;
     }
 
 -- a refusal returns its number and its place, and alters nothing
@@ -57,10 +56,10 @@ answered none taken labels work = taken
 answered (some r) taken labels work = record { number = r .number; place = r .place; islands = 0; labels = labels; work = work }
 
 -- what the call leaves behind, for every input
-unfoldable pub labelsOutcome : List ℕ → List Float → List Float → List Float → List ℕ → List ℕ → Leaving
-labelsOutcome sizes ps ns ts labels work =
-    answered (labelsVerdict sizes ps ns ts (length labels) (length work)) (acceptedLabels sizes ps ns ts labels work) labels work
+unfoldable pub labelsOutcome : Handed → List ℕ → List ℕ → Leaving
+labelsOutcome mesh labels work =
+    answered (labelsVerdict mesh (length labels) (length work)) (acceptedLabels mesh labels work) labels work
 
 -- The contract of the public call. Handed in: face sizes, positions, normals and texture coordinates; lent: the list for the numbers l and the work list w, which it leaves as m and v; returned: r.
-abbrev pub Labels : List ℕ → List Float → List Float → List Float → List ℕ → List ℕ → Labelled → List ℕ → List ℕ → Type 0
-Labels sizes ps ns ts l w r m v = left r m v ≡ labelsOutcome sizes ps ns ts l w
+abbrev pub Labels : Handed → List ℕ → List ℕ → Labelled → List ℕ → List ℕ → Type 0
+Labels mesh l w r m v = left r m v ≡ labelsOutcome mesh l w

@@ -5,6 +5,7 @@ ghost use mathlib.Core.Option.{none};
 ghost use Prim.Native.Nat.{_+_, _≤_, _<_};
 ghost use lib.Dec.{eqb};
 ghost use lib.ListN.{length, getD};
+ghost use Rattle.definition.specs.Handed.{handed};
 ghost use Rattle.definition.specs.Limits.{faceLimit};
 ghost use Rattle.labels.specs.Labels as spec;
 
@@ -61,11 +62,11 @@ fn number_faces(
     work: &mut [u32],
     labels: &mut [u32],
 ) -> u32
-    requires { ⌜ spec.labelsVerdict (now sizes) (now positions) (now normals) (now texture) (length (now labels)) (length (now work)) ≡ none ⌝ }
-    ensures { λ n. ⌜ spec.left (record { number = 0; place = 0; islands = n }) (now (labels .exit)) (now (work .exit)) ≡ spec.acceptedLabels (now (sizes .entry)) (now (positions .entry)) (now (normals .entry)) (now (texture .entry)) (now (labels .entry)) (now (work .entry)) ⌝ }
+    requires { ⌜ spec.labelsVerdict (handed (now sizes) (now positions) (now normals) (now texture)) (length (now labels)) (length (now work)) ≡ none ⌝ }
+    ensures { λ n. ⌜ spec.left (record { number = 0; place = 0; islands = n }) (now (labels .exit)) (now (work .exit)) ≡ spec.acceptedLabels (handed (now (sizes .entry)) (now (positions .entry)) (now (normals .entry)) (now (texture .entry))) (now (labels .entry)) (now (work .entry)) ⌝ }
 {
     islands::label(sizes, positions, normals, texture, labels, work);
-    table::clear_first(work, 128 * sizes.len());
+    table::clear_first(work, definition::WORK_WORDS * sizes.len());
     count_islands(labels, sizes.len())
 }
 
@@ -75,19 +76,19 @@ pub fn label_faces(
     sizes: &[u8],
     positions: &[f32],
     normals: &[f32],
-    tex_coords: &[f32],
+    texture: &[f32],
     labels: &mut [u32],
     work: &mut [u32],
 ) -> Labelled
-    ensures { λ r. ⌜ spec.Labels (now (sizes .entry)) (now (positions .entry)) (now (normals .entry)) (now («tex_coords» .entry)) (now (labels .entry)) (now (work .entry)) r (now (labels .exit)) (now (work .exit)) ⌝ }
+    ensures { λ r. ⌜ spec.Labels (handed (now (sizes .entry)) (now (positions .entry)) (now (normals .entry)) (now (texture .entry))) (now (labels .entry)) (now (work .entry)) r (now (labels .exit)) (now (work .exit)) ⌝ }
 {
     let v = desk::judge(
         sizes,
         positions,
         normals,
-        tex_coords,
+        texture,
         0.0,
-        2621440,
+        mikktspace::LONGEST_ANSWER,
         work.len(),
     );
     if v.number != 0 {
@@ -96,6 +97,6 @@ pub fn label_faces(
     if labels.len() < sizes.len() {
         return said(9, 0, 0);
     }
-    let islands = number_faces(sizes, positions, normals, tex_coords, work, labels);
+    let islands = number_faces(sizes, positions, normals, texture, work, labels);
     said(0, 0, islands)
 }

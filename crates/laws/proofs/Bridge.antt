@@ -8,6 +8,8 @@ use lib.Dec.{eqb, eqb·zero-suc, eqb·suc-zero, eqb·suc-suc}
 use lib.ListN.{length, getD, length-append, length-map, replicate}
 use lib.Ieee.{Float}
 use borrow.Author.Tests.{eq-eqb, ne-eqb}
+use Rattle.laws.proofs.Laws.{tri-refl}
+use Rattle.bits.proofs.Bools.{beq-refl, beq-sym}
 use Rattle.tangent.specs.declared.Reading.{Reading}
 use Rattle.tangent.specs.Slot as slot
 use Rattle.tangent.specs.Slot.{slotWords}
@@ -24,12 +26,12 @@ use Rattle.definition.specs.Step5Links.{links}
 use Rattle.definition.specs.Step6Groups.{Mark, stops, over, going, marks}
 use Rattle.definition.specs.Step7Sums.{Brought, broughtAll}
 use Rattle.definition.specs.Step9Copies.{nooks, faceReadings}
-use Rattle.definition.specs.Triangles.{usable, nook, pieces, triangles}
-use Rattle.laws.proofs.Part.{Every, every-nil, every-cons}
+use Rattle.definition.specs.Triangles.{usable, nook, pieces}
+use Rattle.lists.specs.Every.{Every, every-nil, every-cons}
 use Rattle.laws.proofs.World.{eqb-sym}
 use Rattle.laws.proofs.Enough.{Near, walked, walked-eq}
 use Rattle.laws.proofs.Closed.{over-near, links-sound}
-use Rattle.laws.proofs.Mutual.{Names, names-nil, names-cons}
+use Rattle.definition.specs.Names.{Names, names-nil, names-cons}
 
 -- ---- ten words a slot
 
@@ -85,20 +87,6 @@ module _ (ps ns ts : List Float) where
   answer-length h sizes = all-length _ _ 0 0 sizes
 
 -- ---- triangles by index: one name, one index
-
-beq-refl : (b : Bool) → Bool·beq b b ≡ true
-beq-refl true = refl
-beq-refl false = refl
-
-pub beq-sym : (a b : Bool) → Bool·beq a b ≡ Bool·beq b a
-beq-sym true true = refl
-beq-sym true false = refl
-beq-sym false true = refl
-beq-sym false false = refl
-
-tri-refl : (t : Triangle) → sameTriangle t t ≡ true
-unfolding sameTriangle
-tri-refl t = rw (eq-eqb (t .face) (t .face) refl, beq-refl (t .second))
 
 pub tri-sym : (s t : Triangle) → sameTriangle s t ≡ sameTriangle t s
 unfolding sameTriangle

@@ -15,13 +15,14 @@ use Rattle.tangent.specs.Space.{zeroTangent}
 use Rattle.definition.specs.declared.Corner.{Corner}
 use Rattle.definition.specs.declared.Triangle.{Triangle}
 use Rattle.definition.specs.declared.Sum.{Sum}
-use Rattle.definition.specs.Lists.{keep, first, has, run}
+use Rattle.lists.specs.Lists.{keep, has, run}
 use Rattle.definition.specs.Mesh.{Spot, next, prior, cornerOf, slotOf, sameTriangle, sameSpot}
 use Rattle.definition.specs.Step4Order.{welded, spots}
 use Rattle.definition.specs.Step6Groups.{Mark, members, cornerIn}
 use Rattle.definition.specs.Step7Sums.{joins, subgroup, opening, weighed, addSpot, contribute, finish, evaluate, Brought, bring, broughtAll}
 use Rattle.definition.specs.Step8Slots.{put, reading}
-use Rattle.laws.proofs.Part.{Part, nothing, mine, other, Each, each-none, each-some, mapped, Every, every-nil, every-cons, part-only, part-every, every-keep, part-map, has-map, has-none, run-map, every-map}
+use Rattle.lists.specs.Every.{Each, each-none, each-some, Every, every-nil, every-cons}
+use Rattle.laws.proofs.Part.{Part, nothing, mine, other, mapped, part-only, part-every, every-keep, part-map, has-map, has-none, run-map, every-map}
 use Rattle.laws.proofs.World.{World, OursT, TheirsT, moved, movedSpot, OursS, TheirsS, next-moved, prior-moved, corner-moved, slot-moved, tri-moved, tri-theirs, spot-moved, theirs-spot, corner-ours}
 use Rattle.laws.proofs.Pieces.{Triangles, Spots}
 use Rattle.laws.proofs.Walking.{movedMark, OursM, TheirsM, Marks, cornerIn-moved, cornerIn-ours}

@@ -5,13 +5,14 @@ use mathlib.Core.Bool.{Bool, true, false, cond, not, _&&_, _||_, true≢false, f
 use mathlib.Core.List.{List, [], _∷_, _++_, List·Memᴰ, List·Memᴰ·head, List·Memᴰ·tail}
 use mathlib.Core.Option.{Option, none, some}
 use Rattle.definition.specs.declared.Corner.{Corner}
-use Rattle.definition.specs.Lists.{keep, first, has}
+use Rattle.lists.specs.Lists.{keep, first, has}
 use Rattle.definition.specs.Mesh.{Spot, cornerOf, sameSpot}
 use Rattle.definition.specs.Step4Order.{welded}
 use Rattle.definition.specs.Step5Links.{Link, endOf, opposite, linked, addLink, linkOne, linkAll, beyond}
-use Rattle.laws.proofs.Part.{Part, nothing, mine, other, Each, each-none, each-some, mapped, Every, every-nil, every-cons, part-first, first-ours, first-theirs, part-has, part-cond, part-cond-other}
+use Rattle.lists.specs.Every.{Each, each-none, each-some, Every, every-nil, every-cons}
+use Rattle.laws.proofs.Part.{Part, nothing, mine, other, mapped, part-first, first-ours, first-theirs, part-has, part-cond, part-cond-other}
 use Rattle.laws.proofs.World.{welded-sym}
-use Rattle.bits.proofs.Bools.{and-left, and-right}
+use Rattle.bits.proofs.Bools.{and-left, and-right, or-holds}
 use Rattle.laws.proofs.Weld.{welded-refl, welded-as}
 use Rattle.laws.proofs.Mutual.{Apart, apart-inj}
 
@@ -22,10 +23,6 @@ sameEnds s t = welded (cornerOf s) (cornerOf t) && welded (endOf s) (endOf t) ||
 or-split : (a b : Bool) → (a || b) ≡ true → (P : Type 0) → (a ≡ true → P) → (b ≡ true → P) → P
 or-split true b e P f g = f refl
 or-split false b e P f g = g e
-
-or-right : (a b : Bool) → b ≡ true → (a || b) ≡ true
-or-right true b e = refl
-or-right false b e = e
 
 cross : (a b c d : Bool) → (d && c || b && a) ≡ (a && b || c && d)
 cross true true true true = refl
@@ -89,7 +86,7 @@ module _ (all : List Spot) (names : Apart all) (s₀ : Spot) where
 
   unmet : (x y : Spot) → Ours x → Theirs y → (b : Bool) → opposite x y ≡ b → b ≡ false
   unfolding sameEnds
-  unmet x y o h true e = absurd (true≢false (sym (or-right (welded (cornerOf x) (cornerOf y) && welded (endOf x) (endOf y)) (opposite x y) e) ∙ (sym (ends-as s₀ x y (o .1)) ∙ h .1)))
+  unmet x y o h true e = absurd (true≢false (sym (or-holds (welded (cornerOf x) (cornerOf y) && welded (endOf x) (endOf y)) (opposite x y) e) ∙ (sym (ends-as s₀ x y (o .1)) ∙ h .1)))
   unmet x y o h false e = refl
 
   no-link : (x y : Spot) → Ours x → Theirs y → opposite x y ≡ false

@@ -7,12 +7,13 @@ use mathlib.Core.Option.{Option, none, some}
 use Rattle.bits.proofs.Bools.{and-left}
 use Rattle.definition.specs.declared.Corner.{Corner}
 use Rattle.definition.specs.declared.Triangle.{Triangle}
-use Rattle.definition.specs.Lists.{keep, first, has}
+use Rattle.lists.specs.Lists.{keep, first, has}
 use Rattle.definition.specs.Mesh.{Third, one, two, three, Spot, next, prior, cornerOf, sameSpot}
 use Rattle.definition.specs.Step4Order.{welded, spots}
 use Rattle.definition.specs.Step5Links.{Link, opposite, linked, addLink, linkOne, linkAll, links, beyond}
 use Rattle.definition.specs.Step6Groups.{cornerIn, overTo, over}
-use Rattle.laws.proofs.Part.{Each, each-none, each-some, Every, every-nil, every-cons, every-cond}
+use Rattle.lists.specs.Every.{Each, each-none, each-some, Every, every-nil, every-cons}
+use Rattle.laws.proofs.Part.{every-cond, cond-each₂}
 use Rattle.laws.proofs.Enough.{Near}
 
 -- ---- the first that passes is one of the list, and passes
@@ -58,11 +59,6 @@ module _ (P : Spot → Type 0) where
   unfolding linkAll
   all-sound every-nil ls r = r
   all-sound (every-cons {x = s} {l = later} h k) ls r = all-sound k (linkOne ls s later) (one-sound ls s later h k r)
-
-  cond-each₂ : (Q : Spot → Type 0) (b c : Bool) (x y : Spot) {o : Option Spot} → Q x → Q y → Each Q o → Each Q (cond b (some x) (cond c (some y) o))
-  cond-each₂ Q true c x y p q r = each-some p
-  cond-each₂ Q false true x y p q r = each-some q
-  cond-each₂ Q false false x y p q r = r
 
   pub beyond-known : {ls : List Link} → Every Sound ls → (s : Spot) → Each P (beyond ls s)
   unfolding beyond

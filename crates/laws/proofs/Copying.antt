@@ -5,14 +5,13 @@ use mathlib.Core.Bool.{Bool, true, false, cond, not, _&&_, _||_}
 use mathlib.Core.List.{List, [], _∷_, _++_, map}
 use mathlib.Core.Option.{Option, none, some}
 use lib.Dec.{eqb}
-use lib.Ieee.{Float}
 use Rattle.tangent.specs.declared.Reading.{Reading}
 use Rattle.tangent.specs.declared.Reading.the-variants.{Absent, Single, Combined}
 use Rattle.math.specs.Vector.{equals}
 use Rattle.definition.specs.declared.Corner.{Corner}
 use Rattle.definition.specs.declared.Kept.{Kept}
 use Rattle.definition.specs.declared.Triangle.{Triangle}
-use Rattle.definition.specs.Lists.{keep, first}
+use Rattle.lists.specs.Lists.{keep, first}
 use Rattle.definition.specs.Mesh.{Face, Spot, cornerOf, slotOf}
 use Rattle.definition.specs.Step4Order.{welded, isSound, sound, spots}
 use Rattle.definition.specs.Step5Links.{links}
@@ -20,8 +19,9 @@ use Rattle.definition.specs.Step6Groups.{marks}
 use Rattle.definition.specs.Step7Sums.{Brought, broughtAll}
 use Rattle.definition.specs.Step8Slots.{reading}
 use Rattle.definition.specs.Step9Copies.{copied, fromSound, fromKept, fromMarked, finalOf, nooks, faceReadings}
-use Rattle.definition.specs.Triangles.{usable, pieces, triangles, nook}
-use Rattle.laws.proofs.Part.{Part, nothing, mine, other, mapped, Every, every-nil, every-cons, part-first, first-map, map-cong, every-map}
+use Rattle.definition.specs.Triangles.{usable, pieces, nook}
+use Rattle.lists.specs.Every.{Every, every-nil, every-cons}
+use Rattle.laws.proofs.Part.{Part, nothing, mine, other, mapped, part-first, first-map, map-cong, every-map}
 use Rattle.laws.proofs.World.{World, OursT, TheirsT, moved, movedSpot, OursS, TheirsS, corner-moved, slot-moved, weld-theirs}
 use Rattle.laws.proofs.Pieces.{Triangles, Spots, spots-part, pieces-moved, movedFace, OursF, TheirsF}
 use Rattle.laws.proofs.Bringing.{Broughts, reading-moved}

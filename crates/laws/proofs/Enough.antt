@@ -7,14 +7,15 @@ use mathlib.Core.List.{List, [], _∷_, _++_, List·Memᴰ, List·Memᴰ·head, 
 use mathlib.Core.Option.{Option, none, some}
 use lib.ListN.{length}
 use borrow.Author.Tests.{eq-eqb}
+use Rattle.bits.proofs.Bools.{and-left, or-left, beq-refl, or-holds}
 use Rattle.definition.specs.declared.Corner.{Corner}
 use Rattle.definition.specs.declared.Triangle.{Triangle}
-use Rattle.definition.specs.Lists.{keep, first, has}
+use Rattle.lists.specs.Lists.{keep, has}
 use Rattle.definition.specs.Mesh.{Third, one, two, three, Spot, prior, cornerOf, sameThird, sameTriangle, sameSpot}
 use Rattle.definition.specs.Step4Order.{welded, spots}
 use Rattle.definition.specs.Step5Links.{Link, beyond}
 use Rattle.definition.specs.Step6Groups.{Mark, grouped, stops, cornerIn, overTo, over, going, walk, fan}
-use Rattle.laws.proofs.Part.{Each, each-none, each-some, Every, every-nil, every-cons}
+use Rattle.lists.specs.Every.{Each, each-none, each-some, Every, every-nil, every-cons}
 
 -- ---- counting
 
@@ -47,14 +48,6 @@ module _ {X : Type 0} (p q : X → Bool) (le : (x : X) → q x ≡ true → p x 
 
 -- ---- tests
 
-or-false : (a b : Bool) → (a || b) ≡ false → a ≡ false
-or-false true b e = absurd (true≢false e)
-or-false false b e = refl
-
-pub or-true : (a b : Bool) → b ≡ true → (a || b) ≡ true
-or-true true b e = refl
-or-true false b e = e
-
 pub has-append : {X : Type 0} (p : X → Bool) (l k : List X) → has p l ≡ true → has p (l ++ k) ≡ true
 unfolding has
 has-append p [] k e = absurd (false≢true e)
@@ -67,7 +60,7 @@ has-append p (x ∷ l) k e = go (p x) e (λ h. has-append p l k h)
 pub has-last : {X : Type 0} (p : X → Bool) (l : List X) (x : X) → p x ≡ true → has p (l ++ (x ∷ [])) ≡ true
 unfolding has
 has-last p [] x e = rw e
-has-last p (y ∷ l) x e = or-true (p y) (has p (l ++ (x ∷ []))) (has-last p l x e)
+has-last p (y ∷ l) x e = or-holds (p y) (has p (l ++ (x ∷ []))) (has-last p l x e)
 
 -- ---- names
 
@@ -76,10 +69,6 @@ unfolding sameThird
 third-refl one = refl
 third-refl two = refl
 third-refl three = refl
-
-beq-refl : (b : Bool) → Bool·beq b b ≡ true
-beq-refl true = refl
-beq-refl false = refl
 
 pub spot-refl : (s : Spot) → sameSpot s s ≡ true
 unfolding sameSpot sameTriangle
@@ -178,7 +167,7 @@ module _ (ss : List Triangle) (ls : List Link) (g : Spot) (w : Bool) (near : (s 
 
   pub stops-grouped : (ms : List Mark) (s : Spot) → stops ms w s ≡ false → grouped ms s ≡ false
   unfolding stops
-  stops-grouped ms s e = or-false (grouped ms s) _ e
+  stops-grouped ms s e = or-left (grouped ms s) _ e
 
   -- as many steps as there are corners left are enough
   pub enough : (n : ℕ) (ms : List Mark) (s : Spot) → Near ss (cornerOf g) s → left′ ms ≤ n → walk n ls g w ms s ≡ walk (suc n) ls g w ms s
@@ -203,10 +192,6 @@ module _ (ss : List Triangle) (ls : List Link) (g : Spot) (w : Bool) (near : (s 
   pub open-fan : (ms : List Mark) → left′ ms ≤ fan ss (cornerOf g)
   unfolding left′ open′ fan
   open-fan ms = keep-le (λ s. welded (cornerOf g) (cornerOf s)) (open′ ms) (λ s. and-left (welded (cornerOf g) (cornerOf s)) _) (spots ss)
-    where
-      and-left : (a b : Bool) → (a && b) ≡ true → a ≡ true
-      and-left true b e = refl
-      and-left false b e = e
 
   -- The equation of the walk, with no count: this is what code is proved against.
   unfoldable pub walked : List Mark → Spot → List Mark

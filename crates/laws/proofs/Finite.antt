@@ -16,7 +16,7 @@ use Rattle.definition.specs.declared.Corner.{Corner}
 use Rattle.definition.specs.declared.Kept.{Kept}
 use Rattle.definition.specs.declared.Triangle.{Triangle}
 use Rattle.definition.specs.declared.Sum.{Sum}
-use Rattle.definition.specs.Lists.{run, first}
+use Rattle.lists.specs.Lists.{run, first}
 use Rattle.definition.specs.Mesh.{Face, Spot, cornerOf, slotOf}
 use Rattle.definition.specs.Triangles.{triangles, usable, pieces}
 use Rattle.definition.specs.Step4Order.{isSound, sound, spots, welded}
@@ -26,7 +26,8 @@ use Rattle.definition.specs.Step7Sums.{emptySum, contribute, finish, evaluate, 
 use Rattle.definition.specs.Step8Slots.{put, reading}
 use Rattle.definition.specs.Step9Copies.{copied, fromSound, fromKept, fromMarked, finalOf, nooks, faceReadings}
 use Rattle.definition.specs.Frames.{numbered, framesFrom, framesOf, frames}
-use Rattle.laws.proofs.Part.{Every, every-nil, every-cons, every-keep}
+use Rattle.lists.specs.Every.{Every, every-nil, every-cons}
+use Rattle.laws.proofs.Part.{every-keep}
 use Rattle.laws.proofs.Held.{run-held}
 
 -- ---- what is brought

@@ -20,12 +20,13 @@ use Rattle.tangent.proofs.Held.{zero-held, reached-held}
 use Rattle.definition.specs.declared.Corner.{Corner}
 use Rattle.definition.specs.declared.Triangle.{Triangle}
 use Rattle.definition.specs.declared.Sum.{Sum}
-use Rattle.definition.specs.Lists.{run}
+use Rattle.lists.specs.Lists.{run}
 use Rattle.definition.specs.Mesh.{Spot, cornerOf}
 use Rattle.definition.specs.Step6Groups.{Mark, cornerIn}
 use Rattle.definition.specs.Step7Sums.{emptySum, projected, opening, weighed, addSpot, contribute, finish, evaluate, Brought, bring, broughtAll}
 use Rattle.definition.specs.Step8Slots.{put, reading}
-use Rattle.laws.proofs.Part.{Every, every-nil, every-cons, every-keep}
+use Rattle.lists.specs.Every.{Every, every-nil, every-cons}
+use Rattle.laws.proofs.Part.{every-keep}
 
 -- ---- sums
 

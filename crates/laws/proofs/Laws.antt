@@ -6,15 +6,17 @@ use mathlib.Core.Bool.{Bool, true, false, cond, not, _||_, Bool·beq, true≢fal
 use mathlib.Core.List.{List, [], _∷_, _++_, List·Memᴰ, List·Memᴰ·head, List·Memᴰ·tail}
 use mathlib.Core.Option.{Option, none, some}
 use borrow.Author.Tests.{eq-eqb}
+use Rattle.bits.proofs.Bools.{or-left, or-right, beq-refl}
 use Rattle.definition.specs.declared.Corner.{Corner}
 use Rattle.definition.specs.Triangles.{nook, make}
 use Rattle.definition.specs.declared.Triangle.{Triangle}
-use Rattle.definition.specs.Lists.{first, has, run}
+use Rattle.lists.specs.Lists.{first, has, run}
 use Rattle.definition.specs.Mesh.{Spot, prior, cornerOf, sameTriangle, sameSpot}
 use Rattle.definition.specs.Step4Order.{welded, spots}
 use Rattle.definition.specs.Step5Links.{Link}
 use Rattle.definition.specs.Step6Groups.{Mark, grouped, wayOf, touched, facing, stops, over, going, walk, fan, startAt, marks}
-use Rattle.laws.proofs.Part.{Each, each-none, each-some, Every, every-nil, every-cons, every-map, every-append}
+use Rattle.lists.specs.Every.{Each, each-none, each-some, Every, every-nil, every-cons}
+use Rattle.laws.proofs.Part.{every-map, every-append}
 use Rattle.laws.proofs.Enough.{Near, Grows, grows-refl, grows-trans, grows-cond, grows-going, grouped-mark, keep-lt, walk-grows}
 use Rattle.laws.proofs.Closed.{Between, over-near}
 use Rattle.laws.proofs.Weld.{welded-refl}
@@ -55,10 +57,6 @@ module _ (ss : List Triangle) (ls : List Link) (B : Between ss ls) (Inv : List M
     start-inv ms s m h =
         inv-cond (s .tri .any || grouped ms s) h
         (λ b. walk-inv (fan ss (cornerOf s)) s (or-left (s .tri .any) (grouped ms s) b) ms s (record { inside = m; joined = welded-refl (cornerOf s) }) h)
-      where
-        or-left : (a b : Bool) → (a || b) ≡ false → a ≡ false
-        or-left true b e = absurd (true≢false e)
-        or-left false b e = refl
 
     run-inv : {xs : List Spot} → Every (λ s. List·Memᴰ s (spots ss)) xs → (ms : List Mark) → Inv ms → Inv (run (startAt ss ls) ms xs)
     unfolding run
@@ -96,14 +94,6 @@ pub data Once : List Mark → Type 0 where
   once-nil : Once []
   once-cons : {m : Mark} {ms : List Mark} → Every (λ k. sameSpot (m .spot) (k .spot) ≡ false) ms → Once ms → Once (m ∷ ms)
 
-pub or-left : (a b : Bool) → (a || b) ≡ false → a ≡ false
-or-left true b e = absurd (true≢false e)
-or-left false b e = refl
-
-pub or-right : (a b : Bool) → (a || b) ≡ false → b ≡ false
-or-right true b e = absurd (true≢false e)
-or-right false b e = e
-
 once-snoc : {ms : List Mark} → Once ms → (m : Mark) → grouped ms (m .spot) ≡ false → Once (ms ++ (m ∷ []))
 unfolding grouped has
 once-snoc once-nil m e = once-cons every-nil once-nil
@@ -115,10 +105,6 @@ module _ (ss : List Triangle) (ls : List Link) (B : Between ss ls) where
   at-most-one = marks-inv ss ls B Once (λ g e ms s p b h. once-snoc h (mark g s) (or-left (grouped ms s) _ b)) once-nil
 
 -- ---- exactly one where the triangle isn't `group_with_any`
-
-pub beq-refl : (b : Bool) → Bool·beq b b ≡ true
-beq-refl true = refl
-beq-refl false = refl
 
 pub stops-own : (ms : List Mark) (s : Spot) → s .tri .any ≡ false → grouped ms s ≡ false → stops ms (s .tri .orientation) s ≡ false
 unfolding stops facing

@@ -7,17 +7,19 @@ use mathlib.Core.List.{List, [], _∷_, List·Memᴰ, List·Memᴰ·head, List·
 use mathlib.Core.Option.{none, some, Option·some-injective, Option·none-ne-some}
 use lib.ListN.{length, getElem?}
 use Rattle.definition.specs.declared.Triangle.{Triangle}
-use Rattle.definition.specs.Lists.{keep}
+use Rattle.lists.specs.Lists.{keep}
 use Rattle.definition.specs.Mesh.{Spot, cornerOf, sameSpot}
 use Rattle.definition.specs.Step4Order.{welded, spots}
 use Rattle.definition.specs.Step5Links.{Link, endOf, opposite, links, beyond}
 use Rattle.definition.specs.Step5Sorted.{alike}
-use Rattle.laws.proofs.Part.{Each, each-none, each-some, Every, every-nil, every-cons, keep-same}
+use Rattle.lists.specs.Every.{Each, each-none, each-some, Every, every-nil, every-cons}
+use Rattle.laws.proofs.Part.{keep-same}
 use Rattle.laws.proofs.Shuffled.{every-mem}
 use Rattle.laws.proofs.Weld.{welded-refl, found-at}
 use Rattle.laws.proofs.Closed.{Sound}
 use Rattle.laws.proofs.Buckets.{opposite-sym}
-use Rattle.laws.proofs.Mutual.{Names, Apart, spots-apart, apart-inj, links-in, mutual′}
+use Rattle.definition.specs.Names.{Names}
+use Rattle.laws.proofs.Mutual.{Apart, spots-apart, apart-inj, links-in, mutual′}
 use Rattle.laws.proofs.Pairs.{index-lt, opposite-alike, kth-pair}
 
 -- ---- lists by index

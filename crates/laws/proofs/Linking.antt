@@ -6,17 +6,14 @@ use mathlib.Core.List.{List, [], _∷_, _++_, map}
 use mathlib.Core.Option.{Option, none, some}
 use Rattle.definition.specs.declared.Corner.{Corner}
 use Rattle.definition.specs.declared.Triangle.{Triangle}
-use Rattle.definition.specs.Lists.{keep, first, has}
+use Rattle.lists.specs.Lists.{keep, first, has}
 use Rattle.definition.specs.Mesh.{Spot, next, cornerOf, sameSpot}
 use Rattle.definition.specs.Step4Order.{welded, spots}
 use Rattle.definition.specs.Step5Links.{Link, endOf, opposite, linked, addLink, linkOne, linkAll, links, beyond}
-use Rattle.laws.proofs.Part.{Part, nothing, mine, other, Each, each-none, each-some, mapped, part-first, first-ours, first-theirs, part-has, part-cond, part-cond-other}
+use Rattle.lists.specs.Every.{Each, each-none, each-some}
+use Rattle.laws.proofs.Part.{Part, nothing, mine, other, mapped, part-first, first-ours, first-theirs, part-has, part-cond, part-cond-other, cond-each₂}
 use Rattle.laws.proofs.World.{World, OursT, TheirsT, moved, movedSpot, OursS, TheirsS, next-moved, next-ours, next-theirs, corner-moved, spot-moved, spot-theirs, theirs-spot, corner-ours, corner-theirs, weld-theirs, weld-ours}
 use Rattle.laws.proofs.Pieces.{Triangles, Spots, spots-part}
-
-and-false : (b : Bool) → (b && false) ≡ false
-and-false true = refl
-and-false false = refl
 
 module _ (w : World) where
   unfoldable pub movedLink : Link → Link
@@ -105,11 +102,6 @@ module _ (w : World) where
   beyond-moved (mine {x} {l} o r) s =
       rw (spot-moved w (x .near) s, spot-moved w (x .far) s, beyond-moved r s) (cond-beyond (sameSpot (x .near) s) (sameSpot (x .far) s) (x .far) (x .near) (beyond l s))
   beyond-moved (other {y} h r) s = rw (theirs-spot w s (y .near) (h .0), theirs-spot w s (y .far) (h .1)) (beyond-moved r s)
-
-  cond-each₂ : (P : Spot → Type 0) (b c : Bool) (x y : Spot) {o : Option Spot} → P x → P y → Each P o → Each P (cond b (some x) (cond c (some y) o))
-  cond-each₂ P true c x y p q r = each-some p
-  cond-each₂ P false true x y p q r = each-some q
-  cond-each₂ P false false x y p q r = r
 
   pub beyond-ours : {l k : List Link} → Links l k → (s : Spot) → Each (OursS w) (beyond l s)
   unfolding beyond

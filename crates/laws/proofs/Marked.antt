@@ -9,14 +9,14 @@ use Rattle.math.specs.Vector.{equals}
 use Rattle.math.proofs.Equal.{equals-sym}
 use Rattle.definition.specs.declared.Corner.{Corner}
 use Rattle.definition.specs.declared.Triangle.{Triangle}
-use Rattle.definition.specs.Lists.{first, has}
+use Rattle.lists.specs.Lists.{first, has}
 use Rattle.definition.specs.Mesh.{kept, cornerOf}
 use Rattle.definition.specs.Step1Cut.{cut02}
 use Rattle.definition.specs.Step2Degenerate.{flat, exactlyOne}
 use Rattle.definition.specs.Triangles.{nook, make, settled, pair, quad}
 use Rattle.definition.specs.Step4Order.{isSound, spots}
 use Rattle.definition.specs.Step9Copies.{nooks}
-use Rattle.laws.proofs.Part.{Every, every-nil, every-cons}
+use Rattle.lists.specs.Every.{Every, every-nil, every-cons}
 
 -- the triangle t keeps a corner at c's position
 unfoldable pub keepsAt : Triangle → Corner → Bool

@@ -2,37 +2,28 @@
 use Prim.Native.Nat.{ℕ, zero, suc}
 use native.Mathlib.Omega.{arith}
 use mathlib.Core.Path.{_≡_, refl, sym, _∙_, ap, subst}
-use mathlib.Core.Bool.{Bool, true, false, cond, not, _&&_, _||_, Bool·beq, true≢false, false≢true}
+use mathlib.Core.Bool.{Bool, true, false, cond, not, _&&_, _||_, Bool·beq, true≢false, false≢true, and-false}
 use mathlib.Core.List.{List, [], _∷_, _++_, List·Memᴰ, List·Memᴰ·head, List·Memᴰ·tail}
 use mathlib.Core.Option.{Option, none, some}
 use Rattle.definition.specs.declared.Triangle.{Triangle}
-use Rattle.definition.specs.Lists.{first, has}
+use Rattle.lists.specs.Lists.{first, has}
+use Rattle.definition.specs.Names.{Names, names-nil, names-cons}
 use Rattle.definition.specs.Mesh.{Third, one, two, three, Spot, sameThird, sameTriangle, sameSpot}
 use Rattle.definition.specs.Step4Order.{spots}
 use Rattle.definition.specs.Step5Links.{Link, opposite, linked, addLink, linkOne, linkAll, links, beyond}
-use Rattle.laws.proofs.Part.{Each, each-none, each-some, Every, every-nil, every-cons}
+use Rattle.lists.specs.Every.{Each, each-none, each-some, Every, every-nil, every-cons}
 use Rattle.laws.proofs.World.{eqb-sym}
 use Rattle.laws.proofs.Enough.{spot-refl}
-use Rattle.bits.proofs.Bools.{and-left, and-right}
-use Rattle.laws.proofs.Closed.{Found, first-found, Sound, all-sound, beyond-known, each-map}
+use Rattle.bits.proofs.Bools.{and-left, and-right, beq-sym}
+use Rattle.laws.proofs.Closed.{first-found, Sound, all-sound, beyond-known, each-map}
 use Rattle.laws.proofs.Shuffled.{every-mem}
 
 -- ---- names
 
--- no two triangles of the list have one name
-pub data Names : List Triangle → Type 0 where
-  names-nil : Names []
-  names-cons : {t : Triangle} {ts : List Triangle} → Every (λ k. sameTriangle t k ≡ false) ts → Names ts → Names (t ∷ ts)
-
+-- no two of the corners are one
 pub data Apart : List Spot → Type 0 where
   apart-nil : Apart []
   apart-cons : {s : Spot} {l : List Spot} → Every (λ k. sameSpot s k ≡ false) l → Apart l → Apart (s ∷ l)
-
-beq-sym : (a b : Bool) → Bool·beq a b ≡ Bool·beq b a
-beq-sym true true = refl
-beq-sym true false = refl
-beq-sym false true = refl
-beq-sym false false = refl
 
 third-sym : (i j : Third) → sameThird i j ≡ sameThird j i
 unfolding sameThird
@@ -49,10 +40,6 @@ third-sym three three = refl
 pub spot-sym : (s t : Spot) → sameSpot s t ≡ sameSpot t s
 unfolding sameSpot sameTriangle
 spot-sym s t = rw (eqb-sym (s .tri .face) (t .tri .face), beq-sym (s .tri .second) (t .tri .second), third-sym (s .at) (t .at))
-
-and-false : (b : Bool) → (b && false) ≡ false
-and-false true = refl
-and-false false = refl
 
 spot-other : (t k : Triangle) (i j : Third) → sameTriangle t k ≡ false → sameSpot (record { tri = t; at = i }) (record { tri = k; at = j }) ≡ false
 unfolding sameSpot

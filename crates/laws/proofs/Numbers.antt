@@ -2,7 +2,7 @@
 use Prim.Native.Nat.{ℕ, zero, suc, _≤_, _<_}
 use native.Mathlib.Omega.{arith}
 use mathlib.Core.Path.{_≡_, refl, sym, _∙_, ap, subst}
-use mathlib.Core.Bool.{Bool, true, false, cond, _&&_, Bool·beq}
+use mathlib.Core.Bool.{Bool, true, false, cond, _&&_, Bool·beq, and-false}
 use mathlib.Core.List.{List, [], _∷_, _++_, List·Memᴰ}
 use mathlib.Core.Option.{Option, none, some}
 use lib.Dec.{eqb}
@@ -10,19 +10,17 @@ use borrow.Author.Tests.{ne-eqb}
 use Rattle.definition.specs.declared.Corner.{Corner}
 use Rattle.definition.specs.declared.Triangle.{Triangle}
 use Rattle.definition.specs.Frames.{numbered}
-use Rattle.definition.specs.Lists.{keep}
+use Rattle.lists.specs.Lists.{keep}
 use Rattle.definition.specs.Mesh.{Face, Spot, sameTriangle}
 use Rattle.definition.specs.Step1Cut.{cut02}
 use Rattle.definition.specs.Step4Order.{isSound, sound, spots}
 use Rattle.definition.specs.Step5Links.{links, beyond}
 use Rattle.definition.specs.Triangles.{make, settled, pair, nook, quad, usable, pieces, triangles}
-use Rattle.laws.proofs.Part.{Every, every-nil, every-cons, every-map, every-append, every-keep}
+use Rattle.lists.specs.Every.{Every, every-nil, every-cons}
+use Rattle.laws.proofs.Part.{every-map, every-append, every-keep}
 use Rattle.laws.proofs.Pieces.{Of, pieces-of}
-use Rattle.laws.proofs.Mutual.{Names, names-nil, names-cons, mutual′}
-
-and-false : (b : Bool) → (b && false) ≡ false
-and-false true = refl
-and-false false = refl
+use Rattle.definition.specs.Names.{Names, names-nil, names-cons}
+use Rattle.laws.proofs.Mutual.{mutual′}
 
 names-append : {l k : List Triangle} → Names l → Every (λ t. Every (λ u. sameTriangle t u ≡ false) k) l → Names k → Names (l ++ k)
 names-append names-nil every-nil s = s

@@ -9,7 +9,8 @@ use Rattle.definition.specs.Mesh.{Spot}
 use Rattle.definition.specs.Step4Order.{spots}
 use Rattle.definition.specs.Step5Links.{Link, linkOne}
 use Rattle.definition.specs.Step5Old.{picked, oldSides, sameEnds, while, linkRuns, oldLinks}
-use Rattle.laws.proofs.Part.{Every, every-nil, every-cons, every-append}
+use Rattle.lists.specs.Every.{Every, every-nil, every-cons}
+use Rattle.laws.proofs.Part.{every-append}
 use Rattle.laws.proofs.Closed.{Sound, one-sound, Whole, spots-whole, Between}
 
 -- what holds of a list holds of what it begins with

@@ -5,19 +5,20 @@ use mathlib.Core.List.{List, [], _∷_, List·Memᴰ, List·Memᴰ·head, List·
 use mathlib.Core.Option.{some}
 use Rattle.definition.specs.declared.Corner.{Corner}
 use Rattle.definition.specs.declared.Triangle.{Triangle}
-use Rattle.definition.specs.Lists.{has}
+use Rattle.lists.specs.Lists.{has}
 use Rattle.definition.specs.Mesh.{Third, one, two, three, after, before, Spot, next, prior, cornerOf, sameSpot}
 use Rattle.definition.specs.Step4Order.{welded, spots}
 use Rattle.definition.specs.Step5Links.{Link, endOf, opposite, links, beyond}
 use Rattle.definition.specs.Step6Groups.{Mark, grouped, facing, cornerIn, overTo, over, marks}
-use Rattle.laws.proofs.Part.{Every}
+use Rattle.lists.specs.Every.{Every}
 use Rattle.laws.proofs.Enough.{spot-refl}
 use Rattle.bits.proofs.Bools.{and-left}
 use Rattle.laws.proofs.Closed.{spots-every}
 use Rattle.laws.proofs.Weld.{welded-as, first-same}
 use Rattle.laws.proofs.Closed.{links-sound}
 use Rattle.laws.proofs.Laws.{one-corner, marks-inside, Once, once-cons, at-most-one, at-least-one, final-way}
-use Rattle.laws.proofs.Mutual.{Names, spots-apart, apart-inj, spot-sym, every-at, mutual′}
+use Rattle.definition.specs.Names.{Names}
+use Rattle.laws.proofs.Mutual.{spots-apart, apart-inj, spot-sym, every-at, mutual′}
 use Rattle.laws.proofs.Sharp.{Sharp, sharp-own}
 use Rattle.laws.proofs.World.{welded-sym}
 use Rattle.laws.proofs.Leftover.{across}

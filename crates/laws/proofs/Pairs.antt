@@ -10,17 +10,19 @@ use lib.Dec.{ltb, leb·suc-suc}
 use lib.ListN.{length, drop, getElem?}
 use borrow.Author.Tests.{lt-ltb, le-ltb, ltb-true, ltb-false}
 use Rattle.definition.specs.declared.Triangle.{Triangle}
-use Rattle.definition.specs.Lists.{keep, first, has}
+use Rattle.lists.specs.Lists.{keep, first, has}
 use Rattle.definition.specs.Mesh.{Spot, cornerOf, sameSpot}
 use Rattle.definition.specs.Step4Order.{welded, spots}
 use Rattle.definition.specs.Step5Links.{Link, endOf, opposite, linked, addLink, linkOne, linkAll, links, beyond}
 use Rattle.definition.specs.Step5Sorted.{alike}
-use Rattle.laws.proofs.Part.{Every, every-nil, every-cons, every-map, every-keep}
+use Rattle.lists.specs.Every.{Every, every-nil, every-cons}
+use Rattle.laws.proofs.Part.{every-map, every-keep}
 use Rattle.laws.proofs.World.{welded-sym}
 use Rattle.bits.proofs.Bools.{and-left, and-right}
 use Rattle.laws.proofs.Enough.{spot-refl}
 use Rattle.laws.proofs.Weld.{welded-refl, welded-as}
-use Rattle.laws.proofs.Mutual.{Names, Apart, apart-nil, apart-cons, spots-apart, spot-sym, apart-inj}
+use Rattle.definition.specs.Names.{Names}
+use Rattle.laws.proofs.Mutual.{Apart, apart-nil, apart-cons, spots-apart, spot-sym, apart-inj}
 use Rattle.laws.proofs.Shuffled.{every-mem}
 use Rattle.laws.proofs.Buckets.{sameEnds, bucket-link}
 

@@ -12,7 +12,8 @@ use Rattle.definition.specs.Step1Cut.{cut02}
 use Rattle.definition.specs.Step3Tangents.{quadWay, area}
 use Rattle.definition.specs.Step4Order.{isSound, sound, broken, spots}
 use Rattle.definition.specs.Triangles.{make, settled, agree, pair, nook, quad, usable, pieces, triangles}
-use Rattle.laws.proofs.Part.{Part, nothing, mine, other, Every, every-nil, every-cons, all-mine, all-other, part-append, part-keep, every-map, every-append, every-cond}
+use Rattle.lists.specs.Every.{Every, every-nil, every-cons}
+use Rattle.laws.proofs.Part.{Part, nothing, mine, other, all-mine, all-other, part-append, part-keep, every-map, every-append, every-cond}
 use Rattle.laws.proofs.World.{World, OursT, TheirsT, moved, movedSpot, OursS, TheirsS}
 
 -- a triangle of face n whose corners are all Q

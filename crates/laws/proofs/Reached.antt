@@ -5,18 +5,20 @@ use mathlib.Core.Path.{_≡_, refl, sym, _∙_, ap, subst}
 use mathlib.Core.Bool.{Bool, true, false, cond, not, _||_, Bool·beq, true≢false}
 use mathlib.Core.List.{List, [], _∷_, _++_, List·Memᴰ, List·Memᴰ·head, Memᴰ·append-left, Memᴰ·append-right, nil≢cons, head-eq-of-cons-eq, tail-eq-of-cons-eq}
 use mathlib.Core.Option.{Option, none, some, Option·some-injective, Option·none-ne-some}
+use Rattle.bits.proofs.Bools.{or-left, or-right, beq-refl}
 use Rattle.definition.specs.declared.Triangle.{Triangle}
-use Rattle.definition.specs.Lists.{run}
+use Rattle.lists.specs.Lists.{run}
 use Rattle.definition.specs.Mesh.{Spot, prior, cornerOf}
 use Rattle.definition.specs.Step4Order.{spots}
 use Rattle.definition.specs.Step5Links.{Link}
 use Rattle.definition.specs.Step6Groups.{Mark, grouped, facing, stops, over, going, walk, fan, startAt, marks}
-use Rattle.laws.proofs.Part.{Each, each-none, each-some, Every, every-nil, every-cons, every-map, every-append, every-pair}
+use Rattle.lists.specs.Every.{Each, each-none, each-some, Every, every-nil, every-cons}
+use Rattle.laws.proofs.Part.{every-map, every-append, every-pair}
 use Rattle.laws.proofs.Enough.{Near, Grows, grows-refl, grows-trans, grows-snoc, grows-going, walk-grows, grouped-mark, left′, left-less, left-drop, stops-grouped, open-fan}
 use Rattle.laws.proofs.Closed.{Between, over-near}
 use Rattle.laws.proofs.Weld.{welded-refl}
 use Rattle.laws.proofs.Shuffled.{every-mem}
-use Rattle.laws.proofs.Laws.{mark, or-left, or-right, beq-refl}
+use Rattle.laws.proofs.Laws.{mark}
 
 -- ---- the walk and the groups as relations, with no count in them
 

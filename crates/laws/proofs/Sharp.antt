@@ -1,4 +1,4 @@
--- A sound triangle of an accepted mesh has no two welded corners: its positions are numbers that compare equal to themselves. Assumes nothing.
+-- A sound triangle of an accepted (call mesh has no two) welded corners: its positions are numbers that compare equal to themselves. Assumes nothing.
 use Prim.Native.Nat.{ℕ, zero, suc, _+_, _*_}
 use mathlib.Core.Path.{_≡_, refl, sym, _∙_, ap}
 use mathlib.Core.Bool.{Bool, true, false, cond, _&&_, _||_, true≢false, false≢true}
@@ -15,7 +15,7 @@ use Rattle.math.specs.Held.{HeldVec}
 use Rattle.math.specs.Vector.{equals}
 use Rattle.definition.specs.declared.Corner.{Corner}
 use Rattle.definition.specs.declared.Triangle.{Triangle}
-use Rattle.definition.specs.Lists.{first}
+use Rattle.lists.specs.Lists.{first}
 use Rattle.definition.specs.Mesh.{Third, one, two, three, after, kept, cornerOf}
 use Rattle.definition.specs.Handed.{vectorAt, cornerAt, cornersFrom, meshFrom, used}
 use Rattle.definition.specs.Desk.{finiteVector, finiteCorner, badIn, orElse, badCorner}
@@ -25,12 +25,12 @@ use Rattle.definition.specs.Triangles.{make, settled, pair, quad, usable, piece
 use Rattle.definition.specs.Step4Order.{isSound, sound, spots, sameBits, sameVector, sameNumbers, welded}
 use Rattle.definition.specs.Step6Groups.{cornerIn}
 use Rattle.definition.specs.Frames.{numbered}
-use Rattle.laws.proofs.Part.{Every, every-nil, every-cons, every-append, every-cond, every-keep, every-both, keep-passes}
+use Rattle.lists.specs.Every.{Every, every-nil, every-cons}
+use Rattle.laws.proofs.Part.{every-append, every-cond, every-keep, every-both, keep-passes}
 use Rattle.laws.proofs.Pieces.{pieces-of}
 use Rattle.laws.proofs.World.{welded-sym}
-use Rattle.laws.proofs.Weld.{welded-refl}
-use Rattle.bits.proofs.Bools.{and-left, and-right}
-use Rattle.laws.proofs.Laws.{beq-refl, or-left, or-right}
+use Rattle.laws.proofs.Weld.{welded-refl, vector-one}
+use Rattle.bits.proofs.Bools.{and-left, and-right, or-left, or-right, beq-refl}
 
 -- ---- positions
 
@@ -51,20 +51,6 @@ equals-self v e =
     let xy = and-left (isFinite (v .x) && isFinite (v .y)) (isFinite (v .z)) e in
     λ k. eq-self (v .x) (and-left (isFinite (v .x)) (isFinite (v .y)) xy) k && eq-self (v .y) (and-right (isFinite (v .x)) (isFinite (v .y)) xy) k && eq-self (v .z) (and-right (isFinite (v .x) && isFinite (v .y)) (isFinite (v .z)) e) k
 
--- the same bits, the same number
-bits-same : (x y : Float) → T (fits binary32 x) → T (fits binary32 y) → sameBits x y ≡ true → x ≡ y
-unfolding sameBits
-bits-same x y h k e = sym (ofBits-toBits binary32 x h) ∙ (ap (ofBits binary32) (eqb-true (word x) (word y) e) ∙ ofBits-toBits binary32 y k)
-
-vector-same : (u v : Vec3) → HeldVec u → HeldVec v → sameVector u v ≡ true → u ≡ v
-unfolding sameVector
-vector-same u v h k e =
-    let xy = and-left (sameBits (u .x) (v .x) && sameBits (u .y) (v .y)) (sameBits (u .z) (v .z)) e in
-    let p = bits-same (u .x) (v .x) (h .x-held) (k .x-held) (and-left (sameBits (u .x) (v .x)) (sameBits (u .y) (v .y)) xy) in
-    let q = bits-same (u .y) (v .y) (h .y-held) (k .y-held) (and-right (sameBits (u .x) (v .x)) (sameBits (u .y) (v .y)) xy) in
-    let r = bits-same (u .z) (v .z) (h .z-held) (k .z-held) (and-right (sameBits (u .x) (v .x) && sameBits (u .y) (v .y)) (sameBits (u .z) (v .z)) e) in
-    λ i. record { x = p i; y = q i; z = r i }
-
 -- welded corners have equal positions
 welded-equals : (c d : Corner) → Real c → Real d → welded c d ≡ true → equals (c .place) (d .place) ≡ true
 unfolding welded sameNumbers
@@ -72,7 +58,7 @@ welded-equals c d h k e =
     let a = and-left (sameVector (c .place) (d .place) && sameVector (c .normal) (d .normal) && sameBits (c .u) (d .u)) (sameBits (c .v) (d .v)) (and-left (sameNumbers c d) _ e) in
     let b = and-left (sameVector (c .place) (d .place) && sameVector (c .normal) (d .normal)) (sameBits (c .u) (d .u)) a in
     let p = and-left (sameVector (c .place) (d .place)) (sameVector (c .normal) (d .normal)) b in
-    ap (equals (c .place)) (sym (vector-same (c .place) (d .place) (h .held) (k .held) p)) ∙ equals-self (c .place) (h .bounded)
+    ap (equals (c .place)) (sym (vector-one (c .place) (d .place) (h .held) (k .held) p)) ∙ equals-self (c .place) (h .bounded)
 
 apart : (c d : Corner) → Real c → Real d → equals (c .place) (d .place) ≡ false → welded c d ≡ false
 apart c d h k e = step (welded c d) refl
@@ -158,12 +144,12 @@ or-else (some i) p e = absurd (let z : _≡_ {A = ℕ} 0 1 = cc in zero-one z)
     zero-one : _≡_ {A = ℕ} 0 1 → ⊥
     zero-one z = true≢false (sym (eq-eqb 0 1 z))
 
-bad-none : (i : ℕ) (cs : List Corner) → badIn i cs ≡ none → Every (λ c. finiteCorner c ≡ true) cs
+bad-none : (i : ℕ) (cs : List Corner) → badIn finiteCorner i cs ≡ none → Every (λ c. finiteCorner c ≡ true) cs
 unfolding badIn
 bad-none i [] e = every-nil
 bad-none i (c ∷ cs) e = step (finiteCorner c) refl e (λ q. bad-none (suc i) cs q)
   where
-    step : (b : Bool) → finiteCorner c ≡ b → cond b (badIn (suc i) cs) (some i) ≡ none → (badIn (suc i) cs ≡ none → Every (λ c. finiteCorner c ≡ true) cs) → Every (λ c. finiteCorner c ≡ true) (c ∷ cs)
+    step : (b : Bool) → finiteCorner c ≡ b → cond b (badIn finiteCorner (suc i) cs) (some i) ≡ none → (badIn finiteCorner (suc i) cs ≡ none → Every (λ c. finiteCorner c ≡ true) cs) → Every (λ c. finiteCorner c ≡ true) (c ∷ cs)
     step true q z f = every-cons q (f z)
     step false q z f = absurd (let y : _≡_ {A = ℕ} 0 1 = cc in true≢false (sym (eq-eqb 0 1 y)))
 
@@ -207,17 +193,17 @@ module _ (ps ns ts : List Float) (fit : (i : ℕ) → T (fits binary32 (getD ps 
   usable-every P (every-cons a (every-cons b (every-cons c (every-cons d every-nil)))) = every-cons a (every-cons b (every-cons c (every-cons d every-nil)))
   usable-every P (every-cons a (every-cons b (every-cons c (every-cons d (every-cons x r))))) = every-nil
 
-  face-real : (i n : ℕ) → cond (used (length (cornersFrom ps ns ts i n))) (badIn i (cornersFrom ps ns ts i n)) none ≡ none → Every Real (usable (cornersFrom ps ns ts i n))
+  face-real : (i n : ℕ) → cond (used (length (cornersFrom ps ns ts i n))) (badIn finiteCorner i (cornersFrom ps ns ts i n)) none ≡ none → Every Real (usable (cornersFrom ps ns ts i n))
   face-real i n e = step (used (length (cornersFrom ps ns ts i n))) refl e
     where
-      step : (b : Bool) → used (length (cornersFrom ps ns ts i n)) ≡ b → cond b (badIn i (cornersFrom ps ns ts i n)) none ≡ none → Every Real (usable (cornersFrom ps ns ts i n))
+      step : (b : Bool) → used (length (cornersFrom ps ns ts i n)) ≡ b → cond b (badIn finiteCorner i (cornersFrom ps ns ts i n)) none ≡ none → Every Real (usable (cornersFrom ps ns ts i n))
       step true q z = usable-every Real (every-both (λ c h f. record { held = h; bounded = finite-place c f }) (held-from i n) (bad-none i (cornersFrom ps ns ts i n) z))
       step false q z = rw (usable-none (cornersFrom ps ns ts i n) q) every-nil
 
   -- of lists that refusal 4 does not catch, every used corner is real
-  pub accepted-real : (i : ℕ) (sizes : List ℕ) → badCorner i (meshFrom ps ns ts i sizes) ≡ none → Every (λ cs. Every Real (usable cs)) (meshFrom ps ns ts i sizes)
-  unfolding badCorner meshFrom
+  pub accepted-real : (i : ℕ) (sizes : List ℕ) → badCorner finiteCorner i (meshFrom ps ns ts i sizes) ≡ none → Every (λ cs. Every Real (usable cs)) (meshFrom ps ns ts i sizes)
+  unfolding badCorner finiteCorner meshFrom
   accepted-real i [] e = every-nil
   accepted-real i (n ∷ sizes) e =
-      let r = or-else (cond (used (length (cornersFrom ps ns ts i n))) (badIn i (cornersFrom ps ns ts i n)) none) (badCorner (i + length (cornersFrom ps ns ts i n)) (meshFrom ps ns ts (i + n) sizes)) e in
-      every-cons (face-real i n (r .0)) (accepted-real (i + n) sizes (ap (λ (k : ℕ). badCorner (i + k) (meshFrom ps ns ts (i + n) sizes)) (sym (length-from i n)) ∙ r .1))
+      let r = or-else (cond (used (length (cornersFrom ps ns ts i n))) (badIn finiteCorner i (cornersFrom ps ns ts i n)) none) (badCorner finiteCorner (i + length (cornersFrom ps ns ts i n)) (meshFrom ps ns ts (i + n) sizes)) e in
+      every-cons (face-real i n (r .0)) (accepted-real (i + n) sizes (ap (λ (k : ℕ). badCorner finiteCorner (i + k) (meshFrom ps ns ts (i + n) sizes)) (sym (length-from i n)) ∙ r .1))

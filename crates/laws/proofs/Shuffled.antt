@@ -13,7 +13,7 @@ use Rattle.tangent.specs.declared.Reading.{Reading}
 use Rattle.definition.specs.declared.Corner.{Corner}
 use Rattle.definition.specs.declared.Triangle.{Triangle}
 use Rattle.definition.specs.Frames.{numbered, framesFrom, framesOf, frames}
-use Rattle.definition.specs.Lists.{has}
+use Rattle.lists.specs.Lists.{has}
 use Rattle.definition.specs.Mesh.{Face}
 use Rattle.definition.specs.Shuffle.{Shuffle, done, left, right, cornersOf, shares}
 use Rattle.definition.specs.Step4Order.{welded, sound}
@@ -22,7 +22,8 @@ use Rattle.definition.specs.Step6Groups.{marks}
 use Rattle.definition.specs.Step7Sums.{Brought, broughtAll}
 use Rattle.definition.specs.Step9Copies.{faceReadings}
 use Rattle.definition.specs.Triangles.{usable, triangles}
-use Rattle.laws.proofs.Part.{Part, nothing, mine, other, Every, every-nil, every-cons}
+use Rattle.lists.specs.Every.{Every, every-nil, every-cons}
+use Rattle.laws.proofs.Part.{Part, nothing, mine, other}
 use Rattle.laws.proofs.World.{World, welded-sym}
 use Rattle.laws.proofs.Pieces.{OursF, TheirsF, movedFace, triangles-part, sound-part}
 use Rattle.laws.proofs.Linking.{links-part}

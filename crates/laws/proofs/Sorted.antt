@@ -9,16 +9,18 @@ use lib.Dec.{eqb, ltb}
 use borrow.Author.Tests.{lt-ltb, le-ltb, le-leb, eq-eqb, ltb-true, ltb-false, eqb-true, eqb-false, leb-true, leb-false}
 use Rattle.definition.specs.declared.Corner.{Corner}
 use Rattle.definition.specs.declared.Triangle.{Triangle}
-use Rattle.definition.specs.Lists.{keep}
+use Rattle.lists.specs.Lists.{keep}
 use Rattle.definition.specs.Mesh.{Third, one, two, three, Spot, cornerOf}
 use Rattle.definition.specs.Step4Order.{welded, sound, spots}
 use Rattle.definition.specs.Step5Links.{endOf, opposite, links, beyond}
 use Rattle.definition.specs.Step5Sorted.{numberOf, vertexOf, Side, sideOf, sidesFrom, sides, mayPrecede, setIn, sortedBy, sortedSides, sortedLinks, alike}
-use Rattle.laws.proofs.Part.{Every, every-nil, every-cons, every-map, every-cond, keep-map}
+use Rattle.lists.specs.Every.{Every, every-nil, every-cons}
+use Rattle.laws.proofs.Part.{every-map, every-cond, keep-map}
 use Rattle.bits.proofs.Bools.{and-left, and-right}
 use Rattle.laws.proofs.Weld.{weld-one}
 use Rattle.laws.proofs.Shuffled.{every-mem}
-use Rattle.laws.proofs.Mutual.{Names, spots-apart}
+use Rattle.definition.specs.Names.{Names}
+use Rattle.laws.proofs.Mutual.{spots-apart}
 use Rattle.laws.proofs.Buckets.{sameEnds, ends-as, any-order}
 
 -- each element of the list may precede all that follow it

@@ -9,7 +9,7 @@ use Rattle.tangent.specs.declared.Reading.{Reading}
 use Rattle.definition.specs.declared.Corner.{Corner}
 use Rattle.definition.specs.declared.Kept.{Kept}
 use Rattle.definition.specs.declared.Triangle.{Triangle}
-use Rattle.definition.specs.Lists.{keep, first}
+use Rattle.lists.specs.Lists.{keep, first}
 use Rattle.definition.specs.Mesh.{Third, one, two, three, Spot, kept, slotOf}
 use Rattle.definition.specs.Step1Cut.{cut02}
 use Rattle.definition.specs.Step2Degenerate.{exactlyOne}
@@ -18,7 +18,7 @@ use Rattle.definition.specs.Step4Order.{isSound, sound, spots}
 use Rattle.definition.specs.Step7Sums.{Brought}
 use Rattle.definition.specs.Step8Slots.{reading}
 use Rattle.definition.specs.Step9Copies.{fromSound, fromKept, fromMarked, finalOf}
-use Rattle.laws.proofs.Part.{Every, every-nil, every-cons}
+use Rattle.lists.specs.Every.{Every, every-nil, every-cons}
 
 -- slot number i is the missing corner of the triangle that was found
 unfoldable pub missedBy : Option Triangle → ℕ → Bool

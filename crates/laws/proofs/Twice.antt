@@ -10,7 +10,7 @@ use borrow.Author.Tests.{eqb-true, eq-eqb}
 use lib.Ieee.{Float}
 use Rattle.definition.specs.declared.Corner.{Corner}
 use Rattle.definition.specs.declared.Triangle.{Triangle}
-use Rattle.definition.specs.Lists.{keep}
+use Rattle.lists.specs.Lists.{keep}
 use Rattle.definition.specs.Mesh.{Face, Third, one, two, three, Spot, kept, slotOf, sameThird, sameTriangle, sameSpot}
 use Rattle.definition.specs.Step1Cut.{cut02}
 use Rattle.definition.specs.Triangles.{make, settled, pair, nook, quad, pieces, triangles}
@@ -19,12 +19,14 @@ use Rattle.definition.specs.Step5Links.{Link, links}
 use Rattle.definition.specs.Step6Groups.{Mark, marks}
 use Rattle.definition.specs.Step7Sums.{bring, broughtAll}
 use Rattle.definition.specs.Frames.{numbered}
-use Rattle.laws.proofs.Part.{Every, every-nil, every-cons, every-append, every-map, every-keep, every-pair, keep-passes, keep-map}
-use Rattle.bits.proofs.Bools.{and-left, and-right}
+use Rattle.lists.specs.Every.{Every, every-nil, every-cons}
+use Rattle.laws.proofs.Part.{every-append, every-map, every-keep, every-pair, keep-passes, keep-map}
+use Rattle.bits.proofs.Bools.{and-left, and-right, beq-refl}
 use Rattle.laws.proofs.Closed.{Whole}
-use Rattle.laws.proofs.Mutual.{Names, spots-apart, apart-inj, every-at}
+use Rattle.definition.specs.Names.{Names}
+use Rattle.laws.proofs.Mutual.{spots-apart, apart-inj, every-at}
 use Rattle.laws.proofs.Closed.{Between, links-sound}
-use Rattle.laws.proofs.Laws.{Once, once-nil, once-cons, at-most-one, marks-inside, beq-refl}
+use Rattle.laws.proofs.Laws.{Once, once-nil, once-cons, at-most-one, marks-inside}
 use Rattle.laws.proofs.Numbers.{names-keep, triangles-names}
 use Rattle.laws.proofs.Enough.{third-refl}
 use Rattle.laws.proofs.Closed.{spots-every, spots-whole}

@@ -1,70 +1,109 @@
--- The desk's table: its numbers are 1 to 6, and where no row applies the lists fit. Assumes nothing.
+-- The desk's table: its numbers, its rows by their numbers, and what holds where no row applies. Assumes nothing.
 use Prim.Native.Nat.{ℕ, _*_, _≤_, _<_}
-use native.Mathlib.Nat.{zero-lt-suc}
-use mathlib.Core.Path.{_≡_, refl, sym}
-use mathlib.Core.Bool.{Bool, true, false, cond, true≢false}
-use mathlib.Core.List.{List, _∷_}
+use mathlib.Core.Path.{_≡_, refl, sym, ap, _∙_}
+use mathlib.Core.Bool.{Bool, true, false, cond, not, _&&_, _||_, true≢false, false≢true}
+use mathlib.Core.List.{List, [], _∷_}
 use mathlib.Core.Option.{Option, none, some, Option·none-ne-some}
-use lib.Dec.{lit≤}
+use lib.Dec.{ltb, leb}
 use lib.ListN.{length}
-use lib.Ieee.{Float}
-use borrow.Author.Tests.{ltb-false}
+use borrow.Author.Tests.{ltb-true, ltb-false, leb-true, le-ltb}
+use Rattle.bits.specs.Word.{isFinite}
+use Rattle.bits.proofs.Bools.{and-left, and-right, or-left, or-right}
 use Rattle.tangent.specs.Slot.{slotWords}
-use Rattle.definition.specs.Limits.{faceLimit, workWords}
-use Rattle.definition.specs.Lists.{first}
-use Rattle.definition.specs.Handed.{meshFrom, slotCount}
-use Rattle.definition.specs.Desk.{Row, badCorner, isThere, tooMany, table, verdict}
-use Rattle.laws.proofs.Part.{Each, Every, every-nil, every-cons}
+use Rattle.lists.specs.Lists.{first, has}
+use Rattle.lists.specs.Every.{Each, Every, every-nil, every-cons}
+use Rattle.definition.specs.Limits.{faceLimit, workWords, highestRefusal}
+use Rattle.definition.specs.Handed.{slotCount}
+use Rattle.definition.specs.Desk.{Row, Shown, notFinite, isThere, orZero, tooMany, misfit, table, verdict, rowOf}
+use Rattle.laws.proofs.Part.{every-map}
 use Rattle.laws.proofs.Closed.{Found, first-found}
+use Rattle.laws.proofs.Weld.{found-at}
 
-module _ (sizes : List ℕ) (ps ns ts : List Float) (h : Float) (answer work : ℕ) where
-  -- the numbers of the table are 1 to 6
-  abbrev pub Numbered : Row → Type 0
-  Numbered r = (0 < r .number) × (r .number ≤ 6)
+-- ---- the numbers
 
-  numbers : Every Numbered (table sizes ps ns ts h answer work)
-  unfolding table
-  numbers =
-      every-cons (zero-lt-suc 0, lit≤ tt) (every-cons (zero-lt-suc 1, lit≤ tt) (every-cons (zero-lt-suc 2, lit≤ tt)
-      (every-cons (zero-lt-suc 3, lit≤ tt) (every-cons (zero-lt-suc 4, lit≤ tt) (every-cons (zero-lt-suc 5, lit≤ tt) every-nil)))))
+-- a number of the table is one of 1 to the highest
+abbrev pub Numbered : Row → Type 0
+Numbered r = (0 < r .number) × (r .number ≤ highestRefusal)
 
-  -- and so is that of the row that is given
-  pub verdict-numbered : Each (Found (λ r. r .applies) Numbered) (verdict sizes ps ns ts h answer work)
-  unfolding verdict
-  verdict-numbered = first-found (λ r. r .applies) numbers
+-- the same as a test
+abbrev numbered : Row → Bool
+numbered r = ltb 0 (r .number) && leb (r .number) highestRefusal
 
-  -- what holds of lists that the desk accepts
-  pub record Fine : Type 0 where
-    pub few : length sizes ≤ faceLimit
-    pub good : badCorner 0 (meshFrom ps ns ts 0 sizes) ≡ none
-    pub answer-fits : slotWords * slotCount sizes ≤ answer
-    pub work-fits : workWords * length sizes ≤ work
+-- a row as it was found in the table
+abbrev pub InTable : Row → Type 0
+InTable = Found (λ r. r .applies) Numbered
 
-  passed : (r : Row) (l : List Row) → first (λ r. r .applies) (r ∷ l) ≡ none → (r .applies ≡ false) × (first (λ r. r .applies) l ≡ none)
-  unfolding first
-  passed r l e = go (r .applies) e
-    where
-      go : (b : Bool) → cond b (some r) (first (λ r. r .applies) l) ≡ none → (b ≡ false) × (first (λ r. r .applies) l ≡ none)
-      go true e = absurd (Option·none-ne-some r (sym e))
-      go false e = (refl, e)
+all-pass : {X : Type 0} (p : X → Bool) (l : List X) → has (λ x. not (p x)) l ≡ false → Every (λ x. p x ≡ true) l
+unfolding has
+all-pass p [] e = every-nil
+all-pass p (x ∷ l) e = every-cons (holds (p x) (or-left (not (p x)) _ e)) (all-pass p l (or-right (not (p x)) _ e))
+  where
+    holds : (b : Bool) → not b ≡ false → b ≡ true
+    holds true h = refl
+    holds false h = absurd (true≢false h)
 
-  not-there : (o : Option ℕ) → isThere o ≡ false → o ≡ none
-  unfolding isThere
-  not-there none e = refl
-  not-there (some i) e = absurd (true≢false e)
+numbers : (x : Shown) → Every Numbered (table x)
+unfolding table has
+numbers x = every-map (λ r e. (ltb-true 0 (r .number) (and-left (ltb 0 (r .number)) _ e), leb-true (r .number) highestRefusal (and-right (ltb 0 (r .number)) _ e))) (all-pass numbered (table x) refl)
 
-  pub fine : verdict sizes ps ns ts h answer work ≡ none → Fine
-  unfolding verdict table tooMany
-  fine e =
-      let p1 = passed _ _ e in
-      let p2 = passed _ _ (p1 .1) in
-      let p3 = passed _ _ (p2 .1) in
-      let p4 = passed _ _ (p3 .1) in
-      let p5 = passed _ _ (p4 .1) in
-      let p6 = passed _ _ (p5 .1) in
-      record {
-        few = ltb-false faceLimit (length sizes) (p1 .0);
-        good = not-there (badCorner 0 (meshFrom ps ns ts 0 sizes)) (p4 .0);
-        answer-fits = ltb-false answer (slotWords * slotCount sizes) (p5 .0);
-        work-fits = ltb-false work (workWords * length sizes) (p6 .0);
-      }
+-- the number of the row that is given
+pub verdict-numbered : (x : Shown) → Each InTable (verdict x)
+unfolding verdict
+verdict-numbered x = first-found (λ r. r .applies) (numbers x)
+
+-- ---- no row applies
+
+none-applies : (l : List Row) → first (λ r. r .applies) l ≡ none → Every (λ r. r .applies ≡ false) l
+unfolding first
+none-applies [] e = every-nil
+none-applies (r ∷ l) e = go (r .applies) refl e (none-applies l)
+  where
+    go : (b : Bool) → r .applies ≡ b → cond b (some r) (first (λ r. r .applies) l) ≡ none → (first (λ r. r .applies) l ≡ none → Every (λ r. r .applies ≡ false) l) → Every (λ r. r .applies ≡ false) (r ∷ l)
+    go true h e rest = absurd (Option·none-ne-some r (sym e))
+    go false h e rest = every-cons h (rest e)
+
+none-found : {l : List Row} → Every (λ r. r .applies ≡ false) l → first (λ r. r .applies) l ≡ none
+unfolding first
+none-found every-nil = refl
+none-found (every-cons {x = r} {l} h t) = ap (λ b. cond b (some r) (first (λ r. r .applies) l)) h ∙ none-found t
+
+-- then the row of a number does not
+pub row-passed : (x : Shown) → verdict x ≡ none → (n : ℕ) (r : Row) → rowOf n (table x) ≡ some r → r .applies ≡ false
+unfolding verdict rowOf
+row-passed x e n r is = found-at _ r (first-found _ (none-applies (table x) e)) is .known
+
+not-there : (o : Option ℕ) → isThere o ≡ false → o ≡ none
+unfolding isThere
+not-there none e = refl
+not-there (some i) e = absurd (true≢false e)
+
+-- what holds of a call that the desk accepts, row by row
+pub record Fine (x : Shown) : Type 0 where
+  pub few : length (x .mesh .sizes) ≤ faceLimit
+  pub fits : misfit (x .mesh) ≡ false
+  pub threshold : not (isFinite (x .threshold)) ≡ false
+  pub good : notFinite (x .mesh) ≡ none
+  pub answer-fits : slotWords * slotCount (x .mesh .sizes) ≤ x .answer
+  pub work-fits : workWords * length (x .mesh .sizes) ≤ x .work
+
+pub fine : (x : Shown) → verdict x ≡ none → Fine x
+unfolding table rowOf first tooMany
+fine x e =
+    let p = row-passed x e in
+    record {
+      few = ltb-false faceLimit (length (x .mesh .sizes)) (p 1 (record { number = 1; applies = tooMany (x .mesh .sizes); place = 0 }) refl);
+      fits = p 2 (record { number = 2; applies = misfit (x .mesh); place = 0 }) refl;
+      threshold = p 3 (record { number = 3; applies = not (isFinite (x .threshold)); place = 0 }) refl;
+      good = not-there (notFinite (x .mesh)) (p 4 (record { number = 4; applies = isThere (notFinite (x .mesh)); place = orZero (notFinite (x .mesh)) }) refl);
+      answer-fits = ltb-false (x .answer) (slotWords * slotCount (x .mesh .sizes)) (p 5 (record { number = 5; applies = ltb (x .answer) (slotWords * slotCount (x .mesh .sizes)); place = 0 }) refl);
+      work-fits = ltb-false (x .work) (workWords * length (x .mesh .sizes)) (p 6 (record { number = 6; applies = ltb (x .work) (workWords * length (x .mesh .sizes)); place = 0 }) refl);
+    }
+
+-- and what holds of it is enough
+pub is-fine : (x : Shown) → Fine x → verdict x ≡ none
+unfolding verdict table tooMany isThere
+is-fine x F =
+    none-found
+    (every-cons (le-ltb faceLimit (length (x .mesh .sizes)) (F .few)) (every-cons (F .fits) (every-cons (F .threshold)
+    (every-cons (ap isThere (F .good)) (every-cons (le-ltb (x .answer) (slotWords * slotCount (x .mesh .sizes)) (F .answer-fits))
+    (every-cons (le-ltb (x .work) (workWords * length (x .mesh .sizes)) (F .work-fits)) every-nil))))))

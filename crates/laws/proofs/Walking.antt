@@ -7,12 +7,13 @@ use mathlib.Core.Option.{Option, none, some}
 use lib.ListN.{length, length-map}
 use Rattle.definition.specs.declared.Corner.{Corner}
 use Rattle.definition.specs.declared.Triangle.{Triangle}
-use Rattle.definition.specs.Lists.{keep, first, has, run}
+use Rattle.lists.specs.Lists.{keep, has, run}
 use Rattle.definition.specs.Mesh.{Third, one, two, three, Spot, next, prior, cornerOf, sameTriangle, sameSpot}
 use Rattle.definition.specs.Step4Order.{welded, spots}
 use Rattle.definition.specs.Step5Links.{Link, beyond}
 use Rattle.definition.specs.Step6Groups.{Mark, grouped, wayOf, touched, facing, stops, cornerIn, overTo, over, going, walk, fan, startAt, marks, members}
-use Rattle.laws.proofs.Part.{Part, nothing, mine, other, Each, each-none, each-some, mapped, part-keep, part-only, part-first, first-ours, first-theirs, part-has, part-append, part-snoc, part-cond, part-cond-other}
+use Rattle.lists.specs.Every.{Each, each-none, each-some}
+use Rattle.laws.proofs.Part.{Part, nothing, mine, other, mapped, part-keep, part-only, part-first, first-ours, first-theirs, part-has, part-append, part-snoc, part-cond, part-cond-other}
 use Rattle.laws.proofs.World.{World, OursT, TheirsT, moved, movedSpot, OursS, TheirsS, prior-moved, prior-theirs, corner-moved, tri-moved, tri-theirs, theirs-tri, spot-moved, spot-theirs, theirs-spot, corner-ours, corner-theirs, weld-theirs, weld-ours}
 use Rattle.laws.proofs.Pieces.{Triangles, Spots, spots-part}
 use Rattle.laws.proofs.Linking.{Links, beyond-moved, beyond-ours, beyond-theirs}

@@ -12,10 +12,10 @@ use Rattle.math.specs.declared.Vec3.{Vec3}
 use Rattle.math.specs.Held.{HeldVec}
 use Rattle.definition.specs.declared.Corner.{Corner}
 use Rattle.definition.specs.declared.Triangle.{Triangle}
-use Rattle.definition.specs.Lists.{first}
+use Rattle.lists.specs.Lists.{first}
 use Rattle.definition.specs.Mesh.{Spot, cornerOf}
 use Rattle.definition.specs.Step4Order.{sameBits, sameVector, sameNumbers, welded, sound, broken, spots, weldedTo}
-use Rattle.laws.proofs.Part.{Each, each-none, each-some, Every, every-nil, every-cons}
+use Rattle.lists.specs.Every.{Each, each-none, each-some, Every, every-nil, every-cons}
 use Rattle.laws.proofs.World.{welded-sym}
 use Rattle.bits.proofs.Bools.{and-left, and-right}
 use Rattle.laws.proofs.Closed.{Found, first-found}
@@ -89,7 +89,8 @@ bits-one : (x y : Float) → T (fits binary32 x) → T (fits binary32 y) → sam
 unfolding sameBits
 bits-one x y h k e = same-word x y h k (eqb-true (toBits binary32 x) (toBits binary32 y) e)
 
-vector-one : (a b : Vec3) → HeldVec a → HeldVec b → sameVector a b ≡ true → a ≡ b
+-- vectors of the same bits are one
+pub vector-one : (a b : Vec3) → HeldVec a → HeldVec b → sameVector a b ≡ true → a ≡ b
 unfolding sameVector
 vector-one a b h k e =
     let xy = and-left (sameBits (a .x) (b .x) && sameBits (a .y) (b .y)) (sameBits (a .z) (b .z)) e in

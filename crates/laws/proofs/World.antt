@@ -31,10 +31,6 @@ pub welded-sym : (c d : Corner) → welded c d ≡ welded d c
 unfolding welded sameNumbers
 welded-sym c d = rw (vector-sym (c .place) (d .place), vector-sym (c .normal) (d .normal), bits-sym (c .u) (d .u), bits-sym (c .v) (d .v), eqb-sym (c .tag) (d .tag))
 
-and-false : (b : Bool) → (b && false) ≡ false
-and-false true = refl
-and-false false = refl
-
 -- ---- a mesh inside another
 
 -- Face n of ours is face rho n there. Ours and Theirs are the corners of the two meshes: none of one is welded to one of the other.

@@ -10,9 +10,9 @@ use lib.Ieee.{Float}
 use Rattle.definition.specs.declared.Corner.{Corner}
 use Rattle.definition.specs.declared.Kept.{Kept}
 use Rattle.definition.specs.declared.Triangle.{Triangle}
-use Rattle.definition.specs.Lists.{keep}
+use Rattle.lists.specs.Lists.{keep}
 use Rattle.definition.specs.Mesh.{Third, one, two, three, kept}
-use Rattle.definition.specs.Handed.{cornerAt, cornersFrom, cornerCount, slotCount}
+use Rattle.definition.specs.Handed.{handed, cornerAt, cornersFrom, cornerCount, slotCount}
 use Rattle.definition.specs.Step1Cut.{cut02}
 use Rattle.definition.specs.Triangles.{make, settled, pair, nook, quad, pieces}
 use Rattle.view.specs.Records.{From}
@@ -141,7 +141,7 @@ pick-append want (x ∷ xs) ys = go (Bool·beq (x .degenerate) want) (pick-appen
 
 module _ (rows : ℕ) (want : Bool) (ps ns ts : List Float) (f base slot : ℕ) where
   single : (x : Triangle) (tris r : ℕ) (w u : List ℕ) → Fine ps ns ts f base x → r ≡ tris + length (pick want (x ∷ [])) → One rows want tris r base slot x w u → Done rows want ps ns ts f base slot (x ∷ []) tris r w u
-  single x tris r w u F e O = record { count = e; added = λ sizes eb es. O sizes ps ns ts (eb ∙ ap (λ (n : ℕ). cornerCount (take n sizes)) (sym (F .face))) (es ∙ ap (λ (n : ℕ). slotCount (take n sizes)) (sym (F .face))) (F .from) }
+  single x tris r w u F e O = record { count = e; added = λ sizes eb es. O (handed sizes ps ns ts) (eb ∙ ap (λ (n : ℕ). cornerCount (take n sizes)) (sym (F .face))) (es ∙ ap (λ (n : ℕ). slotCount (take n sizes)) (sym (F .face))) (F .from) }
 
   pub one-done : (x : Triangle) (l : List Triangle) (tris r : ℕ) (w u : List ℕ) → (x ∷ []) ≡ l → Fine ps ns ts f base x → r ≡ tris + length (pick want (x ∷ [])) → One rows want tris r base slot x w u → Done rows want ps ns ts f base slot l tris r w u
   one-done x l tris r w u is F e O = subst (λ (k : List Triangle). Done rows want ps ns ts f base slot k tris r w u) is (single x tris r w u F e O)
@@ -150,8 +150,8 @@ module _ (rows : ℕ) (want : Bool) (ps ns ts : List Float) (f base slot : ℕ) 
   two-done x y l tris r s w u v is F G e O g Q = subst (λ (k : List Triangle). Done rows want ps ns ts f base slot k tris s w v) is (record {
     count = count;
     added = λ sizes eb es.
-        subst (λ (k : List Triangle). Added rows sizes ps ns ts k tris s w v) (sym (pick-append want (x ∷ []) (y ∷ [])))
-        (added-trans rows sizes ps ns ts (pick want (x ∷ [])) (pick want (y ∷ [])) tris r s w u v (single x tris r w u F e O .added sizes eb es) (single y r s u v G g Q .added sizes eb es));
+        subst (λ (k : List Triangle). Added rows (handed sizes ps ns ts) k tris s w v) (sym (pick-append want (x ∷ []) (y ∷ [])))
+        (added-trans rows (handed sizes ps ns ts) (pick want (x ∷ [])) (pick want (y ∷ [])) tris r s w u v (single x tris r w u F e O .added sizes eb es) (single y r s u v G g Q .added sizes eb es));
   })
     where
       count : s ≡ tris + length (pick want (x ∷ y ∷ []))
@@ -162,7 +162,7 @@ module _ (rows : ℕ) (want : Bool) (ps ns ts : List Float) (f base slot : ℕ) 
   none-done l tris w is = subst (λ (k : List Triangle). Done rows want ps ns ts f base slot k tris tris w w) (sym is) empty
     where
       empty : Done rows want ps ns ts f base slot [] tris tris w w
-      empty = record { count = omega arith; added = λ sizes eb es. added-none rows sizes ps ns ts tris w }
+      empty = record { count = omega arith; added = λ sizes eb es. added-none rows (handed sizes ps ns ts) tris w }
 
   -- the first of two has room, and then the second
   pub room-two : (x y : Triangle) (l : List Triangle) (tris : ℕ) → (x ∷ y ∷ []) ≡ l → 3 * (tris + length (pick want l)) ≤ rows → 3 * (tris + (length (pick want (x ∷ [])) + length (pick want (y ∷ [])))) ≤ rows

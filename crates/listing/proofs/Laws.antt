@@ -9,16 +9,16 @@ use mathlib.Core.Logic.{⊎-elim}
 use lib.Dec.{eqb}
 use lib.ListN.{length, getD, take, drop, set, length-append, List·getD-append}
 use lib.Seq.{sets, sets-eq, length-sets, drop-at, take-at, length-take-le, drop-set-add, take-set-le, getD-set-same, getD-set-other, getD-at}
-use lib.Ieee.{Float}
 use Rattle.tangent.specs.Slot.{flag}
 use Rattle.tangent.specs.Held.{HeldSpace}
 use Rattle.table.specs.Table.{cell, column}
 use Rattle.table.specs.Columns.{columns, cornerColumn, slotColumn, nameColumn, sColumn, tColumn, magnitudeColumn, orientationColumn, anyColumn}
 use Rattle.table.proofs.Laws.{column-sets, getD-column, length-column, column-ends}
 use Rattle.definition.specs.declared.Triangle.{Triangle}
-use Rattle.definition.specs.Lists.{keep}
-use Rattle.definition.specs.Handed.{cornerCount, slotCount}
-use Rattle.laws.proofs.Part.{Every, every-nil, every-cons, every-append}
+use Rattle.lists.specs.Lists.{keep}
+use Rattle.definition.specs.Handed.{Handed, cornerCount, slotCount}
+use Rattle.lists.specs.Every.{Every, every-nil, every-cons}
+use Rattle.laws.proofs.Part.{every-append}
 use Rattle.view.specs.Frame.{outside, Only}
 use Rattle.view.specs.Records.{part, numbers, names, threeOf, lengths, From, Stored, Held, recordColumns}
 use Rattle.view.proofs.Frame.{only-none, only-trans}
@@ -96,9 +96,9 @@ module _ (rows t base slot : ℕ) (x : Triangle) (w : List ℕ) (room : 3 * t + 
         let f = full k h in
         sym (getD-column rows u k t (omega arith)) ∙ ap (λ (l : List ℕ). getD l t 0) (stored-column k ∙ e (column rows k w)) ∙ getD-set-same (column rows k w) t a 0 (omega arith)
 
-    pub here : (sizes : List ℕ) (ps ns ts : List Float) → base ≡ cornerCount (take (x .face) sizes) → slot ≡ slotCount (take (x .face) sizes) → From ps ns ts base x → HeldSpace (x .tangent) → Stored rows sizes ps ns ts u t x
+    pub here : (mesh : Handed) → base ≡ cornerCount (take (x .face) (mesh .sizes)) → slot ≡ slotCount (take (x .face) (mesh .sizes)) → From (mesh .positions) (mesh .normals) (mesh .texture) base x → HeldSpace (x .tangent) → Stored rows mesh u t x
     unfolding within
-    here sizes ps ns ts eb es F H = record {
+    here mesh eb es F H = record {
       corner = three-in cornerColumn _ _ _ (omega arith) (λ l. refl) ∙ (λ k. (eb k + x .a .which) ∷ (eb k + x .b .which) ∷ (eb k + x .c .which) ∷ []);
       slot = three-in slotColumn _ _ _ (omega arith) (λ l. refl) ∙ (λ k. (es k + x .a .which) ∷ (es k + x .b .which) ∷ (es k + x .c .which) ∷ []);
       name = three-in nameColumn _ _ _ (omega arith) (λ l. refl);
@@ -107,7 +107,7 @@ module _ (rows t base slot : ℕ) (x : Triangle) (w : List ℕ) (room : 3 * t + 
       long = three-in magnitudeColumn _ _ _ (omega arith) (λ l. refl);
       way = one-in orientationColumn (flag (x .orientation)) (omega arith) (λ l. refl);
       loose = one-in anyColumn (flag (x .any)) (omega arith) (λ l. refl);
-      from = subst (λ (n : ℕ). From ps ns ts n x) eb F;
+      from = subst (λ (n : ℕ). From (mesh .positions) (mesh .normals) (mesh .texture) n x) eb F;
       held = H;
     }
 
@@ -122,9 +122,9 @@ module _ (rows t base slot : ℕ) (x : Triangle) (w : List ℕ) (room : 3 * t + 
         sym (getD-column rows u k v (omega arith)) ∙ ap (λ (l : List ℕ). getD l v 0) (stored-column k ∙ e (column rows k w))
         ∙ getD-set-other (column rows k w) t v a 0 (λ q. omega arith) ∙ getD-column rows w k v (omega arith)
 
-    pub stored-kept : (sizes : List ℕ) (ps ns ts : List Float) (y : Triangle) → Stored rows sizes ps ns ts w v y → Stored rows sizes ps ns ts u v y
+    pub stored-kept : (mesh : Handed) (y : Triangle) → Stored rows mesh w v y → Stored rows mesh u v y
     unfolding within
-    stored-kept sizes ps ns ts y S = record {
+    stored-kept mesh y S = record {
       corner = three-kept cornerColumn (numbers base x) (λ l. refl) ∙ S .corner;
       slot = three-kept slotColumn (numbers slot x) (λ l. refl) ∙ S .slot;
       name = three-kept nameColumn (names x) (λ l. refl) ∙ S .name;
@@ -138,8 +138,8 @@ module _ (rows t base slot : ℕ) (x : Triangle) (w : List ℕ) (room : 3 * t + 
     }
 
 -- one triangle more
-held-more : (rows : ℕ) (sizes : List ℕ) (ps ns ts : List Float) (ys : List Triangle) (d : Triangle) (t base slot : ℕ) (x : Triangle) (w : List ℕ) → length ys ≡ t → 3 * t + 3 ≤ rows → columns * rows ≤ length w → base ≡ cornerCount (take (x .face) sizes) → slot ≡ slotCount (take (x .face) sizes) → From ps ns ts base x → HeldSpace (x .tangent) → Held rows sizes ps ns ts ys d w → Held rows sizes ps ns ts (ys ++ (x ∷ [])) d (stored rows t base slot x w)
-held-more rows sizes ps ns ts ys d t base slot x w e room long eb es F H S v h = ⊎-elim last earlier (eq-or-lt-of-le cut)
+held-more : (rows : ℕ) (mesh : Handed) (ys : List Triangle) (d : Triangle) (t base slot : ℕ) (x : Triangle) (w : List ℕ) → length ys ≡ t → 3 * t + 3 ≤ rows → columns * rows ≤ length w → base ≡ cornerCount (take (x .face) (mesh .sizes)) → slot ≡ slotCount (take (x .face) (mesh .sizes)) → From (mesh .positions) (mesh .normals) (mesh .texture) base x → HeldSpace (x .tangent) → Held rows mesh ys d w → Held rows mesh (ys ++ (x ∷ [])) d (stored rows t base slot x w)
+held-more rows mesh ys d t base slot x w e room long eb es F H S v h = ⊎-elim last earlier (eq-or-lt-of-le cut)
   where
     U : List ℕ
     U = stored rows t base slot x w
@@ -147,13 +147,13 @@ held-more rows sizes ps ns ts ys d t base slot x w e room long eb es F H S v h =
     cut : v ≤ t
     cut = omega (arith, length-append ys (x ∷ []))
 
-    last : v ≡ t → Stored rows sizes ps ns ts U v (getD (ys ++ (x ∷ [])) v d)
-    last q = subst (λ (y : Triangle). Stored rows sizes ps ns ts U v y) (sym (getD-at ys x [] d v (e ∙ sym q))) (subst (λ (n : ℕ). Stored rows sizes ps ns ts U n x) (sym q) (here rows t base slot x w room long sizes ps ns ts eb es F H))
+    last : v ≡ t → Stored rows mesh U v (getD (ys ++ (x ∷ [])) v d)
+    last q = subst (λ (y : Triangle). Stored rows mesh U v y) (sym (getD-at ys x [] d v (e ∙ sym q))) (subst (λ (n : ℕ). Stored rows mesh U n x) (sym q) (here rows t base slot x w room long mesh eb es F H))
 
-    earlier : v < t → Stored rows sizes ps ns ts U v (getD (ys ++ (x ∷ [])) v d)
+    earlier : v < t → Stored rows mesh U v (getD (ys ++ (x ∷ [])) v d)
     earlier q =
         let b : v < length ys = omega arith in
-        subst (λ (y : Triangle). Stored rows sizes ps ns ts U v y) (sym (List·getD-append ys (x ∷ []) d v b)) (stored-kept rows t base slot x w room v q sizes ps ns ts (getD ys v d) (S v b))
+        subst (λ (y : Triangle). Stored rows mesh U v y) (sym (List·getD-append ys (x ∷ []) d v b)) (stored-kept rows t base slot x w room v q mesh (getD ys v d) (S v b))
 
 -- ---- triangles added
 
@@ -165,36 +165,36 @@ pub pick-no : (want : Bool) (x : Triangle) → Bool·beq (x .degenerate) want �
 unfolding pick keep
 pick-no want x e = ap (λ (b : Bool). cond b (x ∷ []) []) e
 
-module _ (rows : ℕ) (sizes : List ℕ) (ps ns ts : List Float) where
-  pub added-none : (tris : ℕ) (w : List ℕ) → Added rows sizes ps ns ts [] tris tris w w
+module _ (rows : ℕ) (mesh : Handed) where
+  pub added-none : (tris : ℕ) (w : List ℕ) → Added rows mesh [] tris tris w w
   added-none tris w = record {
     count = omega arith;
     only = only-none recordColumns rows w;
-    held = λ ys d e H. subst (λ (l : List Triangle). Held rows sizes ps ns ts l d w) (sym (append-nil ys)) H;
+    held = λ ys d e H. subst (λ (l : List Triangle). Held rows mesh l d w) (sym (append-nil ys)) H;
   }
 
-  pub added-trans : (xs ys : List Triangle) (tris r s : ℕ) (w u v : List ℕ) → Added rows sizes ps ns ts xs tris r w u → Added rows sizes ps ns ts ys r s u v → Added rows sizes ps ns ts (xs ++ ys) tris s w v
+  pub added-trans : (xs ys : List Triangle) (tris r s : ℕ) (w u v : List ℕ) → Added rows mesh xs tris r w u → Added rows mesh ys r s u v → Added rows mesh (xs ++ ys) tris s w v
   added-trans xs ys tris r s w u v A B = record {
     count = let a = A .count in let b = B .count in let c = length-append xs ys in omega arith;
     only = only-trans recordColumns rows w u v (A .only) (B .only);
     held = λ zs d e H.
-        subst (λ (l : List Triangle). Held rows sizes ps ns ts l d v) (append-assoc zs xs ys)
+        subst (λ (l : List Triangle). Held rows mesh l d v) (append-assoc zs xs ys)
         (B .held (zs ++ xs) d (length-append zs xs ∙ ap (λ (n : ℕ). n + length xs) e ∙ sym (A .count)) (A .held zs d e H));
   }
 
   -- the triangle is asked for, and stored
-  pub add-yes : (want : Bool) (tris base slot : ℕ) (x : Triangle) (w u : List ℕ) → Bool·beq (x .degenerate) want ≡ true → u ≡ stored rows tris base slot x w → HeldSpace (x .tangent) → 3 * tris + 3 ≤ rows → columns * rows ≤ length w → base ≡ cornerCount (take (x .face) sizes) → slot ≡ slotCount (take (x .face) sizes) → From ps ns ts base x → Added rows sizes ps ns ts (pick want (x ∷ [])) tris (tris + 1) w u
+  pub add-yes : (want : Bool) (tris base slot : ℕ) (x : Triangle) (w u : List ℕ) → Bool·beq (x .degenerate) want ≡ true → u ≡ stored rows tris base slot x w → HeldSpace (x .tangent) → 3 * tris + 3 ≤ rows → columns * rows ≤ length w → base ≡ cornerCount (take (x .face) (mesh .sizes)) → slot ≡ slotCount (take (x .face) (mesh .sizes)) → From (mesh .positions) (mesh .normals) (mesh .texture) base x → Added rows mesh (pick want (x ∷ [])) tris (tris + 1) w u
   add-yes want tris base slot x w u asked is H room long eb es F =
-      subst (λ (l : List Triangle). Added rows sizes ps ns ts l tris (tris + 1) w u) (sym (pick-yes want x asked))
+      subst (λ (l : List Triangle). Added rows mesh l tris (tris + 1) w u) (sym (pick-yes want x asked))
       (record {
         count = omega arith;
         only = subst (Only recordColumns rows w) (sym is) (only-stored rows tris base slot x w room);
-        held = λ ys d e S. subst (Held rows sizes ps ns ts (ys ++ (x ∷ [])) d) (sym is) (held-more rows sizes ps ns ts ys d tris base slot x w e room long eb es F H S);
+        held = λ ys d e S. subst (Held rows mesh (ys ++ (x ∷ [])) d) (sym is) (held-more rows mesh ys d tris base slot x w e room long eb es F H S);
       })
 
   -- it isn't
-  pub add-no : (want : Bool) (tris : ℕ) (x : Triangle) (w : List ℕ) → Bool·beq (x .degenerate) want ≡ false → Added rows sizes ps ns ts (pick want (x ∷ [])) tris tris w w
-  add-no want tris x w other = subst (λ (l : List Triangle). Added rows sizes ps ns ts l tris tris w w) (sym (pick-no want x other)) (added-none tris w)
+  pub add-no : (want : Bool) (tris : ℕ) (x : Triangle) (w : List ℕ) → Bool·beq (x .degenerate) want ≡ false → Added rows mesh (pick want (x ∷ [])) tris tris w w
+  add-no want tris x w other = subst (λ (l : List Triangle). Added rows mesh l tris tris w w) (sym (pick-no want x other)) (added-none tris w)
 
 -- ---- the stores of the code
 

@@ -9,8 +9,8 @@ use lib.ListN.{length, getD, take, drop, length-append, drop-of-length-le}
 use lib.Seq.{drop-cons}
 use lib.Ieee.{Float}
 use Rattle.definition.specs.declared.Triangle.{Triangle}
-use Rattle.definition.specs.Lists.{keep}
-use Rattle.definition.specs.Handed.{cornersFrom, meshFrom, cornerCount, slotCount, slotsOf}
+use Rattle.lists.specs.Lists.{keep}
+use Rattle.definition.specs.Handed.{Handed, cornersFrom, meshFrom, cornerCount, slotCount, slotsOf}
 use Rattle.definition.specs.Triangles.{pieces, triangles}
 use Rattle.definition.specs.Frames.{numbered}
 use Rattle.mesh.proofs.Counts.{corners-more, corners-none, slots-more, slots-none}
@@ -30,36 +30,36 @@ module _ (ps ns ts : List Float) where
   unfolding restFrom triangles numbered meshFrom
   rest-none sizes f base h = ap (λ (l : List ℕ). triangles (numbered f (meshFrom ps ns ts base l))) (drop-of-length-le sizes h)
 
-module _ (rows : ℕ) (want : Bool) (sizes : List ℕ) (ps ns ts : List Float) (tris : ℕ) (w₀ : List ℕ) where
+module _ (rows : ℕ) (want : Bool) (mesh : Handed) (tris : ℕ) (w₀ : List ℕ) where
   abbrev rest : ℕ → ℕ → List Triangle
-  rest f base = pick want (restFrom ps ns ts f base (drop f sizes))
+  rest f base = pick want (restFrom (mesh .positions) (mesh .normals) (mesh .texture) f base (drop f (mesh .sizes)))
 
   abbrev all : List Triangle
-  all = pick want (restFrom ps ns ts 0 0 sizes)
+  all = pick want (restFrom (mesh .positions) (mesh .normals) (mesh .texture) 0 0 (mesh .sizes))
 
   -- f faces are done
   pub record Far (w : List ℕ) (f base slot k : ℕ) : Type 0 where
-    pub bound : f ≤ length sizes
-    pub at : base ≡ cornerCount (take f sizes)
-    pub off : slot ≡ slotCount (take f sizes)
+    pub bound : f ≤ length (mesh .sizes)
+    pub at : base ≡ cornerCount (take f (mesh .sizes))
+    pub off : slot ≡ slotCount (take f (mesh .sizes))
     pub low : base ≤ 255 * f
     pub few : slot ≤ 4 * f
     pub done : List Triangle
-    pub added : Added rows sizes ps ns ts done tris k w₀ w
+    pub added : Added rows mesh done tris k w₀ w
     pub is : done ++ rest f base ≡ all
 
   pub far-start : Far w₀ 0 0 0 tris
-  far-start = record { bound = omega arith; at = corners-none sizes; off = slots-none sizes; low = omega arith; few = omega arith; done = []; added = added-none rows sizes ps ns ts tris w₀; is = refl }
+  far-start = record { bound = omega arith; at = corners-none (mesh .sizes); off = slots-none (mesh .sizes); low = omega arith; few = omega arith; done = []; added = added-none rows mesh tris w₀; is = refl }
 
-  module _ (w : List ℕ) (f base slot k : ℕ) (F : Far w f base slot k) (h : f < length sizes) where
+  module _ (w : List ℕ) (f base slot k : ℕ) (F : Far w f base slot k) (h : f < length (mesh .sizes)) where
     abbrev n : ℕ
-    n = getD sizes f 0
+    n = getD (mesh .sizes) f 0
 
     abbrev here : List Triangle
-    here = pieces f (cornersFrom ps ns ts base n)
+    here = pieces f (cornersFrom (mesh .positions) (mesh .normals) (mesh .texture) base n)
 
     next : rest f base ≡ pick want here ++ rest (f + 1) (base + n)
-    next = ap (pick want) (rest-cons ps ns ts sizes f base h) ∙ pick-append want here (restFrom ps ns ts (f + 1) (base + n) (drop (f + 1) sizes))
+    next = ap (pick want) (rest-cons (mesh .positions) (mesh .normals) (mesh .texture) (mesh .sizes) f base h) ∙ pick-append want here (restFrom (mesh .positions) (mesh .normals) (mesh .texture) (f + 1) (base + n) (drop (f + 1) (mesh .sizes)))
 
     -- there is room for face f's triangles
     pub fits-room : 3 * (tris + length all) ≤ rows → 3 * (k + length (pick want here)) ≤ rows
@@ -72,18 +72,18 @@ module _ (rows : ℕ) (want : Bool) (sizes : List ℕ) (ps ns ts : List Float) (
         omega arith
 
     -- its turn: c is its number of corners and s of slots, as code counts them
-    pub far-next : (u : List ℕ) (r c s : ℕ) → c ≡ n → c ≤ 255 → s ≡ slotsOf n → s ≤ 4 → Done rows want ps ns ts f base slot here k r w u → Far u (f + 1) (base + c) (slot + s) r
+    pub far-next : (u : List ℕ) (r c s : ℕ) → c ≡ n → c ≤ 255 → s ≡ slotsOf n → s ≤ 4 → Done rows want (mesh .positions) (mesh .normals) (mesh .texture) f base slot here k r w u → Far u (f + 1) (base + c) (slot + s) r
     far-next u r c s ec hc es hs D = record {
       bound = omega arith;
-      at = (λ z. F .at z + ec z) ∙ sym (corners-more sizes f h);
-      off = (λ z. F .off z + es z) ∙ sym (slots-more sizes f h);
+      at = (λ z. F .at z + ec z) ∙ sym (corners-more (mesh .sizes) f h);
+      off = (λ z. F .off z + es z) ∙ sym (slots-more (mesh .sizes) f h);
       low = let a = F .low in omega arith;
       few = let a = F .few in omega arith;
       done = F .done ++ pick want here;
-      added = added-trans rows sizes ps ns ts (F .done) (pick want here) tris k r w₀ w u (F .added) (D .added sizes (F .at) (F .off));
+      added = added-trans rows mesh (F .done) (pick want here) tris k r w₀ w u (F .added) (D .added (mesh .sizes) (F .at) (F .off));
       is = append-assoc (F .done) (pick want here) (rest (f + 1) (base + c)) ∙ ap (λ (m : ℕ). F .done ++ (pick want here ++ rest (f + 1) (base + m))) ec ∙ ap (λ (l : List Triangle). F .done ++ l) (sym next) ∙ F .is;
     }
 
-  pub far-end : (w : List ℕ) (f base slot k : ℕ) → Far w f base slot k → length sizes ≤ f → Added rows sizes ps ns ts all tris k w₀ w
+  pub far-end : (w : List ℕ) (f base slot k : ℕ) → Far w f base slot k → length (mesh .sizes) ≤ f → Added rows mesh all tris k w₀ w
   unfolding pick keep
-  far-end w f base slot k F h = subst (λ (l : List Triangle). Added rows sizes ps ns ts l tris k w₀ w) (sym (append-nil (F .done)) ∙ ap (λ (l : List Triangle). F .done ++ l) (sym (ap (pick want) (rest-none ps ns ts sizes f base h))) ∙ F .is) (F .added)
+  far-end w f base slot k F h = subst (λ (l : List Triangle). Added rows mesh l tris k w₀ w) (sym (append-nil (F .done)) ∙ ap (λ (l : List Triangle). F .done ++ l) (sym (ap (pick want) (rest-none (mesh .positions) (mesh .normals) (mesh .texture) (mesh .sizes) f base h))) ∙ F .is) (F .added)

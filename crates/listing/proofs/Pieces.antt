@@ -11,7 +11,7 @@ use lib.Ieee.{Float}
 use Rattle.table.specs.Columns.{rowsOf}
 use Rattle.definition.specs.declared.Corner.{Corner}
 use Rattle.definition.specs.declared.Triangle.{Triangle}
-use Rattle.definition.specs.Handed.{meshFrom, cornersFrom}
+use Rattle.definition.specs.Handed.{Handed, meshFrom, cornersFrom}
 use Rattle.definition.specs.Step1Cut.{cut02}
 use Rattle.definition.specs.Triangles.{pair, quad, pieces, triangles}
 use Rattle.definition.specs.Frames.{numbered}
@@ -65,8 +65,8 @@ empty (x ∷ l) e = absurd (no (length l) e)
     no n e = omega arith
 
 -- where as many are sound as there are, the second pass would add none
-pub none-broken : (sizes : List ℕ) (ps ns ts : List Float) (n all : ℕ) (w : List ℕ) → all ≡ pieceCount sizes → all ≤ n → n ≡ 0 + length (pick false (restFrom ps ns ts 0 0 sizes)) → Added (rowsOf (length sizes)) sizes ps ns ts (pick true (restFrom ps ns ts 0 0 sizes)) n n w w
-none-broken sizes ps ns ts n all w e l g =
-    let xs = restFrom ps ns ts 0 0 sizes in
-    let z : length (pick true xs) ≡ 0 = omega (arith, split-length xs, of-all ps ns ts 0 0 sizes) in
-    subst (λ (k : List Triangle). Added (rowsOf (length sizes)) sizes ps ns ts k n n w w) (sym (empty (pick true xs) z)) (added-none (rowsOf (length sizes)) sizes ps ns ts n w)
+pub none-broken : (mesh : Handed) (n all : ℕ) (w : List ℕ) → all ≡ pieceCount (mesh .sizes) → all ≤ n → n ≡ 0 + length (pick false (restFrom (mesh .positions) (mesh .normals) (mesh .texture) 0 0 (mesh .sizes))) → Added (rowsOf (length (mesh .sizes))) mesh (pick true (restFrom (mesh .positions) (mesh .normals) (mesh .texture) 0 0 (mesh .sizes))) n n w w
+none-broken mesh n all w e l g =
+    let xs = restFrom (mesh .positions) (mesh .normals) (mesh .texture) 0 0 (mesh .sizes) in
+    let z : length (pick true xs) ≡ 0 = omega (arith, split-length xs, of-all (mesh .positions) (mesh .normals) (mesh .texture) 0 0 (mesh .sizes)) in
+    subst (λ (k : List Triangle). Added (rowsOf (length (mesh .sizes))) mesh k n n w w) (sym (empty (pick true xs) z)) (added-none (rowsOf (length (mesh .sizes))) mesh n w)

@@ -9,8 +9,8 @@ use lib.Ieee.{Float}
 use Rattle.table.specs.Columns.{rowsOf}
 use Rattle.definition.specs.declared.Corner.{Corner}
 use Rattle.definition.specs.declared.Triangle.{Triangle}
-use Rattle.definition.specs.Lists.{keep}
-use Rattle.definition.specs.Handed.{meshFrom, cornersFrom}
+use Rattle.lists.specs.Lists.{keep}
+use Rattle.definition.specs.Handed.{Handed, meshFrom, cornersFrom}
 use Rattle.definition.specs.Step1Cut.{cut02}
 use Rattle.definition.specs.Triangles.{pair, quad, pieces, triangles}
 use Rattle.definition.specs.Step4Order.{isSound, sound, broken}
@@ -73,26 +73,26 @@ rest-few ps ns ts f i (n ∷ sizes) =
     let c = length-append (pieces f (cornersFrom ps ns ts i n)) (triangles (numbered (suc f) (meshFrom ps ns ts (i + n) sizes))) in
     omega arith
 
-module _ (sizes : List ℕ) (ps ns ts : List Float) where
+module _ (mesh : Handed) where
   abbrev rows : ℕ
-  rows = rowsOf (length sizes)
+  rows = rowsOf (length (mesh .sizes))
 
   abbrev xs : List Triangle
-  xs = restFrom ps ns ts 0 0 sizes
+  xs = restFrom (mesh .positions) (mesh .normals) (mesh .texture) 0 0 (mesh .sizes)
 
   pub room-first : 3 * (0 + length (pick false xs)) ≤ rows
-  room-first = omega (arith, split-length xs, rest-few ps ns ts 0 0 sizes)
+  room-first = omega (arith, split-length xs, rest-few (mesh .positions) (mesh .normals) (mesh .texture) 0 0 (mesh .sizes))
 
   pub room-second : (n : ℕ) → n ≡ 0 + length (pick false xs) → 3 * (n + length (pick true xs)) ≤ rows
-  room-second n e = omega (arith, split-length xs, rest-few ps ns ts 0 0 sizes)
+  room-second n e = omega (arith, split-length xs, rest-few (mesh .positions) (mesh .normals) (mesh .texture) 0 0 (mesh .sizes))
 
   both : pick false xs ++ pick true xs ≡ sound xs ++ broken xs
   both = λ k. pick-sound xs k ++ pick-broken xs k
 
-  pub listed : (n m : ℕ) (w v u : List ℕ) → Added rows sizes ps ns ts (pick false xs) 0 n w v → Added rows sizes ps ns ts (pick true xs) n m v u → Listed sizes ps ns ts (triangles (numbered 0 (meshFrom ps ns ts 0 sizes))) n m w u
+  pub listed : (n m : ℕ) (w v u : List ℕ) → Added rows mesh (pick false xs) 0 n w v → Added rows mesh (pick true xs) n m v u → Listed mesh n m w u
   unfolding restFrom
   listed n m w v u A B =
-      let C = subst (λ (l : List Triangle). Added rows sizes ps ns ts l 0 m w u) both (added-trans rows sizes ps ns ts (pick false xs) (pick true xs) 0 n m w v u A B) in
+      let C = subst (λ (l : List Triangle). Added rows mesh l 0 m w u) both (added-trans rows mesh (pick false xs) (pick true xs) 0 n m w v u A B) in
       record {
         sound-count = A .count ∙ zero-plus (length (pick false xs)) ∙ ap length (pick-sound xs);
         count = C .count ∙ zero-plus (length (sound xs ++ broken xs));
@@ -105,4 +105,4 @@ module _ (sizes : List ℕ) (ps ns ts : List Float) where
       zero-plus k = omega arith
 
       fit : 3 * length (sound xs ++ broken xs) ≤ rows
-      fit = subst (λ (l : List Triangle). 3 * length l ≤ rows) both (omega (arith, length-append (pick false xs) (pick true xs), split-length xs, rest-few ps ns ts 0 0 sizes))
+      fit = subst (λ (l : List Triangle). 3 * length l ≤ rows) both (omega (arith, length-append (pick false xs) (pick true xs), split-length xs, rest-few (mesh .positions) (mesh .normals) (mesh .texture) 0 0 (mesh .sizes)))

@@ -10,11 +10,11 @@ use Rattle.tangent.specs.declared.RawTangentSpace.{RawTangentSpace}
 use Rattle.tangent.specs.Slot.{flag}
 use Rattle.table.specs.Columns.{rowsOf, cornerColumn, slotColumn, nameColumn, sColumn, tColumn, magnitudeColumn, orientationColumn, anyColumn}
 use Rattle.definition.specs.declared.Triangle.{Triangle}
-use Rattle.definition.specs.Lists.{keep}
-use Rattle.definition.specs.Handed.{meshFrom, cornerCount, slotCount}
+use Rattle.lists.specs.Lists.{keep}
+use Rattle.definition.specs.Handed.{handed, Handed, meshFrom, cornerCount, slotCount}
 use Rattle.definition.specs.Triangles.{triangles}
 use Rattle.definition.specs.Step4Order.{sound, broken}
-use Rattle.definition.specs.Frames.{numbered}
+use Rattle.definition.specs.Frames.{trianglesOf, numbered}
 use Rattle.view.specs.Frame.{Only}
 use Rattle.view.specs.Stores.{Entry, storing}
 use Rattle.view.specs.Records.{numbers, names, threeOf, lengths, From, Held, recordColumns}
@@ -69,27 +69,27 @@ unfoldable pub restFrom : List Float → List Float → List Float → ℕ → �
 restFrom ps ns ts f i sizes = triangles (numbered f (meshFrom ps ns ts i sizes))
 
 -- what a part of the work leaves: the triangles xs added after the first `tris`, r in all
-pub record Added (rows : ℕ) (sizes : List ℕ) (ps ns ts : List Float) (xs : List Triangle) (tris r : ℕ) (w u : List ℕ) : Type 0 where
+pub record Added (rows : ℕ) (mesh : Handed) (xs : List Triangle) (tris r : ℕ) (w u : List ℕ) : Type 0 where
   pub count : r ≡ tris + length xs
   pub only : Only recordColumns rows w u
-  pub held : (ys : List Triangle) (d : Triangle) → length ys ≡ tris → Held rows sizes ps ns ts ys d w → Held rows sizes ps ns ts (ys ++ xs) d u
+  pub held : (ys : List Triangle) (d : Triangle) → length ys ≡ tris → Held rows mesh ys d w → Held rows mesh (ys ++ xs) d u
 
 -- what storing one triangle, if the pass asks for it, leaves: it is added, for lists of which it is a triangle
 abbrev pub One : ℕ → Bool → ℕ → ℕ → ℕ → ℕ → Triangle → List ℕ → List ℕ → Type 0
-One rows want tris r base slot x w u = (sizes : List ℕ) (ps ns ts : List Float) → base ≡ cornerCount (take (x .face) sizes) → slot ≡ slotCount (take (x .face) sizes) → From ps ns ts base x → Added rows sizes ps ns ts (pick want (x ∷ [])) tris r w u
+One rows want tris r base slot x w u = (mesh : Handed) → base ≡ cornerCount (take (x .face) (mesh .sizes)) → slot ≡ slotCount (take (x .face) (mesh .sizes)) → From (mesh .positions) (mesh .normals) (mesh .texture) base x → Added rows mesh (pick want (x ∷ [])) tris r w u
 
 -- what a face's triangles xs leave: those that the pass asks for are added, for sizes of which it is face number f
 pub record Done (rows : ℕ) (want : Bool) (ps ns ts : List Float) (f base slot : ℕ) (xs : List Triangle) (tris r : ℕ) (w u : List ℕ) : Type 0 where
   pub count : r ≡ tris + length (pick want xs)
-  pub added : (sizes : List ℕ) → base ≡ cornerCount (take f sizes) → slot ≡ slotCount (take f sizes) → Added rows sizes ps ns ts (pick want xs) tris r w u
+  pub added : (sizes : List ℕ) → base ≡ cornerCount (take f sizes) → slot ≡ slotCount (take f sizes) → Added rows (handed sizes ps ns ts) (pick want xs) tris r w u
 
 -- what the two passes leave, for the triangles xs of all faces: sound ones first, then degenerate ones
-pub record Listed (sizes : List ℕ) (ps ns ts : List Float) (xs : List Triangle) (n m : ℕ) (w u : List ℕ) : Type 0 where
-  pub sound-count : n ≡ length (sound xs)
-  pub count : m ≡ length (sound xs ++ broken xs)
-  pub fits : 3 * length (sound xs ++ broken xs) ≤ rowsOf (length sizes)
-  pub only : Only recordColumns (rowsOf (length sizes)) w u
-  pub held : (d : Triangle) → Held (rowsOf (length sizes)) sizes ps ns ts (sound xs ++ broken xs) d u
+pub record Listed (mesh : Handed) (n m : ℕ) (w u : List ℕ) : Type 0 where
+  pub sound-count : n ≡ length (sound (trianglesOf mesh))
+  pub count : m ≡ length (sound (trianglesOf mesh) ++ broken (trianglesOf mesh))
+  pub fits : 3 * length (sound (trianglesOf mesh) ++ broken (trianglesOf mesh)) ≤ rowsOf (length (mesh .sizes))
+  pub only : Only recordColumns (rowsOf (length (mesh .sizes))) w u
+  pub held : (d : Triangle) → Held (rowsOf (length (mesh .sizes))) mesh (sound (trianglesOf mesh) ++ broken (trianglesOf mesh)) d u
 
 -- how many triangles a face of size n has
 unfoldable pub piecesOf : ℕ → ℕ

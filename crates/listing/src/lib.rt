@@ -5,15 +5,13 @@ ghost use mathlib.Core.List.{List, [], _∷_};
 ghost use Prim.Native.Nat.{ℕ, _+_, _*_, _<_, _≤_};
 ghost use lib.ListN.{length, take};
 ghost use lib.Seq.{sets};
-ghost use lib.Ieee.{Float};
 ghost use Rattle.bits.specs.Word.{word};
 ghost use Rattle.math.specs.Held.{HeldVec};
 ghost use Rattle.tangent.specs.Slot.{flag};
 ghost use Rattle.tangent.specs.Held.{HeldSpace};
-ghost use Rattle.definition.specs.Handed.{cornerAt, cornersFrom, meshFrom};
+ghost use Rattle.definition.specs.Handed.{handed, cornerAt, cornersFrom};
 ghost use Rattle.definition.specs.Limits.{faceLimit};
-ghost use Rattle.definition.specs.Triangles.{nook, pieces, triangles};
-ghost use Rattle.definition.specs.Frames.{numbered};
+ghost use Rattle.definition.specs.Triangles.{nook, pieces};
 ghost use Rattle.table.specs.Columns.{columns, rowsOf, sColumn, tColumn, magnitudeColumn};
 ghost use Rattle.table.specs.Table.{put};
 ghost use Rattle.view.specs.Stores.{storing};
@@ -219,7 +217,7 @@ fn pass(
     tris: usize,
 ) -> usize
     requires { ⌜ (length (now sizes) ≤ faceLimit) × (columns * rows ≤ length (now work)) × (3 * (tris + length (spec.pick want (spec.restFrom (now positions) (now normals) (now texture) 0 0 (now sizes)))) ≤ rows) ⌝ }
-    ensures { λ r. ⌜ spec.Added rows (now (sizes .entry)) (now (positions .entry)) (now (normals .entry)) (now (texture .entry)) (spec.pick want (spec.restFrom (now (positions .entry)) (now (normals .entry)) (now (texture .entry)) 0 0 (now (sizes .entry)))) tris r (now (work .entry)) (now (work .exit)) ⌝ }
+    ensures { λ r. ⌜ spec.Added rows (handed (now (sizes .entry)) (now (positions .entry)) (now (normals .entry)) (now (texture .entry))) (spec.pick want (spec.restFrom (now (positions .entry)) (now (normals .entry)) (now (texture .entry)) 0 0 (now (sizes .entry)))) tris r (now (work .entry)) (now (work .exit)) ⌝ }
 {
     let mut base: u32 = 0;
     let mut slot: u32 = 0;
@@ -273,7 +271,7 @@ fn pieces_in(sizes: &[u8]) -> usize
 }
 
 // How many triangles are sound, and how many there are.
-pub struct Counts {
+pub struct TriangleCounts {
     pub sound: usize,
     pub all: usize,
 }
@@ -285,15 +283,15 @@ pub fn list_triangles(
     positions: &[f32],
     normals: &[f32],
     texture: &[f32],
-) -> Counts
+) -> TriangleCounts
     requires { ⌜ (length (now sizes) ≤ faceLimit) × (columns * rowsOf (length (now sizes)) ≤ length (now work)) ⌝ }
-    ensures { λ r. ⌜ spec.Listed (now (sizes .entry)) (now (positions .entry)) (now (normals .entry)) (now (texture .entry)) (triangles (numbered 0 (meshFrom (now (positions .entry)) (now (normals .entry)) (now (texture .entry)) 0 (now (sizes .entry))))) (r .sound) (r .all) (now (work .entry)) (now (work .exit)) ⌝ }
+    ensures { λ r. ⌜ spec.Listed (handed (now (sizes .entry)) (now (positions .entry)) (now (normals .entry)) (now (texture .entry))) (r .sound) (r .all) (now (work .entry)) (now (work .exit)) ⌝ }
 {
     let rows = 6 * sizes.len();
     let sound = pass(work, rows, sizes, positions, normals, texture, false, 0);
     if pieces_in(sizes) <= sound {
-        return Counts { sound, all: sound }; // none is degenerate
+        return TriangleCounts { sound, all: sound }; // none is degenerate
     }
     let all = pass(work, rows, sizes, positions, normals, texture, true, sound);
-    Counts { sound, all }
+    TriangleCounts { sound, all }
 }

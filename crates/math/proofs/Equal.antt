@@ -6,14 +6,9 @@ use borrow.Author.Tests.{eqb-true, eqb-false, eq-eqb, ne-eqb}
 use lib.IntN.{ℤ}
 use lib.Dec.{eqb}
 use lib.Ieee.{Float, nan, inf, fin, eq, up, down, level}
+use Rattle.bits.proofs.Bools.{beq-sym}
 use Rattle.math.specs.declared.Vec3.{Vec3}
 use Rattle.math.specs.Vector.{equals}
-
-beq-sym : (a b : Bool) → Bool·beq a b ≡ Bool·beq b a
-beq-sym true true = refl
-beq-sym true false = refl
-beq-sym false true = refl
-beq-sym false false = refl
 
 level-sym : (s t : Bool) (a b : ℕ) → level s a t b ≡ level t b s a
 level-sym s t a b = go (eqb a b) refl

@@ -11,17 +11,17 @@ use lib.Seq.{slice, length-slice, sets}
 use borrow.Author.Tests.{eq-eqb, eqb-true, ne-eqb, leb-true, leb-false, le-leb, lt-leb, lt-ltb, le-ltb, ltb-true, ltb-false}
 use Rattle.laws.proofs.Closed.{Between}
 use Rattle.table.specs.Table.{cell, column, filledTo}
-use Rattle.table.specs.Loop.{listOf}
+use Rattle.lists.specs.Loops.{listOf}
 use Rattle.table.specs.Columns.{columns, groupColumn, metColumn, lowerColumn, higherColumn, orderColumn, spareColumn, beginColumn}
 use Rattle.table.proofs.Laws.{getD-column, length-column, filled-column, run-fills}
-use Rattle.table.proofs.Loops.{length-listOf, getD-listOf}
+use Rattle.lists.proofs.Loops.{length-listOf, getD-listOf}
 use Rattle.definition.specs.declared.Triangle.{Triangle}
-use Rattle.definition.specs.Lists.{keep, has}
+use Rattle.lists.specs.Lists.{keep, has}
 use Rattle.definition.specs.Mesh.{Third, Spot, sameSpot}
 use Rattle.definition.specs.Step5Links.{Link}
 use Rattle.definition.specs.Step6Groups.{Mark, grouped, marks}
-use Rattle.laws.proofs.Part.{Every}
-use Rattle.laws.proofs.Mutual.{Names}
+use Rattle.lists.specs.Every.{Every}
+use Rattle.definition.specs.Names.{Names}
 use Rattle.laws.proofs.Enough.{spot-refl}
 use Rattle.laws.proofs.Laws.{mark, Once, once-nil, once-cons, at-most-one}
 use Rattle.sort.specs.Sort.{sorted, ends, key, SortedPart}

@@ -11,15 +11,15 @@ use lib.Seq.{slice, take-suc, take-length}
 use borrow.Author.Tests.{eqb-true}
 use Rattle.laws.proofs.Closed.{Between}
 use Rattle.table.specs.Table.{cell, column}
-use Rattle.table.specs.Loop.{listOf}
+use Rattle.lists.specs.Loops.{listOf}
 use Rattle.table.specs.Columns.{groupColumn, metColumn, orderColumn, beginColumn}
 use Rattle.definition.specs.declared.Triangle.{Triangle}
-use Rattle.definition.specs.Lists.{keep, has}
+use Rattle.lists.specs.Lists.{keep, has}
 use Rattle.definition.specs.Mesh.{Third, one, two, three, Spot, after, cornerOf, sameTriangle}
 use Rattle.definition.specs.Step4Order.{welded}
 use Rattle.definition.specs.Step5Links.{Link}
 use Rattle.definition.specs.Step6Groups.{Mark, marks, members}
-use Rattle.laws.proofs.Mutual.{Names}
+use Rattle.definition.specs.Names.{Names}
 use Rattle.laws.proofs.Weld.{welded-refl, welded-as}
 use Rattle.view.specs.Rows.{num, row, spotAt}
 use Rattle.view.specs.Weld.{Sharp}

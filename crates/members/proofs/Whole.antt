@@ -11,16 +11,16 @@ use lib.Seq.{slice, sets-eq}
 use borrow.Author.Tests.{eq-eqb, lt-ltb, ltb-true}
 use Rattle.laws.proofs.Closed.{Between}
 use Rattle.table.specs.Table.{cell, column, filledTo}
-use Rattle.table.specs.Loop.{listOf}
+use Rattle.lists.specs.Loops.{listOf}
 use Rattle.table.specs.Columns.{columns, groupColumn, metColumn, lowerColumn, higherColumn, orderColumn, spareColumn, beginColumn}
 use Rattle.table.proofs.Laws.{getD-column, length-column, filled-column, run-fills}
-use Rattle.table.proofs.Loops.{length-listOf, getD-listOf}
+use Rattle.lists.proofs.Loops.{length-listOf, getD-listOf}
 use Rattle.definition.specs.declared.Triangle.{Triangle}
-use Rattle.definition.specs.Lists.{keep}
+use Rattle.lists.specs.Lists.{keep}
 use Rattle.definition.specs.Step5Links.{Link}
 use Rattle.definition.specs.Step6Groups.{marks}
 use Rattle.laws.proofs.Part.{keep-same}
-use Rattle.laws.proofs.Mutual.{Names}
+use Rattle.definition.specs.Names.{Names}
 use Rattle.sort.specs.Sort.{sorted, ends, key}
 use Rattle.sort.proofs.Keys.{ends-at}
 use Rattle.view.specs.Frame.{outside, Only}

@@ -7,13 +7,13 @@ ghost use Rattle.definition.specs.declared.Triangle.{Triangle};
 ghost use Rattle.definition.specs.Step5Links.{Link};
 ghost use Rattle.laws.proofs.Closed.{Between};
 ghost use Rattle.definition.specs.Step6Groups.{marks};
-ghost use Rattle.laws.proofs.Mutual.{Names};
+ghost use Rattle.definition.specs.Names.{Names};
 ghost use Rattle.table.specs.Columns.{columns, metColumn, orderColumn};
 ghost use Rattle.table.specs.Table.{column, filledTo};
 ghost use Rattle.view.specs.Frame.{Only};
 ghost use Rattle.view.specs.Groups.{Grouping, InOrder};
 ghost use Rattle.members.specs.Members as spec;
-use groups::Counts;
+use groups::GroupCounts;
 
 // The lesser of two numbers.
 fn least(a: usize, b: usize) -> usize
@@ -33,7 +33,7 @@ fn copy_members(work: &mut [u32], rows: usize, count: usize)
 }
 
 // Where the members of group number q + 1 begin; past the last group, where all end.
-pub fn begin_at(work: &[u32], rows: usize, q: usize, s: Counts) -> usize
+pub fn begin_at(work: &[u32], rows: usize, q: usize, s: GroupCounts) -> usize
     requires { ⌜ (s .groups ≤ rows) × (columns * rows ≤ length (now work)) ⌝ }
     ensures { λ r. ⌜ (r ≡ spec.beginOf rows (s .groups) (s .members) (now (work .entry)) q) × (r ≤ s .members) ⌝ }
 {
@@ -44,7 +44,7 @@ pub fn begin_at(work: &[u32], rows: usize, q: usize, s: Counts) -> usize
 }
 
 // The members of group number q + 1 sorted by their rows.
-fn sort_group(work: &mut [u32], rows: usize, q: usize, s: Counts)
+fn sort_group(work: &mut [u32], rows: usize, q: usize, s: GroupCounts)
     requires { ⌜ (q < s .groups) × (s .groups ≤ rows) × (s .members ≤ rows) × (columns * rows ≤ length (now work)) ⌝ }
     ensures { λ _. ⌜ spec.Sorts rows (spec.beginOf rows (s .groups) (s .members) (now (work .entry)) q) (spec.beginOf rows (s .groups) (s .members) (now (work .entry)) (q + 1)) (now (work .entry)) (now (work .exit)) ⌝ }
 {
@@ -57,7 +57,7 @@ fn sort_group(work: &mut [u32], rows: usize, q: usize, s: Counts)
 }
 
 // Those of every group.
-fn sort_groups(work: &mut [u32], rows: usize, s: Counts)
+fn sort_groups(work: &mut [u32], rows: usize, s: GroupCounts)
     requires { ⌜ (s .groups ≤ rows) × (s .members ≤ rows) × (columns * rows ≤ length (now work)) ⌝ }
     ensures { λ _. ⌜ spec.Sorting rows (s .groups) (s .members) (now (work .entry)) (s .groups) (now (work .exit)) ⌝ }
 {
@@ -67,7 +67,7 @@ fn sort_groups(work: &mut [u32], rows: usize, s: Counts)
 }
 
 // The members of every group in triangle order, beside their order as met.
-pub fn order_members(work: &mut [u32], rows: usize, s: Counts)
+pub fn order_members(work: &mut [u32], rows: usize, s: GroupCounts)
     requires { ⌜ (s .groups ≤ rows) × (s .members ≤ rows) × (columns * rows ≤ length (now work)) × (rows < 4294967295) ⌝ }
     ensures ordered { λ _. ⌜ ((ss : List Triangle) (d : Triangle) (ls : List Link) → Between ss ls → 3 * length ss ≤ rows → Names ss → s .members ≡ length (marks ss ls) → Grouping rows ss d (marks ss ls) (s .groups) (now (work .entry)) → InOrder rows ss (s .groups) (s .members) (now (work .exit))) ⌝ }
     ensures only { λ _. ⌜ Only spec.orderColumns rows (now (work .entry)) (now (work .exit)) ⌝ }

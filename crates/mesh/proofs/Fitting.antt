@@ -10,49 +10,32 @@ use lib.Dec.{eqb, ltb}
 use borrow.Author.Tests.{lt-ltb, le-ltb, ltb-false, eq-eqb, ne-eqb, eqb-true}
 use lib.ListN.{length, getD, take, drop, take-append-drop}
 use lib.Seq.{take-all}
-use lib.Ieee.{Float}
-use Rattle.definition.specs.Handed.{cornerCount}
+use Rattle.definition.specs.Handed.{Handed, cornerCount}
 use Rattle.definition.specs.Desk.{tooMany, unfit, misfit}
-use Rattle.mesh.specs.Parts.{caught}
+use Rattle.definition.specs.Limits.{faceLimit}
+use Rattle.mesh.specs.Parts.{caught, Fits}
 use Rattle.mesh.proofs.Counts.{corners-more, corners-append}
 
-module _ (sizes : List ℕ) (ps ns ts : List Float) where
-  pub caught-many : 65536 < length sizes → true ≡ caught sizes ps ns ts
+module _ (mesh : Handed) where
+  pub caught-many : faceLimit < length (mesh .sizes) → true ≡ caught mesh
   unfolding caught tooMany
-  caught-many h = rw (lt-ltb 65536 (length sizes) h)
+  caught-many h = rw (lt-ltb faceLimit (length (mesh .sizes)) h)
 
-  module _ (n : ℕ) (few : length sizes ≤ 65536) (is : n ≡ cornerCount sizes) where
-    -- the verdict of refusal 2, by its three tests
-    by-tests : (a b c : Bool) → eqb (length ps) (3 * n) ≡ a → eqb (length ns) (3 * n) ≡ b → eqb (length ts) (2 * n) ≡ c → not (a && b && c) ≡ caught sizes ps ns ts
-    unfolding caught tooMany misfit unfit
-    by-tests a b c p q r = rw (le-ltb 65536 (length sizes) few, ← is, p, q, r)
+  pub caught-few : (n : ℕ) → length (mesh .sizes) ≤ faceLimit → n ≡ cornerCount (mesh .sizes) → unfit n (length (mesh .positions)) (length (mesh .normals)) (length (mesh .texture)) ≡ caught mesh
+  unfolding caught tooMany misfit
+  caught-few n few is = rw (le-ltb faceLimit (length (mesh .sizes)) few, ← is)
 
-    pub caught-places : (length ps ≡ 3 * n → ⊥) → true ≡ caught sizes ps ns ts
-    caught-places h = by-tests false _ _ (ne-eqb (length ps) (3 * n) h) refl refl
-
-    pub caught-normals : length ps ≡ 3 * n → (length ns ≡ 3 * n → ⊥) → true ≡ caught sizes ps ns ts
-    caught-normals e h = by-tests true false _ (eq-eqb (length ps) (3 * n) e) (ne-eqb (length ns) (3 * n) h) refl
-
-    pub caught-texture : length ps ≡ 3 * n → length ns ≡ 3 * n → not (eqb (length ts) (2 * n)) ≡ caught sizes ps ns ts
-    caught-texture e f = by-tests true true _ (eq-eqb (length ps) (3 * n) e) (eq-eqb (length ns) (3 * n) f) refl
-
--- what is known of lists that pass
-pub record Fit (sizes : List ℕ) (ps ns ts : List Float) : Type 0 where
-  pub few : length sizes ≤ 65536
-  pub places : length ps ≡ 3 * cornerCount sizes
-  pub normals : length ns ≡ 3 * cornerCount sizes
-  pub texture : length ts ≡ 2 * cornerCount sizes
-
-pub fit : (sizes : List ℕ) (ps ns ts : List Float) → caught sizes ps ns ts ≡ false → Fit sizes ps ns ts
+-- lists that pass fit each other
+pub fit : (mesh : Handed) → caught mesh ≡ false → Fits mesh
 unfolding caught tooMany misfit unfit
-fit sizes ps ns ts e =
-    let n = cornerCount sizes in
-    let t = passed (ltb 65536 (length sizes)) (eqb (length ps) (3 * n)) (eqb (length ns) (3 * n)) (eqb (length ts) (2 * n)) e in
+fit mesh e =
+    let n = cornerCount (mesh .sizes) in
+    let t = passed (ltb faceLimit (length (mesh .sizes))) (eqb (length (mesh .positions)) (3 * n)) (eqb (length (mesh .normals)) (3 * n)) (eqb (length (mesh .texture)) (2 * n)) e in
     record {
-      few = ltb-false 65536 (length sizes) (t .0);
-      places = eqb-true (length ps) (3 * n) (t .1);
-      normals = eqb-true (length ns) (3 * n) (t .2);
-      texture = eqb-true (length ts) (2 * n) (t .3);
+      few = ltb-false faceLimit (length (mesh .sizes)) (t .0);
+      positions = eqb-true (length (mesh .positions)) (3 * n) (t .1);
+      normals = eqb-true (length (mesh .normals)) (3 * n) (t .2);
+      texture = eqb-true (length (mesh .texture)) (2 * n) (t .3);
     }
   where
     passed : (m a b c : Bool) → (m || not (a && b && c)) ≡ false → (m ≡ false) × (a ≡ true) × (b ≡ true) × (c ≡ true)
@@ -71,5 +54,5 @@ part-ends width sizes f h =
     at-most : (k : ℕ) → cornerCount (take k sizes) ≤ cornerCount sizes
     at-most k = let e = sym (corners-append (take k sizes) (drop k sizes)) ∙ ap cornerCount (take-append-drop k sizes) in omega arith
 
-pub all-taken : (sizes : List ℕ) → length sizes ≤ 65536 → cornerCount (take 65536 sizes) ≡ cornerCount sizes
-all-taken sizes h = ap cornerCount (take-all 65536 sizes h)
+pub all-taken : (sizes : List ℕ) → length sizes ≤ faceLimit → cornerCount (take faceLimit sizes) ≡ cornerCount sizes
+all-taken sizes h = ap cornerCount (take-all faceLimit sizes h)

@@ -1,11 +1,13 @@
 -- A face's corner as one number, and the part of a list that belongs to a face. Definitions only.
-use Prim.Native.Nat.{ℕ, _+_, _*_, _/_, _%_}
+use Prim.Native.Nat.{ℕ, _+_, _*_, _/_, _%_, _≤_}
+use mathlib.Core.Path.{_≡_}
 use mathlib.Core.Bool.{Bool, cond, _||_}
 use mathlib.Core.List.{List, []}
 use lib.Dec.{leb}
 use lib.ListN.{length, getD, take, drop}
 use lib.Ieee.{Float}
-use Rattle.definition.specs.Handed.{cornerCount}
+use Rattle.definition.specs.Handed.{Handed, cornerCount}
+use Rattle.definition.specs.Limits.{faceLimit}
 use Rattle.definition.specs.Desk.{tooMany, misfit}
 
 -- of 'face times 4 plus corner, one number': the face
@@ -24,10 +26,17 @@ partOf width xs sizes f = take (width * getD sizes f 0) (drop (width * cornerCou
 unfoldable pub partOrNone : ℕ → List Float → List ℕ → ℕ → List Float
 partOrNone width xs sizes f = cond (leb (length sizes) f) [] (partOf width xs sizes f)
 
+-- lists that fit each other
+pub record Fits (mesh : Handed) : Type 0 where
+  pub few : length (mesh .sizes) ≤ faceLimit
+  pub positions : length (mesh .positions) ≡ 3 * cornerCount (mesh .sizes)
+  pub normals : length (mesh .normals) ≡ 3 * cornerCount (mesh .sizes)
+  pub texture : length (mesh .texture) ≡ 2 * cornerCount (mesh .sizes)
+
 -- 'lists that 1 or 2 below would catch'
-unfoldable pub caught : List ℕ → List Float → List Float → List Float → Bool
-caught sizes ps ns ts = tooMany sizes || misfit sizes ps ns ts
+unfoldable pub caught : Handed → Bool
+caught mesh = tooMany (mesh .sizes) || misfit mesh
 
 -- 'a face number of F or above, or lists that 1 or 2 below would catch, get the empty part'
-unfoldable pub handedBack : ℕ → List Float → List ℕ → List Float → List Float → List Float → ℕ → List Float
-handedBack width xs sizes ps ns ts f = cond (caught sizes ps ns ts) [] (partOrNone width xs sizes f)
+unfoldable pub handedBack : ℕ → List Float → Handed → ℕ → List Float
+handedBack width xs mesh f = cond (caught mesh) [] (partOrNone width xs (mesh .sizes) f)

@@ -6,9 +6,10 @@ ghost use mathlib.Core.List.{[]};
 ghost use Prim.Native.Nat.{_+_, _*_, _%_, _^_, _≤_, _<_, min};
 ghost use lib.ListN.{length, getD, take};
 ghost use lib.Ieee.{nan};
-ghost use Rattle.definition.specs.Handed.{vectorAt, cornerAt, cornerCount, slotsOf, slotCount};
+ghost use Rattle.definition.specs.Handed.{handed, vectorAt, cornerAt, cornerCount, slotsOf, slotCount};
 ghost use Rattle.definition.specs.Limits.{faceLimit};
 ghost use Rattle.math.specs.Vector.{vec};
+ghost use Rattle.definition.specs.Desk as desk;
 ghost use Rattle.mesh.specs.Parts as spec;
 use definition::Corner;
 use math::Vec3;
@@ -89,7 +90,7 @@ fn least(a: usize, b: usize) -> usize
 pub fn corners_before(sizes: &[u8], face: usize) -> usize
     ensures { λ r. ⌜ (r ≡ cornerCount (take (min face faceLimit) (now (sizes .entry)))) × (r ≤ 255 * faceLimit) ⌝ }
 {
-    let end = least(least(face, 65536), sizes.len());
+    let end = least(least(face, definition::FACE_LIMIT), sizes.len());
     let mut sum: usize = 0;
     let mut f: usize = 0;
     while f < end {
@@ -116,7 +117,7 @@ pub fn slots_of(size: u8) -> usize
 pub fn slots_before(sizes: &[u8], face: usize) -> usize
     ensures { λ r. ⌜ (r ≡ slotCount (take (min face faceLimit) (now (sizes .entry)))) × (r ≤ 4 * faceLimit) ⌝ }
 {
-    let end = least(least(face, 65536), sizes.len());
+    let end = least(least(face, definition::FACE_LIMIT), sizes.len());
     let mut sum: usize = 0;
     let mut f: usize = 0;
     while f < end {
@@ -126,21 +127,34 @@ pub fn slots_before(sizes: &[u8], face: usize) -> usize
     sum
 }
 
+// Whether refusal 2 applies, for so many corners and lists of these lengths.
+pub fn unfit(corners: u32, positions: usize, normals: usize, texture: usize) -> bool
+    ensures { λ r. ⌜ r ≡ desk.unfit corners positions normals texture ⌝ }
+{
+    let triple = 3 * (corners as usize);
+    if positions != triple {
+        return true;
+    }
+    if normals != triple {
+        return true;
+    }
+    texture != 2 * (corners as usize)
+}
+
 // Whether refusal 1 or 2 would catch the lists.
 pub fn caught(sizes: &[u8], positions: &[f32], normals: &[f32], texture: &[f32]) -> bool
-    ensures { λ r. ⌜ r ≡ spec.caught (now (sizes .entry)) (now (positions .entry)) (now (normals .entry)) (now (texture .entry)) ⌝ }
+    ensures { λ r. ⌜ r ≡ spec.caught (handed (now (sizes .entry)) (now (positions .entry)) (now (normals .entry)) (now (texture .entry))) ⌝ }
 {
-    if 65536 < sizes.len() {
+    if definition::FACE_LIMIT < sizes.len() {
         return true;
     }
-    let corners = corners_before(sizes, 65536);
-    if positions.len() != 3 * corners {
-        return true;
-    }
-    if normals.len() != 3 * corners {
-        return true;
-    }
-    texture.len() != 2 * corners
+    let corners = corners_before(sizes, definition::FACE_LIMIT);
+    unfit(
+        corners as u32,
+        positions.len(),
+        normals.len(),
+        texture.len(),
+    )
 }
 
 // The part of a list, width numbers a corner, where the numbers of a face stand.
@@ -175,7 +189,7 @@ pub fn positions_of<'a>(
     texture: &[f32],
     face: usize,
 ) -> &'a [f32]
-    ensures { λ r. ⌜ now r ≡ spec.handedBack 3 (now (positions .entry)) (now (sizes .entry)) (now (positions .entry)) (now (normals .entry)) (now (texture .entry)) face ⌝ }
+    ensures { λ r. ⌜ now r ≡ spec.handedBack 3 (now (positions .entry)) (handed (now (sizes .entry)) (now (positions .entry)) (now (normals .entry)) (now (texture .entry))) face ⌝ }
 {
     let stopped = caught(sizes, positions, normals, texture);
     unless(stopped, sizes, positions, 3, face)
@@ -189,7 +203,7 @@ pub fn normals_of<'a>(
     texture: &[f32],
     face: usize,
 ) -> &'a [f32]
-    ensures { λ r. ⌜ now r ≡ spec.handedBack 3 (now (normals .entry)) (now (sizes .entry)) (now (positions .entry)) (now (normals .entry)) (now (texture .entry)) face ⌝ }
+    ensures { λ r. ⌜ now r ≡ spec.handedBack 3 (now (normals .entry)) (handed (now (sizes .entry)) (now (positions .entry)) (now (normals .entry)) (now (texture .entry))) face ⌝ }
 {
     let stopped = caught(sizes, positions, normals, texture);
     unless(stopped, sizes, normals, 3, face)
@@ -203,7 +217,7 @@ pub fn texture_of<'a>(
     texture: &'a [f32],
     face: usize,
 ) -> &'a [f32]
-    ensures { λ r. ⌜ now r ≡ spec.handedBack 2 (now (texture .entry)) (now (sizes .entry)) (now (positions .entry)) (now (normals .entry)) (now (texture .entry)) face ⌝ }
+    ensures { λ r. ⌜ now r ≡ spec.handedBack 2 (now (texture .entry)) (handed (now (sizes .entry)) (now (positions .entry)) (now (normals .entry)) (now (texture .entry))) face ⌝ }
 {
     let stopped = caught(sizes, positions, normals, texture);
     unless(stopped, sizes, texture, 2, face)

@@ -6,15 +6,13 @@ use mathlib.Core.List.{List, _++_}
 use mathlib.Core.Option.{Option, none, some}
 use lib.ListN.{length, take, drop, replicate}
 use lib.Seq.{take-all, drop-drop}
-use lib.Ieee.{Float}
 use Rattle.definition.specs.Limits.{faceLimit, workWords}
-use Rattle.definition.specs.Handed.{slotCount}
-use Rattle.definition.specs.Desk.{Row, verdict}
+use Rattle.definition.specs.Handed.{slotCount, call}
+use Rattle.definition.specs.Desk.{Row, verdict, Shown}
 use Rattle.definition.specs.Outcome.{Result, answered}
 use Rattle.table.specs.Columns.{columns, rowsOf}
-use Rattle.laws.proofs.Part.{Each, each-none, each-some}
-use Rattle.laws.proofs.Closed.{Found}
-use Rattle.laws.proofs.Verdict.{verdict-numbered}
+use Rattle.lists.specs.Every.{Each, each-none, each-some}
+use Rattle.laws.proofs.Verdict.{verdict-numbered, InTable}
 use Rattle.desk.specs.Verdict.{told}
 use Rattle.mikktspace.specs.declared.Outcome.{Outcome}
 use Rattle.mikktspace.specs.Contract.{left}
@@ -29,17 +27,17 @@ refused none z a w h = absurd (h refl)
 refused (some r) z a w h = refl
 
 -- a number of 0 is no refusal
-pub no-refusal : (sizes : List ℕ) (ps ns ts : List Float) (h : Float) (answer work : ℕ) → told (verdict sizes ps ns ts h answer work) .number ≡ 0 → verdict sizes ps ns ts h answer work ≡ none
+pub no-refusal : (x : Shown) → told (verdict x) .number ≡ 0 → verdict x ≡ none
 unfolding told
-no-refusal sizes ps ns ts h answer work e = go (verdict sizes ps ns ts h answer work) (verdict-numbered sizes ps ns ts h answer work) e
+no-refusal x e = go (verdict x) (verdict-numbered x) e
   where
-    go : (o : Option Row) → Each (Found (λ r. r .applies) (λ r. (0 < r .number) × (r .number ≤ 6))) o → told o .number ≡ 0 → o ≡ none
+    go : (o : Option Row) → Each InTable o → told o .number ≡ 0 → o ≡ none
     go none each-none e = refl
     go (some r) (each-some f) e = let g = f .known .0 in absurd (omega arith)
 
 -- so few faces are all counted
-pub all-slots : (sizes : List ℕ) (n : ℕ) → length sizes ≤ faceLimit → n ≡ slotCount (take (min 65536 faceLimit) sizes) → n ≡ slotCount sizes
-all-slots sizes n h e = e ∙ ap slotCount (take-all 65536 sizes h)
+pub all-slots : (sizes : List ℕ) (n : ℕ) → length sizes ≤ faceLimit → n ≡ slotCount (take (min faceLimit faceLimit) sizes) → n ≡ slotCount sizes
+all-slots sizes n h e = e ∙ ap slotCount (take-all faceLimit sizes h)
 
 -- a work list that is as it was past its columns, cleared so far as a face has words
 pub cleared-past : (n : ℕ) (w z y : List ℕ) → drop (columns * rowsOf n) z ≡ drop (columns * rowsOf n) w → y ≡ replicate (workWords * n) 0 ++ drop (workWords * n) z → y ≡ replicate (workWords * n) 0 ++ drop (workWords * n) w

@@ -12,16 +12,15 @@ use Rattle.tangent.specs.Slot.{slotWords}
 use Rattle.table.specs.Columns.{columns, rowsOf, joinedColumn}
 use Rattle.definition.specs.declared.Triangle.{Triangle}
 use Rattle.definition.specs.Limits.{workWords}
-use Rattle.definition.specs.Handed.{cornerAt, meshFrom, slotCount}
-use Rattle.definition.specs.Desk.{badCorner}
+use Rattle.definition.specs.Handed.{handed, meshOf, Handed, cornerAt, slotCount}
+use Rattle.definition.specs.Desk.{notFinite}
 use Rattle.definition.specs.Mesh.{one}
-use Rattle.definition.specs.Triangles.{triangles}
 use Rattle.definition.specs.Step4Order.{sound, broken}
 use Rattle.definition.specs.Step5Links.{links}
 use Rattle.definition.specs.Step6Groups.{Mark, marks}
 use Rattle.definition.specs.Step7Sums.{Brought, broughtAll}
 use Rattle.definition.specs.Step8Slots.{reading}
-use Rattle.definition.specs.Frames.{numbered, framesOf, frames}
+use Rattle.definition.specs.Frames.{trianglesOf, framesOf, frames}
 use Rattle.definition.specs.Outcome.{answerWords}
 use Rattle.laws.proofs.Closed.{links-sound}
 use Rattle.laws.proofs.Laws.{mark, some-triangle}
@@ -36,8 +35,8 @@ use Rattle.view.proofs.Weld.{vertices-kept}
 use Rattle.view.proofs.Records.{told-stored, told-kept}
 use Rattle.view.proofs.Groups.{grouping-kept, in-order-kept}
 use Rattle.view.proofs.Answer.{absent-shown, frames-shown, mesh-slotted, slotted-sound-broken}
-use Rattle.grouped.specs.declared.Counts.{Counts}
-use Rattle.grouped.specs.Grouped.{groupedColumns, Left, Six}
+use Rattle.grouped.specs.declared.MeshCounts.{MeshCounts}
+use Rattle.grouped.specs.Grouped.{groupedColumns, LeftBySix, Six}
 use Rattle.subgroups.specs.Subgroups.{Ranged}
 use Rattle.spaces.specs.Spaces.{reachAll}
 use Rattle.spaces.proofs.Ranged.{ranged}
@@ -45,12 +44,12 @@ use Rattle.spaces.proofs.Shown.{all-reached}
 use Rattle.copies.specs.Copies.{Copied}
 use Rattle.mikktspace.proofs.Verdicts.{cleared-past}
 
-module _ (sizes : List ℕ) (ps ns ts : List Float) (c : Counts) (w u v : List ℕ) where
+module _ (mesh : Handed) (c : MeshCounts) (w u v : List ℕ) where
   abbrev rows : ℕ
-  rows = rowsOf (length sizes)
+  rows = rowsOf (length (mesh .sizes))
 
   abbrev xs : List Triangle
-  xs = triangles (numbered 0 (meshFrom ps ns ts 0 sizes))
+  xs = trianglesOf mesh
 
   abbrev ss : List Triangle
   ss = sound xs
@@ -58,18 +57,18 @@ module _ (sizes : List ℕ) (ps ns ts : List Float) (c : Counts) (w u v : List �
   abbrev ys : List Triangle
   ys = ss ++ broken xs
 
-  pub counts-fit : Left sizes ps ns ts xs c w u → (c .sound ≤ c .all) × (3 * c .all ≤ rows)
+  pub counts-fit : LeftBySix mesh c w u → (c .sound ≤ c .all) × (3 * c .all ≤ rows)
   counts-fit L = (omega (arith, L .sound-count, L .count, length-append ss (broken xs)), omega (arith, L .count, L .fits))
 
   -- any triangle and any mark, for numbers past the last
   d : Triangle
-  d = some-triangle (cornerAt ps ns ts 0)
+  d = some-triangle (cornerAt (mesh .positions) (mesh .normals) (mesh .texture) 0)
 
   e : Mark
   e = mark (spotAt ss d 0 one) (spotAt ss d 0 one)
 
-  module _ (L : Left sizes ps ns ts xs c w u) (good : badCorner 0 (meshFrom ps ns ts 0 sizes) ≡ none) (O : Only contributionColumns rows u v) (room : columns * rows ≤ length w) where
-    six : Six rows sizes ps ns ts xs d c u
+  module _ (L : LeftBySix mesh c w u) (good : notFinite mesh ≡ none) (O : Only contributionColumns rows u v) (room : columns * rows ≤ length w) where
+    six : Six rows mesh xs d c u
     six = L .stands good d
 
     sound-fits : 3 * length ss ≤ rows
@@ -77,14 +76,14 @@ module _ (sizes : List ℕ) (ps ns ts : List Float) (c : Counts) (w u v : List �
 
     -- ---- after step 6
 
-    tells-six : Tells rows sizes ps ns ts ys d u
+    tells-six : Tells rows mesh ys d u
     tells-six t h =
         let b : 3 * t + 3 ≤ rows = omega (arith, L .fits) in
-        told-kept rows sizes ps ns ts groupedColumns (six .linked) u t (getD ys t d) b refl (six .only) (told-stored rows sizes ps ns ts (six .linked) t (getD ys t d) b (six .five .held t h))
+        told-kept rows mesh groupedColumns (six .linked) u t (getD ys t d) b refl (six .only) (told-stored rows mesh (six .linked) t (getD ys t d) b (six .five .held t h))
 
     -- of the sound ones alone
-    tells-sound : (x : List ℕ) → Tells rows sizes ps ns ts ys d x → Tells rows sizes ps ns ts ss d x
-    tells-sound x T t h = subst (λ y. Told rows sizes ps ns ts x t y) (List·getD-append ss (broken xs) d t h) (T t (omega (arith, length-append ss (broken xs))))
+    tells-sound : (x : List ℕ) → Tells rows mesh ys d x → Tells rows mesh ss d x
+    tells-sound x T t h = subst (λ y. Told rows mesh x t y) (List·getD-append ss (broken xs) d t h) (T t (omega (arith, length-append ss (broken xs))))
 
     vertices-six : Vertices rows ys d u
     vertices-six = vertices-kept groupedColumns rows ys d (six .linked) u refl (L .fits) (six .only) (six .five .vertices)
@@ -97,8 +96,8 @@ module _ (sizes : List ℕ) (ps ns ts : List Float) (c : Counts) (w u v : List �
     long : columns * rows ≤ length v
     long = omega (arith, room, L .only .size, O .size)
 
-    tells : Tells rows sizes ps ns ts ys d v
-    tells t h = told-kept rows sizes ps ns ts contributionColumns u v t (getD ys t d) (omega (arith, L .fits)) refl O (tells-six t h)
+    tells : Tells rows mesh ys d v
+    tells t h = told-kept rows mesh contributionColumns u v t (getD ys t d) (omega (arith, L .fits)) refl O (tells-six t h)
 
     grouping : Grouping rows ss d ms (c .groups) v
     grouping = grouping-kept rows ss d ms (c .groups) contributionColumns u v refl sound-fits (L .few) O (six .grouping) e
@@ -111,28 +110,28 @@ module _ (sizes : List ℕ) (ps ns ts : List Float) (c : Counts) (w u v : List �
 
     -- ---- to the end: the work list becomes z, the answer list a is cleared, reached and copied in
 
-    module _ (fit : (i : ℕ) → T (fits binary32 (getD ns i nan))) (contributed : (sizes : List ℕ) (ts : List Float) (ss : List Triangle) (d : Triangle) → length ss ≡ c .sound → Tells rows sizes ps ns ts ss d u → Contributed rows ss d v)
-        (h : Float) (a a₁ a₂ a₃ z : List ℕ) (e₁ : a₁ ≡ replicate (slotWords * slotCount sizes) 0 ++ drop (slotWords * slotCount sizes) a) (e₂ : a₂ ≡ reachAll rows h (c .groups) (c .members) v a₁) (J : Only (joinedColumn ∷ []) rows v z) (C : Copied rows (c .sound) (c .all) ps z a₂ a₃) where
+    module _ (fit : (i : ℕ) → T (fits binary32 (getD (mesh .normals) i nan))) (contributed : (sizes : List ℕ) (ts : List Float) (ss : List Triangle) (d : Triangle) → length ss ≡ c .sound → Tells rows (handed sizes (mesh .positions) (mesh .normals) ts) ss d u → Contributed rows ss d v)
+        (h : Float) (a a₁ a₂ a₃ z : List ℕ) (e₁ : a₁ ≡ replicate (slotWords * slotCount (mesh .sizes)) 0 ++ drop (slotWords * slotCount (mesh .sizes)) a) (e₂ : a₂ ≡ reachAll rows h (c .groups) (c .members) v a₁) (J : Only (joinedColumn ∷ []) rows v z) (C : Copied rows (c .sound) (c .all) (mesh .positions) z a₂ a₃) where
       abbrev bs : List Brought
       bs = broughtAll h ss ms
 
-      reached : Shows sizes (reading bs) a a₂
+      reached : Shows (mesh .sizes) (reading bs) a a₂
       reached =
-          subst (Shows sizes (reading bs) a) (sym e₂)
-          (all-reached rows sizes ps ns ts ss d (c .groups) (c .members) v fit (tells-sound v tells) (contributed sizes ts ss d (sym (L .sound-count)) (tells-sound u tells-six)) (links ss) (links-sound ss) (six .five .names) (six .five .sharp) grouping in-order
-          (λ t l. subst (Slotted sizes) (List·getD-append ss (broken xs) d t l) (slotted-sound-broken (mesh-slotted ps ns ts sizes) t d (omega (arith, length-append ss (broken xs)))))
-          (six .members) (L .small) long h e a a₁ (subst (Shows sizes (λ f i. Absent) a) (sym e₁) (absent-shown sizes a)))
+          subst (Shows (mesh .sizes) (reading bs) a) (sym e₂)
+          (all-reached rows mesh ss d (c .groups) (c .members) v fit (tells-sound v tells) (contributed (mesh .sizes) (mesh .texture) ss d (sym (L .sound-count)) (tells-sound u tells-six)) (links ss) (links-sound ss) (six .five .names) (six .five .sharp) grouping in-order
+          (λ t l. subst (Slotted (mesh .sizes)) (List·getD-append ss (broken xs) d t l) (slotted-sound-broken (mesh-slotted (mesh .positions) (mesh .normals) (mesh .texture) (mesh .sizes)) t d (omega (arith, length-append ss (broken xs)))))
+          (six .members) (L .small) long h e a a₁ (subst (Shows (mesh .sizes) (λ f i. Absent) a) (sym e₁) (absent-shown (mesh .sizes) a)))
 
-      tells-end : Tells rows sizes ps ns ts ys d z
-      tells-end t l = told-kept rows sizes ps ns ts (joinedColumn ∷ []) v z t (getD ys t d) (omega (arith, L .fits)) refl J (tells t l)
+      tells-end : Tells rows mesh ys d z
+      tells-end t l = told-kept rows mesh (joinedColumn ∷ []) v z t (getD ys t d) (omega (arith, L .fits)) refl J (tells t l)
 
       vertices-end : Vertices rows ys d z
       vertices-end = vertices-kept (joinedColumn ∷ []) rows ys d v z refl (L .fits) J (vertices-kept contributionColumns rows ys d u v refl (L .fits) O vertices-six)
 
-      pub answered : a₃ ≡ answerWords (frames h (meshFrom ps ns ts 0 sizes)) ++ drop (slotWords * slotCount sizes) a
+      pub answered : a₃ ≡ answerWords (frames h (meshOf mesh)) ++ drop (slotWords * slotCount (mesh .sizes)) a
       unfolding frames framesOf
-      answered = frames-shown ps ns ts ss bs sizes a a₃ (C .final sizes ns ts bs d a (sym (L .sound-count)) (sym (L .count)) tells-end vertices-end reached)
+      answered = frames-shown (mesh .positions) (mesh .normals) (mesh .texture) ss bs (mesh .sizes) a a₃ (C .final (mesh .sizes) (mesh .normals) (mesh .texture) bs d a (sym (L .sound-count)) (sym (L .count)) tells-end vertices-end reached)
 
       -- the work list is as it was past what is cleared
-      pub cleared : (y : List ℕ) → y ≡ replicate (workWords * length sizes) 0 ++ drop (workWords * length sizes) z → y ≡ replicate (workWords * length sizes) 0 ++ drop (workWords * length sizes) w
-      cleared y q = cleared-past (length sizes) w z y (J .rest ∙ (O .rest ∙ L .only .rest)) q
+      pub cleared : (y : List ℕ) → y ≡ replicate (workWords * length (mesh .sizes)) 0 ++ drop (workWords * length (mesh .sizes)) z → y ≡ replicate (workWords * length (mesh .sizes)) 0 ++ drop (workWords * length (mesh .sizes)) w
+      cleared y q = cleared-past (length (mesh .sizes)) w z y (J .rest ∙ (O .rest ∙ L .only .rest)) q

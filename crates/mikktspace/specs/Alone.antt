@@ -2,16 +2,16 @@
 use Prim.Native.Nat.{ℕ, _*_}
 use mathlib.Core.List.{List}
 use mathlib.Core.Option.{Option}
-use lib.Ieee.{Float}
 use Rattle.bits.specs.Single.{zeroᶠ}
 use Rattle.tangent.specs.Slot.{slotWords}
+use Rattle.definition.specs.Handed.{Handed}
 use Rattle.definition.specs.Limits.{faceLimit}
-use Rattle.definition.specs.Desk.{Row, verdict}
+use Rattle.definition.specs.Desk.{shown, Row, verdict}
 
 -- the words of the longest answer list that a mesh can need: four slots a face
 abbrev pub longestAnswer : ℕ
 longestAnswer = slotWords * (4 * faceLimit)
 
 -- the table is asked with a threshold of 0 and the longest answer list, so that rows 3 and 5 never apply
-abbrev pub deskVerdict : List ℕ → List Float → List Float → List Float → ℕ → Option Row
-deskVerdict sizes ps ns ts work = verdict sizes ps ns ts zeroᶠ longestAnswer work
+abbrev pub deskVerdict : Handed → ℕ → Option Row
+deskVerdict mesh work = verdict (shown mesh zeroᶠ longestAnswer work)

@@ -2,7 +2,7 @@
 use Prim.Native.Nat.{ℕ}
 use mathlib.Core.Path.{_≡_}
 use mathlib.Core.List.{List}
-use lib.Ieee.{Float}
+use Rattle.definition.specs.Handed.{Call}
 use Rattle.definition.specs.Outcome.{Result, outcome}
 use Rattle.mikktspace.specs.declared.Outcome.{Outcome}
 
@@ -10,6 +10,6 @@ use Rattle.mikktspace.specs.declared.Outcome.{Outcome}
 unfoldable pub left : Outcome → List ℕ → List ℕ → Result
 left r answer work = record { number = r .number; place = r .place; slots = r .slots; answer = answer; work = work }
 
--- The contract of the public call. Handed in: face sizes, positions, normals, texture coordinates and the threshold; lent: the answer list a and the work list w, which it leaves as b and v; returned: r.
-abbrev pub Contract : List ℕ → List Float → List Float → List Float → Float → List ℕ → List ℕ → Outcome → List ℕ → List ℕ → Type 0
-Contract sizes ps ns ts h a w r b v = left r b v ≡ outcome sizes ps ns ts h a w
+-- The contract of the public call x: it returns r, and leaves the answer list as b and the work list as v.
+abbrev pub Contract : Call → Outcome → List ℕ → List ℕ → Type 0
+Contract x r b v = left r b v ≡ outcome x

@@ -4,9 +4,13 @@ ghost use mathlib.Core.Path.{_≡_};
 ghost use mathlib.Core.Option.{none};
 ghost use Prim.Native.Nat.{_*_, _≤_};
 ghost use lib.ListN.{length};
-ghost use Rattle.definition.specs.Desk.{verdict};
+ghost use Rattle.definition.specs.Handed.{call, handed};
+ghost use Rattle.definition.specs.Desk.{shown, verdict};
 ghost use Rattle.definition.specs.Outcome.{accepted};
 ghost use Rattle.mikktspace.specs.Contract as spec;
+
+// The words of the longest answer list that a mesh can need: four slots a face.
+pub const LONGEST_ANSWER: usize = tangent::SLOT_WORDS * (4 * definition::FACE_LIMIT);
 
 // What the call says: the number of a refusal and its place, or 0 and 0; and how many slots were written.
 #[repr(C)]
@@ -32,26 +36,26 @@ fn make_frames(
     sizes: &[u8],
     positions: &[f32],
     normals: &[f32],
-    tex_coords: &[f32],
+    texture: &[f32],
     work: &mut [u32],
     answer: &mut [u32],
     threshold: f32,
 ) -> u32
-    requires { ⌜ verdict (now sizes) (now positions) (now normals) (now «tex_coords») threshold (length (now answer)) (length (now work)) ≡ none ⌝ }
-    ensures { λ s. ⌜ spec.left (record { number = 0; place = 0; slots = s }) (now (answer .exit)) (now (work .exit)) ≡ accepted (now (sizes .entry)) (now (positions .entry)) (now (normals .entry)) (now («tex_coords» .entry)) threshold (now (answer .entry)) (now (work .entry)) ⌝ }
+    requires { ⌜ verdict (shown (handed (now sizes) (now positions) (now normals) (now texture)) threshold (length (now answer)) (length (now work))) ≡ none ⌝ }
+    ensures { λ s. ⌜ spec.left (record { number = 0; place = 0; slots = s }) (now (answer .exit)) (now (work .exit)) ≡ accepted (call (handed (now (sizes .entry)) (now (positions .entry)) (now (normals .entry)) (now (texture .entry))) threshold (now (answer .entry)) (now (work .entry))) ⌝ }
 {
-    let slots = mesh::slots_before(sizes, 65536);
+    let slots = mesh::slots_before(sizes, definition::FACE_LIMIT);
     let rows = 6 * sizes.len();
-    table::clear_first(answer, 10 * slots);
-    let counts = grouped::group_mesh(sizes, positions, normals, tex_coords, work);
+    table::clear_first(answer, tangent::SLOT_WORDS * slots);
+    let counts = grouped::group_mesh(sizes, positions, normals, texture, work);
     contributions::contribute_all(work, rows, counts.sound, positions, normals);
-    let met = groups::Counts {
+    let met = groups::GroupCounts {
         groups: counts.groups,
         members: counts.members,
     };
     spaces::generate_tangent_spaces(work, rows, threshold, answer, met);
     copies::copy_frames(work, rows, counts.sound, counts.all, positions, answer);
-    table::clear_first(work, 128 * sizes.len());
+    table::clear_first(work, definition::WORK_WORDS * sizes.len());
     slots as u32
 }
 
@@ -61,18 +65,18 @@ pub fn generate_tangent_space(
     sizes: &[u8],
     positions: &[f32],
     normals: &[f32],
-    tex_coords: &[f32],
+    texture: &[f32],
     threshold: f32,
     answer: &mut [u32],
     work: &mut [u32],
 ) -> Outcome
-    ensures { λ r. ⌜ spec.Contract (now (sizes .entry)) (now (positions .entry)) (now (normals .entry)) (now («tex_coords» .entry)) threshold (now (answer .entry)) (now (work .entry)) r (now (answer .exit)) (now (work .exit)) ⌝ }
+    ensures { λ r. ⌜ spec.Contract (call (handed (now (sizes .entry)) (now (positions .entry)) (now (normals .entry)) (now (texture .entry))) threshold (now (answer .entry)) (now (work .entry))) r (now (answer .exit)) (now (work .exit)) ⌝ }
 {
     let v = desk::judge(
         sizes,
         positions,
         normals,
-        tex_coords,
+        texture,
         threshold,
         answer.len(),
         work.len(),
@@ -84,7 +88,7 @@ pub fn generate_tangent_space(
         sizes,
         positions,
         normals,
-        tex_coords,
+        texture,
         work,
         answer,
         threshold,

@@ -13,10 +13,10 @@ use borrow.Author.Tests.{ne-eqb, eqb-true, eqb-false}
 use Rattle.table.specs.Table.{cell, put}
 use Rattle.table.specs.Columns.{columns, linkColumn}
 use Rattle.definition.specs.declared.Triangle.{Triangle}
-use Rattle.definition.specs.Lists.{has}
+use Rattle.lists.specs.Lists.{has}
 use Rattle.definition.specs.Mesh.{Third, Spot, sameSpot}
 use Rattle.definition.specs.Step5Links.{Link, linked, beyond}
-use Rattle.laws.proofs.Mutual.{Names}
+use Rattle.definition.specs.Names.{Names}
 use Rattle.view.specs.Rows.{row, spotAt}
 use Rattle.view.specs.Links.{LinkWord, nowhere, towards, Linked}
 use Rattle.view.proofs.Rows.{row-lt, spot-row}

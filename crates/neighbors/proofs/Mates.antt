@@ -12,15 +12,15 @@ use lib.ListN.{length, getD, drop, length-map, length-drop, drop-of-length-le, L
 use lib.Seq.{drop-cons, getD-drop}
 use borrow.Author.Tests.{eq-eqb, ne-eqb, eqb-true, eqb-false, not-true}
 use Rattle.table.specs.Table.{cell, put}
-use Rattle.table.specs.Loop.{upTo}
+use Rattle.lists.specs.Loops.{upTo}
 use Rattle.table.specs.Columns.{columns, vertexColumn, linkColumn, lowerColumn, higherColumn, orderColumn}
 use Rattle.definition.specs.declared.Triangle.{Triangle}
-use Rattle.definition.specs.Lists.{first}
+use Rattle.lists.specs.Lists.{first}
 use Rattle.definition.specs.Mesh.{Third, Spot, after, next, cornerOf}
 use Rattle.definition.specs.Step4Order.{welded}
 use Rattle.definition.specs.Step5Links.{Link as Pair, endOf, opposite, linked, addLink, linkOne, linkAll, beyond}
 use Rattle.bits.proofs.Bools.{and-left, and-right}
-use Rattle.laws.proofs.Mutual.{Names}
+use Rattle.definition.specs.Names.{Names}
 use Rattle.view.specs.Frame.{outside, Only}
 use Rattle.view.specs.Rows.{third, row, spotAt, spotRow}
 use Rattle.view.specs.Weld.{Sharp}

@@ -8,17 +8,19 @@ use lib.Dec.{eqb}
 use lib.ListN.{length, getD}
 use borrow.Author.Tests.{eq-eqb, eqb-true, eqb-false}
 use Rattle.table.specs.Table.{cell}
-use Rattle.table.specs.Loop.{upTo, listOf}
+use Rattle.lists.specs.Loops.{upTo, listOf}
 use Rattle.table.specs.Columns.{columns, vertexColumn, linkColumn}
-use Rattle.table.proofs.Loops.{length-listOf, getD-listOf}
+use Rattle.lists.proofs.Loops.{length-listOf, getD-listOf}
 use Rattle.definition.specs.declared.Triangle.{Triangle}
-use Rattle.definition.specs.Lists.{keep}
+use Rattle.lists.specs.Lists.{keep}
 use Rattle.definition.specs.Mesh.{Third, Spot, after, next}
 use Rattle.definition.specs.Step4Order.{spots}
 use Rattle.definition.specs.Step5Links.{endOf, opposite, linkAll, links, beyond}
-use Rattle.laws.proofs.Part.{Every, every-nil, every-cons, every-map, keep-map, keep-same}
+use Rattle.lists.specs.Every.{Every, every-nil, every-cons}
+use Rattle.laws.proofs.Part.{every-map, keep-map, keep-same}
 use Rattle.bits.proofs.Bools.{and-left, and-right}
-use Rattle.laws.proofs.Mutual.{Names, spots-apart}
+use Rattle.definition.specs.Names.{Names}
+use Rattle.laws.proofs.Mutual.{spots-apart}
 use Rattle.laws.proofs.Shuffled.{every-mem}
 use Rattle.laws.proofs.Buckets.{sameEnds, any-order}
 use Rattle.view.specs.Frame.{Only}

@@ -11,10 +11,10 @@ use lib.ListN.{length, getD, take, length-set}
 use lib.Seq.{getD-set-same, getD-set-other, getD-take, ext-getD, length-take-le}
 use borrow.Author.Tests.{eqb-true, eqb-false}
 use Rattle.table.specs.Table.{cell, put, column}
-use Rattle.table.specs.Loop.{upTo, listOf}
+use Rattle.lists.specs.Loops.{upTo, listOf}
 use Rattle.table.specs.Columns.{columns, vertexColumn, linkColumn, lowerColumn, higherColumn, orderColumn}
 use Rattle.table.proofs.Laws.{getD-column, length-column}
-use Rattle.table.proofs.Loops.{upTo-ind, length-listOf, getD-listOf}
+use Rattle.lists.proofs.Loops.{upTo-ind, length-listOf, getD-listOf, last-or-before}
 use Rattle.definition.specs.Mesh.{Third, one, two, three, after}
 use Rattle.view.specs.Frame.{Only}
 use Rattle.view.specs.Rows.{num, row}
@@ -104,24 +104,20 @@ module _ (rows r : ℕ) (u : List ℕ) (h : r < rows) (long : columns * rows ≤
 
 -- ---- all turns
 
--- what holds of the last row and of the earlier ones
-up-to : (P : ℕ → Type 0) (k r : ℕ) → r < suc k → P k → (r < k → P r) → P r
-up-to P k r l last earlier = let c : r ≤ k = omega arith in ⊎-elim (λ q. subst P (sym q) last) earlier (eq-or-lt-of-le c)
-
 -- one side more
 sided-more : (rows k : ℕ) (w u : List ℕ) → k < rows → endRow k < rows → columns * rows ≤ length w → Sided rows k w u → Sided rows (suc k) w (withSide rows k u)
 sided-more rows k w u h e long S =
     record {
-      lower = λ r l. up-to (λ x. cell rows lowerColumn x U ≡ lowerEnd rows w x) k r l
+      lower = λ r l. last-or-before (λ x. cell rows lowerColumn x U ≡ lowerEnd rows w x) k r l
           (lower-new rows k u h full ∙ (λ z. min (same k h z) (same (endRow k) e z)))
           (λ q. row-kept rows k u h full lowerColumn r (λ x. omega arith) (λ x. omega arith) (λ x. omega arith) (λ x. omega arith) ∙ S .lower r q);
-      higher = λ r l. up-to (λ x. cell rows higherColumn x U ≡ higherEnd rows w x) k r l
+      higher = λ r l. last-or-before (λ x. cell rows higherColumn x U ≡ higherEnd rows w x) k r l
           (higher-new rows k u h full ∙ (λ z. max (same k h z) (same (endRow k) e z)))
           (λ q. row-kept rows k u h full higherColumn r (λ x. omega arith) (λ x. omega arith) (λ x. omega arith) (λ x. omega arith) ∙ S .higher r q);
-      order = λ r l. up-to (λ x. cell rows orderColumn x U ≡ x) k r l
+      order = λ r l. last-or-before (λ x. cell rows orderColumn x U ≡ x) k r l
           (order-new rows k u h full)
           (λ q. row-kept rows k u h full orderColumn r (λ x. omega arith) (λ x. omega arith) (λ x. omega arith) (λ x. omega arith) ∙ S .order r q);
-      empty = λ r l. up-to (λ x. cell rows linkColumn x U ≡ 0) k r l
+      empty = λ r l. last-or-before (λ x. cell rows linkColumn x U ≡ 0) k r l
           (link-new rows k u h full)
           (λ q. row-kept rows k u h full linkColumn r (λ x. omega arith) (λ x. omega arith) (λ x. omega arith) (λ x. omega arith) ∙ S .empty r q);
       only = only-side rows k u h full w (S .only);

@@ -9,7 +9,7 @@ use mathlib.Core.Logic.{⊎-elim}
 use borrow.Author.Tests.{eq-eqb}
 use Rattle.table.specs.Table.{cell}
 use Rattle.table.specs.Columns.{linkColumn}
-use Rattle.table.proofs.Loops.{upTo-more}
+use Rattle.lists.proofs.Loops.{upTo-more}
 use Rattle.view.proofs.Frame.{only-none}
 use Rattle.neighbors.specs.declared.Link.{Link}
 use Rattle.neighbors.specs.declared.Link.the-variants.{To, Nothing}

@@ -8,14 +8,14 @@ use lib.Dec.{eqb}
 use lib.ListN.{length, getD}
 use borrow.Author.Tests.{eq-eqb, eqb-true}
 use Rattle.table.specs.Table.{cell}
-use Rattle.table.specs.Loop.{upTo, listOf}
+use Rattle.lists.specs.Loops.{upTo, listOf}
 use Rattle.table.specs.Columns.{columns, vertexColumn, linkColumn, lowerColumn, higherColumn, orderColumn, spareColumn}
 use Rattle.definition.specs.declared.Triangle.{Triangle}
-use Rattle.definition.specs.Lists.{keep}
+use Rattle.lists.specs.Lists.{keep}
 use Rattle.definition.specs.Mesh.{Third, after}
 use Rattle.definition.specs.Step5Links.{links}
 use Rattle.bits.proofs.Bools.{and-left, and-right}
-use Rattle.laws.proofs.Mutual.{Names}
+use Rattle.definition.specs.Names.{Names}
 use Rattle.sort.specs.Sort.{ends, inOrder, SortedPart}
 use Rattle.sort.proofs.Keys.{ends-at}
 use Rattle.sort.proofs.Order.{length-order, below-order, rising-order, bucket-order, order-cell}

@@ -3,7 +3,7 @@ use Prim.Native.Nat.{ℕ, _+_, _≤_, _<_}
 use mathlib.Core.Path.{_≡_}
 use mathlib.Core.Bool.{true}
 use mathlib.Core.List.{List, [], _∷_}
-use Rattle.table.specs.Loop.{upTo}
+use Rattle.lists.specs.Loops.{upTo}
 use Rattle.table.specs.Table.{cell}
 use Rattle.table.specs.Columns.{vertexColumn, linkColumn}
 use Rattle.view.specs.Frame.{Only}

@@ -6,7 +6,7 @@ use mathlib.Core.List.{List, [], _∷_}
 use lib.Dec.{eqb}
 use lib.ListN.{length, getD, take}
 use Rattle.table.specs.Table.{cell, put, column}
-use Rattle.table.specs.Loop.{upTo, listOf}
+use Rattle.lists.specs.Loops.{upTo, listOf}
 use Rattle.table.specs.Columns.{vertexColumn, linkColumn, lowerColumn, higherColumn, orderColumn, spareColumn}
 use Rattle.definition.specs.declared.Triangle.{Triangle}
 use Rattle.definition.specs.Mesh.{Third, after}

@@ -4,3 +4,4 @@ pub mod Copies
 pub mod Runs
 pub mod Outcomes
 pub mod Signs
+pub mod Places

@@ -1,51 +1,71 @@
 -- Slots that are written one after another, and the first of them that fails a test. Assumes nothing.
-use Prim.Native.Nat.{ℕ, zero, suc, _+_, _*_, _≤_, _<_}
-use native.Mathlib.Nat.{eq-or-lt-of-le, le-of-suc-le-suc, mul-le-mul-left}
+use Prim.Native.Nat.{ℕ, zero, suc, _+_, _-_, _*_, _≤_, _<_}
+use native.Mathlib.Nat.{le-antisymm, eq-or-lt-of-le, le-of-suc-le-suc, mul-le-mul-left}
 use native.Mathlib.Numerals.{add-one}
 use native.Mathlib.Omega.{arith}
 use mathlib.Core.Path.{_≡_, refl, sym, ap, _∙_}
 use mathlib.Core.Bool.{Bool, true, false, cond, _&&_}
 use mathlib.Core.Logic.{⊎-elim}
-use mathlib.Core.List.{List, _∷_, _++_}
-use lib.ListN.{length, take, drop, replicate, length-drop}
+use mathlib.Core.List.{List, _++_}
+use lib.ListN.{length, take, drop, length-drop}
 use lib.Dec.{eqb}
 use lib.Seq.{sets, take-all, drop-at, drop-append-le, take-append-le}
 use borrow.Author.Tests.{eq-eqb, ne-eqb, eqb-true, eqb-false}
-use Rattle.table.specs.Loop.{listOf}
-use Rattle.words.specs.Lists.{joined, part}
-use Rattle.words.proofs.Lists.{length-joined}
+use Rattle.lists.specs.Loops.{listOf}
+use Rattle.lists.specs.Parts.{joined, part}
+use Rattle.lists.proofs.Parts.{length-joined, length-part}
 use Rattle.words.proofs.Stores.{joined-none, joined-stored, sets-front}
-use Rattle.packed.specs.Packer.{present, frame, packedSlot}
-use Rattle.packed.specs.Reader.{missing, frameWords, readSeven, firstFailing, First}
+use Rattle.packed.specs.Packer.{packedWords, hasFrame, frame, framePacked, packedSlot}
+use Rattle.packed.specs.Reader.{readWords, allNothing, frameWords, sevenRead, readSeven, firstFailing, FirstFailing}
 
 -- a packed slot is seven numbers
-pub length-packed : (slot : List ℕ) → length (packedSlot slot) ≡ 7
-unfolding packedSlot frame listOf
-length-packed slot = go (present slot)
+pub length-packed : (slot : List ℕ) → length (packedSlot slot) ≡ packedWords
+unfolding packedSlot framePacked frame listOf
+length-packed slot = go (hasFrame slot)
   where
-    go : (t : Bool) → length (cond t (frame slot) (replicate 7 0x8000)) ≡ 7
+    go : (t : Bool) → length (framePacked t slot) ≡ packedWords
     go true = refl
     go false = refl
 
 -- and what is read of it is eight words
-pub length-read : (ns : List ℕ) → length (readSeven ns) ≡ 8
-unfolding readSeven frameWords listOf
-length-read ns = go (missing ns)
+pub length-read : (ns : List ℕ) → length (readSeven ns) ≡ readWords
+unfolding readSeven sevenRead frameWords listOf
+length-read ns = go (allNothing ns)
   where
-    go : (t : Bool) → length (cond t (0 ∷ replicate 7 0xffff_8000) (frameWords ns)) ≡ 8
+    go : (t : Bool) → length (sevenRead t ns) ≡ readWords
     go true = refl
     go false = refl
 
--- lists of k numbers each, stored one after another: none yet, one more, and all
-module _ (k : ℕ) (f : ℕ → List ℕ) (each : (i : ℕ) → length (f i) ≡ k) (l : List ℕ) where
-  pub run-none : l ≡ sets l 0 (joined 0 f)
-  run-none = joined-none l 0 f
+-- lists of k numbers each, stored one after another: i of n are stored
+pub record Run (k n : ℕ) (f : ℕ → List ℕ) (l u : List ℕ) (i : ℕ) : Type 0 where
+  pub some : i ≤ n
+  pub is : u ≡ sets l 0 (joined i f)
+  pub long : length u ≡ length l
 
-  pub run-more : (u : List ℕ) (n : ℕ) → u ≡ sets l 0 (joined n f) → sets u (k * n) (f n) ≡ sets l 0 (joined (n + 1) f)
-  run-more u n e = joined-stored l u 0 (k * n) f n (omega (arith, length-joined n k f (λ i _. each i))) e
+-- none yet, one more, and all
+module _ (k n : ℕ) (f : ℕ → List ℕ) (each : (i : ℕ) → length (f i) ≡ k) (l : List ℕ) where
+  pub run-none : Run k n f l l 0
+  run-none = record { some = omega arith; is = joined-none l 0 f; long = refl }
 
-  pub run-all : (u : List ℕ) (i n : ℕ) → i ≡ n → k * n ≤ length l → u ≡ sets l 0 (joined i f) → u ≡ joined n f ++ drop (k * n) l
-  run-all u i n s h e = e ∙ (ap (λ (j : ℕ). sets l 0 (joined j f)) s ∙ sets-front l (joined n f) (k * n) (length-joined n k f (λ i _. each i)) h)
+  pub run-more : (u v : List ℕ) (i : ℕ) → i < n → Run k n f l u i → v ≡ sets u (k * i) (f i) → length v ≡ length u → Run k n f l v (i + 1)
+  run-more u v i h R e s =
+      record { some = omega arith; is = e ∙ joined-stored l u 0 (k * i) f i (omega (arith, length-joined i k f (λ j _. each j))) (R .is); long = s ∙ R .long }
+
+  pub run-all : (u : List ℕ) (i : ℕ) → n ≤ i → k * n ≤ length l → Run k n f l u i → u ≡ joined n f ++ drop (k * n) l
+  run-all u i g h R =
+      R .is ∙ (ap (λ (j : ℕ). sets l 0 (joined j f)) (le-antisymm (R .some) g) ∙ sets-front l (joined n f) (k * n) (length-joined n k f (λ j _. each j)) h)
+
+-- k numbers cut out of a list where the lists before them are of k numbers each
+module _ (k s : ℕ) (l : List ℕ) where
+  pub cut-is : take (k * s + k - k * s) (drop (k * s) l) ≡ part (k * s) k l
+  unfolding part
+  cut-is = ap (λ (n : ℕ). take n (drop (k * s) l)) width
+    where
+      width : k * s + k - k * s ≡ k
+      width = omega arith
+
+  pub cut-long : k * s + k ≤ length l → length (take (k * s + k - k * s) (drop (k * s) l)) ≡ k
+  cut-long h = ap length cut-is ∙ length-part (k * s) k l h
 
 -- the first that fails: none of none
 pub failing-none : (p : ℕ → Bool) → firstFailing 0 p ≡ 0
@@ -80,7 +100,7 @@ failing-all zero p h = refl
 failing-all (suc n) p h = λ z. cond (eq-eqb (firstFailing n p) n (failing-all n p (λ i l. h i (omega arith))) z && h n (omega arith) z) (suc n) (firstFailing n p)
 
 -- what makes it the first that fails
-pub failing-first : (n : ℕ) (p : ℕ → Bool) → First n p (firstFailing n p)
+pub failing-first : (n : ℕ) (p : ℕ → Bool) → FirstFailing n p (firstFailing n p)
 unfolding firstFailing
 failing-first zero p = record { at-most = omega arith; before = λ i l. absurd (omega arith); here = λ l. absurd (omega arith) }
 failing-first (suc n) p = go (eqb k n) (p n) refl refl (failing-first n p)
@@ -88,7 +108,7 @@ failing-first (suc n) p = go (eqb k n) (p n) refl refl (failing-first n p)
     k : ℕ
     k = firstFailing n p
 
-    go : (t u : Bool) → eqb k n ≡ t → p n ≡ u → First n p k → First (suc n) p (cond (t && u) (suc n) k)
+    go : (t u : Bool) → eqb k n ≡ t → p n ≡ u → FirstFailing n p k → FirstFailing (suc n) p (cond (t && u) (suc n) k)
     go true true e h F =
         record {
           at-most = omega arith;

@@ -4,37 +4,34 @@ use mathlib.Core.Bool.{Bool, cond, _&&_}
 use mathlib.Core.List.{List, [], _∷_, _++_}
 use lib.ListN.{length, getD, drop, replicate}
 use lib.Dec.{eqb, leb}
-use Rattle.table.specs.Loop.{listOf}
-use Rattle.words.specs.Lists.{everyBelow, joined, part}
-use Rattle.packed.specs.Component.{within, component}
+use Rattle.lists.specs.Loops.{listOf}
+use Rattle.lists.specs.Parts.{everyBelow, joined, part}
+use Rattle.tangent.specs.Slot.{slotWords}
+use Rattle.packed.specs.Component.{nothing, shortMinusOne, within, component}
 
--- a slot is ten words
-abbrev pub slotWords : ℕ
-slotWords = 10
-
--- and seven numbers packed
+-- a slot's ten words are seven numbers packed
 abbrev pub packedWords : ℕ
 packedWords = 7
 
--- -32,768 as 16 bits
-abbrev pub nothing : ℕ
-nothing = 0x8000
-
 -- A slot that has a frame to pack. 'A slot whose word 0 isn't 1, whose orientation word is above 1, or with one of the six NaN or beyond that' has none.
-unfoldable pub present : List ℕ → Bool
-present slot = eqb (getD slot 0 0) 1 && leb (getD slot 9 0) 1 && everyBelow 6 (λ i. within (getD slot (1 + i) 0))
+unfoldable pub hasFrame : List ℕ → Bool
+hasFrame slot = eqb (getD slot 0 0) 1 && leb (getD slot 9 0) 1 && everyBelow 6 (λ i. within (getD slot (1 + i) 0))
 
 -- 'a seventh number is 1 or -1 for orientation'
-unfoldable pub facing : ℕ → ℕ
-facing o = cond (eqb o 1) 1 0xffff
+unfoldable pub packedFacing : ℕ → ℕ
+packedFacing o = cond (eqb o 1) 1 shortMinusOne
 
 -- the seven numbers of a frame: six components and the orientation
 unfoldable pub frame : List ℕ → List ℕ
-frame slot = listOf 6 (λ i. component (getD slot (1 + i) 0)) ++ facing (getD slot 9 0) ∷ []
+frame slot = listOf 6 (λ i. component (getD slot (1 + i) 0)) ++ packedFacing (getD slot 9 0) ∷ []
 
--- a slot packed; without a frame it 'is seven times -32,768, so that nothing absent unpacks as zero'
+-- a slot packed, with a frame or without: then it 'is seven times -32,768, so that nothing absent unpacks as zero'
+unfoldable pub framePacked : Bool → List ℕ → List ℕ
+framePacked there slot = cond there (frame slot) (replicate packedWords nothing)
+
+-- a slot packed
 unfoldable pub packedSlot : List ℕ → List ℕ
-packedSlot slot = cond (present slot) (frame slot) (replicate packedWords nothing)
+packedSlot slot = framePacked (hasFrame slot) slot
 
 -- the ten words of slot s of an answer list
 unfoldable pub slotAt : List ℕ → ℕ → List ℕ
@@ -49,17 +46,17 @@ unfoldable pub packedSlots : ℕ → List ℕ → List ℕ
 packedSlots n l = joined n (λ s. packedSlot (slotAt l s))
 
 -- all that the packer leaves behind: a number, how many numbers it wrote, and the lent list
-pub record Wrote : Type 0 where
+pub record PackLeft : Type 0 where
   pub number : ℕ
   pub count : ℕ
   pub packed : List ℕ
 
 -- a refusal alters nothing
-unfoldable pub notPacked : ℕ → List ℕ → Wrote
+unfoldable pub notPacked : ℕ → List ℕ → PackLeft
 notPacked k packed = record { number = k; count = 0; packed = packed }
 
 -- every slot packed, and past them nothing altered
-unfoldable pub allPacked : List ℕ → List ℕ → Wrote
+unfoldable pub allPacked : List ℕ → List ℕ → PackLeft
 allPacked l packed =
     record {
       number = 0;
@@ -68,8 +65,8 @@ allPacked l packed =
     }
 
 -- what packing the answer list l into a lent list leaves behind: refused with 1 a list not in whole records, with 2 a lent list too short
-unfoldable pub wrote : List ℕ → List ℕ → Wrote
-wrote l packed =
+unfoldable pub packLeft : List ℕ → List ℕ → PackLeft
+packLeft l packed =
     cond (eqb (length l % slotWords) 0)
     (cond (leb (packedWords * slotsIn l) (length packed)) (allPacked l packed) (notPacked 2 packed))
     (notPacked 1 packed)

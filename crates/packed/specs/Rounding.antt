@@ -13,7 +13,7 @@ unfoldable pub nearest : ℕ → ℕ → ℕ
 nearest n d = n / d + cond (roundsUp n d) 1 0
 
 -- What makes q the whole number nearest to n / d: 'at most half a unit' away on either side, and even where it is half a unit. All times 2 d, over whole numbers.
-pub record Nearest (n d q : ℕ) : Type 0 where
+pub record NearestWhole (n d q : ℕ) : Type 0 where
   pub above : 2 * n ≤ 2 * (q * d) + d
   pub below : 2 * (q * d) ≤ 2 * n + d
   pub even-above : 2 * n ≡ 2 * (q * d) + d → q % 2 ≡ 0

@@ -3,22 +3,43 @@
 ghost use mathlib.Core.Path.{_≡_};
 ghost use Prim.Native.Nat.{_+_, _*_, _^_, _≤_, _<_};
 ghost use mathlib.Core.List.{_++_};
-ghost use lib.ListN.{length, drop};
+ghost use lib.ListN.{length, getD, drop};
 ghost use lib.Seq.{sets};
-ghost use Rattle.words.specs.Lists.{part};
+ghost use Rattle.tangent.specs.Slot.{slotWords};
 ghost use Rattle.packed.specs.Rounding as rounding;
 ghost use Rattle.packed.specs.Component as spec;
 ghost use Rattle.packed.specs.Packer as packer;
 ghost use Rattle.packed.specs.Reader as reader;
 ghost use Rattle.packed.specs.Contract.{Packs, Unpacks};
 
-// The bits of 1.
+// The numbers of specs/: those of a packed slot, and the words that are read of it.
+const PACKED_NUMBERS: usize = 7;
+
+const READ_WORDS: usize = 8;
+
+// Of a float's bits: the sign, the leading digit, 2 ^ -16, 1, and the greatest that is packed.
+const SIGN: u32 = 0x80000000;
+
+const LEADING: u32 = 0x00800000;
+
+const LEAST: u32 = 0x37800000;
+
 const ONE: u32 = 0x3f800000;
 
-// -32,768 as 16 bits.
-const NOTHING: u16 = 32768;
+const FURTHEST: u32 = 0x3f800008;
 
-// -32,768 as 32 bits.
+// What 1 is packed as, and how many numbers 16 bits can be.
+const FULL_SCALE: u64 = 32767;
+
+const SHORT_VALUES: u32 = 65536;
+
+// -32,768 and -1 as 16 bits, what 32 bits of a negative number have above its 16, and -32,768 as 32 bits.
+const NOTHING: u16 = 0x8000;
+
+const MINUS_ONE: u16 = 0xffff;
+
+const EXTENDED: u32 = 0xffff0000;
+
 const WIDE: u32 = 0xffff8000;
 
 // What the packer returns: 0 and how many numbers it wrote, or a refusal and 0.
@@ -54,21 +75,21 @@ fn nearest(n: u64, k: u32) -> u64
 
 // The whole number nearest to 32,767c, from the bits of a c from 0 to 1. Below 2 ^ -16 it is 0.
 fn units(m: u32) -> u32
-    requires { ⌜ m ≤ 1065353216 ⌝ }
-    ensures { λ r. ⌜ (r ≡ spec.units m) × (r ≤ 32767) ⌝ }
+    requires { ⌜ m ≤ spec.oneBits ⌝ }
+    ensures { λ r. ⌜ (r ≡ spec.units m) × (r ≤ spec.fullScale) ⌝ }
 {
-    if m < 0x37800000 {
+    if m < LEAST {
         return 0;
     }
-    let digits = 8388608 + m % 8388608;
-    nearest(32767 * (digits as u64), 150 - m / 8388608) as u32
+    let digits = LEADING + m % LEADING;
+    nearest(FULL_SCALE * (digits as u64), 150 - m / LEADING) as u32
 }
 
 // The bits of |c|, cut to 1.
 fn cut(w: u32) -> u32
-    ensures { λ r. ⌜ (r ≡ spec.cut w) × (r ≤ 1065353216) ⌝ }
+    ensures { λ r. ⌜ (r ≡ spec.cut w) × (r ≤ spec.oneBits) ⌝ }
 {
-    let m = w % 0x80000000;
+    let m = w % SIGN;
     if m < ONE {
         return m;
     }
@@ -80,22 +101,23 @@ fn component(w: u32) -> u16
     ensures { λ r. ⌜ r ≡ spec.component w ⌝ }
 {
     let q = units(cut(w));
-    if w < 0x80000000 {
+    if w < SIGN {
         return q as u16;
     }
-    ((65536 - q) % 65536) as u16
+    ((SHORT_VALUES - q) % SHORT_VALUES) as u16
 }
 
 // Whether |c| is at most the float 3F800008.
 fn within(w: u32) -> bool
     ensures { λ r. ⌜ r ≡ spec.within w ⌝ }
 {
-    w % 0x80000000 <= 0x3f800008
+    w % SIGN <= FURTHEST
 }
 
 // Whether a slot has a frame to pack.
-fn present(slot: [u32; 10]) -> bool
-    ensures { λ r. ⌜ r ≡ packer.present slot ⌝ }
+fn has_frame(slot: &[u32]) -> bool
+    requires { ⌜ length (now slot) ≡ slotWords ⌝ }
+    ensures { λ r. ⌜ r ≡ packer.hasFrame (now (slot .entry)) ⌝ }
 {
     let six = within(slot[1])
         & within(slot[2])
@@ -107,21 +129,22 @@ fn present(slot: [u32; 10]) -> bool
 }
 
 // The orientation as it is packed.
-fn facing(o: u32) -> u16
-    ensures { λ r. ⌜ r ≡ packer.facing o ⌝ }
+fn packed_facing(o: u32) -> u16
+    ensures { λ r. ⌜ r ≡ packer.packedFacing o ⌝ }
 {
     if o == 1 {
         return 1;
     }
-    65535 // -1
+    MINUS_ONE
 }
 
 // A slot packed.
-fn pack_slot(slot: [u32; 10]) -> [u16; 7]
-    ensures { λ r. ⌜ r ≡ packer.packedSlot slot ⌝ }
+fn pack_slot(slot: &[u32]) -> [u16; PACKED_NUMBERS]
+    requires { ⌜ length (now slot) ≡ slotWords ⌝ }
+    ensures { λ r. ⌜ r ≡ packer.packedSlot (now (slot .entry)) ⌝ }
 {
-    if !present(slot) {
-        return [NOTHING; 7];
+    if !has_frame(slot) {
+        return [NOTHING; PACKED_NUMBERS];
     }
     [
         component(slot[1]),
@@ -130,39 +153,29 @@ fn pack_slot(slot: [u32; 10]) -> [u16; 7]
         component(slot[4]),
         component(slot[5]),
         component(slot[6]),
-        facing(slot[9]),
+        packed_facing(slot[9]),
     ]
 }
 
-// Ten words of a list, from place p on.
-fn ten_at(l: &[u32], p: usize) -> [u32; 10]
-    requires { ⌜ p + 10 ≤ length (now l) ⌝ }
-    ensures { λ r. ⌜ r ≡ part p 10 (now (l .entry)) ⌝ }
-{
-    let mut ten = [0; 10];
-    for i in 0..10 {
-        ten[i] = l[p + i];
-    }
-    ten
-}
-
 // Seven numbers stored in a list, from place p on.
-fn put_seven(l: &mut [u16], p: usize, seven: [u16; 7])
-    requires { ⌜ p + 7 ≤ length (now l) ⌝ }
+fn put_seven(l: &mut [u16], p: usize, seven: [u16; PACKED_NUMBERS])
+    requires { ⌜ p + packer.packedWords ≤ length (now l) ⌝ }
     ensures { λ _. ⌜ now (l .exit) ≡ sets (now (l .entry)) p seven ⌝ }
 {
-    for i in 0..7 {
+    for i in 0..PACKED_NUMBERS {
         l[p + i] = seven[i];
     }
 }
 
 // `count` slots packed.
 fn pack_slots(answer: &[u32], packed: &mut [u16], count: usize)
-    requires { ⌜ (10 * count ≤ length (now answer)) × (7 * count ≤ length (now packed)) ⌝ }
-    ensures { λ _. ⌜ now (packed .exit) ≡ packer.packedSlots count (now (answer .entry)) ++ drop (7 * count) (now (packed .entry)) ⌝ }
+    requires { ⌜ (slotWords * count ≤ length (now answer)) × (packer.packedWords * count ≤ length (now packed)) ⌝ }
+    ensures { λ _. ⌜ now (packed .exit) ≡ packer.packedSlots count (now (answer .entry)) ++ drop (packer.packedWords * count) (now (packed .entry)) ⌝ }
 {
     for s in 0..count {
-        put_seven(packed, 7 * s, pack_slot(ten_at(answer, 10 * s)));
+        let from = tangent::SLOT_WORDS * s;
+        let end = from + tangent::SLOT_WORDS;
+        put_seven(packed, PACKED_NUMBERS * s, pack_slot(&answer[from..end]));
     }
 }
 
@@ -170,14 +183,14 @@ fn pack_slots(answer: &[u32], packed: &mut [u16], count: usize)
 pub fn pack(answer: &[u32], packed: &mut [u16]) -> Packed
     ensures { λ r. ⌜ Packs (now (answer .entry)) (now (packed .entry)) r (now (packed .exit)) ⌝ }
 {
-    if answer.len() % 10 != 0 {
+    if answer.len() % tangent::SLOT_WORDS != 0 {
         return Packed {
             number: 1,
             count: 0,
         };
     }
-    let count = answer.len() / 10;
-    if packed.len() < 7 * count {
+    let count = answer.len() / tangent::SLOT_WORDS;
+    if packed.len() < PACKED_NUMBERS * count {
         return Packed {
             number: 2,
             count: 0,
@@ -186,25 +199,14 @@ pub fn pack(answer: &[u32], packed: &mut [u16]) -> Packed
     pack_slots(answer, packed, count);
     Packed {
         number: 0,
-        count: 7 * count,
+        count: PACKED_NUMBERS * count,
     }
-}
-
-// Seven numbers of a list, from place p on.
-fn seven_at(l: &[u16], p: usize) -> [u16; 7]
-    requires { ⌜ p + 7 ≤ length (now l) ⌝ }
-    ensures { λ r. ⌜ r ≡ part p 7 (now (l .entry)) ⌝ }
-{
-    let mut seven = [0; 7];
-    for i in 0..7 {
-        seven[i] = l[p + i];
-    }
-    seven
 }
 
 // Whether seven numbers are those of an absent slot.
-fn missing(s: [u16; 7]) -> bool
-    ensures { λ r. ⌜ r ≡ reader.missing s ⌝ }
+fn all_nothing(s: &[u16]) -> bool
+    requires { ⌜ length (now s) ≡ packer.packedWords ⌝ }
+    ensures { λ r. ⌜ r ≡ reader.allNothing (now (s .entry)) ⌝ }
 {
     (s[0] == NOTHING)
         & (s[1] == NOTHING)
@@ -216,8 +218,9 @@ fn missing(s: [u16; 7]) -> bool
 }
 
 // Whether seven numbers are those of a frame.
-fn framed(s: [u16; 7]) -> bool
-    ensures { λ r. ⌜ r ≡ reader.framed s ⌝ }
+fn framed(s: &[u16]) -> bool
+    requires { ⌜ length (now s) ≡ packer.packedWords ⌝ }
+    ensures { λ r. ⌜ r ≡ reader.framed (now (s .entry)) ⌝ }
 {
     let six = (s[0] != NOTHING)
         & (s[1] != NOTHING)
@@ -225,23 +228,26 @@ fn framed(s: [u16; 7]) -> bool
         & (s[3] != NOTHING)
         & (s[4] != NOTHING)
         & (s[5] != NOTHING);
-    six & ((s[6] == 1) | (s[6] == 65535))
+    six & ((s[6] == 1) | (s[6] == MINUS_ONE))
 }
 
 // Whether the packer can write seven numbers.
-fn accepted(s: [u16; 7]) -> bool
-    ensures { λ r. ⌜ r ≡ reader.accepted s ⌝ }
+fn is_packed(s: &[u16]) -> bool
+    requires { ⌜ length (now s) ≡ packer.packedWords ⌝ }
+    ensures { λ r. ⌜ r ≡ reader.isPacked (now (s .entry)) ⌝ }
 {
-    missing(s) | framed(s)
+    all_nothing(s) | framed(s)
 }
 
 // The first of `count` slots of a packed list that the packer can't write, or `count`.
 fn first_refused(packed: &[u16], count: usize) -> usize
-    requires { ⌜ 7 * count ≤ length (now packed) ⌝ }
-    ensures { λ r. ⌜ r ≡ reader.firstFailing count (λ s. reader.accepted (reader.sevenAt (now (packed .entry)) s)) ⌝ }
+    requires { ⌜ packer.packedWords * count ≤ length (now packed) ⌝ }
+    ensures { λ r. ⌜ r ≡ reader.firstFailing count (λ s. reader.isPacked (reader.sevenAt (now (packed .entry)) s)) ⌝ }
 {
     for s in 0..count {
-        if !accepted(seven_at(packed, 7 * s)) {
+        let from = PACKED_NUMBERS * s;
+        let end = from + PACKED_NUMBERS;
+        if !is_packed(&packed[from..end]) {
             return s;
         }
     }
@@ -252,29 +258,10 @@ fn first_refused(packed: &[u16], count: usize) -> usize
 fn wide(n: u16) -> u32
     ensures { λ r. ⌜ r ≡ reader.wide n ⌝ }
 {
-    if n < 32768 {
+    if n < NOTHING {
         return n as u32;
     }
-    n as u32 + 0xffff0000
-}
-
-// What is read of seven numbers.
-fn read_seven(s: [u16; 7]) -> [u32; 8]
-    ensures { λ r. ⌜ r ≡ reader.readSeven s ⌝ }
-{
-    if missing(s) {
-        return [0, WIDE, WIDE, WIDE, WIDE, WIDE, WIDE, WIDE];
-    }
-    [
-        1,
-        wide(s[0]),
-        wide(s[1]),
-        wide(s[2]),
-        wide(s[3]),
-        wide(s[4]),
-        wide(s[5]),
-        oriented(s[6]),
-    ]
+    n as u32 + EXTENDED
 }
 
 // The orientation as it is read.
@@ -287,23 +274,46 @@ fn oriented(n: u16) -> u32
     0
 }
 
-// Eight words stored in a list, from place p on.
-fn put_eight(l: &mut [u32], p: usize, eight: [u32; 8])
-    requires { ⌜ p + 8 ≤ length (now l) ⌝ }
-    ensures { λ _. ⌜ now (l .exit) ≡ sets (now (l .entry)) p eight ⌝ }
+// Word i of what is read of seven numbers; `absent` says whether they are those of an absent slot.
+fn read_at(s: &[u16], absent: bool, i: usize) -> u32
+    requires { ⌜ (length (now s) ≡ packer.packedWords) × (i < reader.readWords) ⌝ }
+    ensures { λ r. ⌜ r ≡ getD (reader.sevenRead absent (now (s .entry))) i 0 ⌝ }
 {
-    for i in 0..8 {
-        l[p + i] = eight[i];
+    if absent {
+        if i == 0 {
+            return 0;
+        }
+        return WIDE;
+    }
+    if i == 0 {
+        return 1;
+    }
+    if i == 7 {
+        return oriented(s[6]);
+    }
+    wide(s[i - 1])
+}
+
+// Seven numbers read, to a list from place p on.
+fn read_slot(s: &[u16], answer: &mut [u32], p: usize)
+    requires { ⌜ (length (now s) ≡ packer.packedWords) × (p + reader.readWords ≤ length (now answer)) ⌝ }
+    ensures { λ _. ⌜ now (answer .exit) ≡ sets (now (answer .entry)) p (reader.readSeven (now (s .entry))) ⌝ }
+{
+    let absent = all_nothing(s);
+    for i in 0..READ_WORDS {
+        answer[p + i] = read_at(s, absent, i);
     }
 }
 
 // `count` slots read.
 fn read_slots(packed: &[u16], answer: &mut [u32], count: usize)
-    requires { ⌜ (7 * count ≤ length (now packed)) × (8 * count ≤ length (now answer)) ⌝ }
-    ensures { λ _. ⌜ now (answer .exit) ≡ reader.readSlots count (now (packed .entry)) ++ drop (8 * count) (now (answer .entry)) ⌝ }
+    requires { ⌜ (packer.packedWords * count ≤ length (now packed)) × (reader.readWords * count ≤ length (now answer)) ⌝ }
+    ensures { λ _. ⌜ now (answer .exit) ≡ reader.readSlots count (now (packed .entry)) ++ drop (reader.readWords * count) (now (answer .entry)) ⌝ }
 {
     for s in 0..count {
-        put_eight(answer, 8 * s, read_seven(seven_at(packed, 7 * s)));
+        let from = PACKED_NUMBERS * s;
+        let end = from + PACKED_NUMBERS;
+        read_slot(&packed[from..end], answer, READ_WORDS * s);
     }
 }
 
@@ -311,14 +321,14 @@ fn read_slots(packed: &[u16], answer: &mut [u32], count: usize)
 pub fn unpack(packed: &[u16], answer: &mut [u32]) -> Unpacked
     ensures { λ r. ⌜ Unpacks (now (packed .entry)) (now (answer .entry)) r (now (answer .exit)) ⌝ }
 {
-    if packed.len() % 7 != 0 {
+    if packed.len() % PACKED_NUMBERS != 0 {
         return Unpacked {
             number: 1,
             place: 0,
         };
     }
-    let count = packed.len() / 7;
-    if answer.len() / 8 < count {
+    let count = packed.len() / PACKED_NUMBERS;
+    if answer.len() / READ_WORDS < count {
         return Unpacked {
             number: 2,
             place: 0,

@@ -6,28 +6,28 @@ use mathlib.Core.Bool.{Bool, true, false, cond, _||_, true≢false}
 use mathlib.Core.List.{List, [], _∷_}
 use mathlib.Core.Option.{Option, none, some}
 use lib.ListN.{length}
-use Rattle.definition.specs.Lists.{first, has}
-use Rattle.definition.specs.Desk.{Row, verdict}
+use Rattle.lists.specs.Lists.{first, has}
+use Rattle.definition.specs.Desk.{atDesk, Row, verdict}
 use Rattle.definition.specs.Outcome.{accepted, answered, outcome}
-use Rattle.laws.proofs.Part.{Each, each-none, each-some}
-use Rattle.laws.proofs.Closed.{Found}
-use Rattle.laws.proofs.Verdict.{verdict-numbered}
-use Rattle.promises.specs.Calls.{Call, leaves, Accepted}
+use Rattle.lists.specs.Every.{Each, each-none, each-some}
+use Rattle.laws.proofs.Verdict.{verdict-numbered, InTable}
+use Rattle.definition.specs.Handed.{Call}
+use Rattle.promises.specs.Calls.{leaves, Accepted}
 use Rattle.promises.specs.Impostors.{rowsOf}
 
 abbrev pub verdictOf : Call → Option Row
-verdictOf x = verdict (x .mesh .sizes) (x .mesh .places) (x .mesh .normals) (x .mesh .texture) (x .threshold) (length (x .answer)) (length (x .work))
+verdictOf x = verdict (atDesk x)
 
 -- the number of a refusal is one of 1 to 6
-pub numbered : (x : Call) → Each (Found (λ r. r .applies) (λ r. (0 < r .number) × (r .number ≤ 6))) (verdictOf x)
-numbered x = verdict-numbered (x .mesh .sizes) (x .mesh .places) (x .mesh .normals) (x .mesh .texture) (x .threshold) (length (x .answer)) (length (x .work))
+pub numbered : (x : Call) → Each InTable (verdictOf x)
+numbered x = verdict-numbered (atDesk x)
 
 -- so a number of 0 is no refusal
 pub no-row : (x : Call) → Accepted x → verdictOf x ≡ none
 unfolding Accepted leaves outcome answered
 no-row x e = go (verdictOf x) (numbered x) e
   where
-    go : (o : Option Row) → Each (Found (λ r. r .applies) (λ r. (0 < r .number) × (r .number ≤ 6))) o → answered o (accepted (x .mesh .sizes) (x .mesh .places) (x .mesh .normals) (x .mesh .texture) (x .threshold) (x .answer) (x .work)) (x .answer) (x .work) .number ≡ 0 → o ≡ none
+    go : (o : Option Row) → Each InTable o → answered o (accepted x) (x .answer) (x .work) .number ≡ 0 → o ≡ none
     go none each-none e = refl
     go (some r) (each-some h) e = let g = h .known .0 in absurd (omega arith)
 
@@ -52,7 +52,7 @@ found-none p (x ∷ l) e = go (p x) e (found-none p l)
 
 pub accepted-where : (x : Call) → has (λ r. r .applies) (rowsOf x) ≡ false → Accepted x
 unfolding Accepted leaves outcome verdict answered accepted rowsOf
-accepted-where x e = ap (λ (o : Option Row). answered o (accepted (x .mesh .sizes) (x .mesh .places) (x .mesh .normals) (x .mesh .texture) (x .threshold) (x .answer) (x .work)) (x .answer) (x .work) .number) (none-found (λ r. r .applies) (rowsOf x) e)
+accepted-where x e = ap (λ (o : Option Row). answered o (accepted x) (x .answer) (x .work) .number) (none-found (λ r. r .applies) (rowsOf x) e)
 
 pub accepted-only : (x : Call) → Accepted x → has (λ r. r .applies) (rowsOf x) ≡ false
 unfolding verdict rowsOf

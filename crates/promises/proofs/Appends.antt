@@ -9,35 +9,35 @@ use lib.ListN.{length, getD, take, drop, replicate, length-append}
 use lib.Seq.{take-append-le, take-all, drop-at, drop-nil}
 use lib.Dec.{leb}
 use borrow.Author.Tests.{leb-true, leb-false, le-ltb}
-use Rattle.words.specs.Lists.{everyBelow, joined, part}
+use Rattle.lists.specs.Parts.{everyBelow, joined, part}
 use Rattle.words.specs.Words.{Fit}
-use Rattle.blocks.specs.Format.{blocksFor, used, recordsIn}
+use Rattle.blocks.specs.Format.{blockBytes, recordWords, recordsHeld, blocksFor, recordsUsed, recordsIn}
 use Rattle.cards.specs.Writer.{recordsOf, writable, cardBytes, blocksOf, cardOf}
 use Rattle.cards.specs.Reader.{blocksThere, bytesPast}
-use Rattle.words.proofs.Lists.{length-zeros, part-front, part-whole}
+use Rattle.lists.proofs.Parts.{length-zeros, part-front, part-whole}
 use Rattle.blocks.proofs.Counts.{words-are, used-le, used-one, called}
 use Rattle.blocks.proofs.Judged.{good-none, read-lost}
 use Rattle.blocks.proofs.Same.{same-read}
 use Rattle.cards.proofs.Lengths.{length-own}
 use Rattle.cards.proofs.Outcomes.{whole-records, can-write}
 use Rattle.cards.proofs.Back.{marks, block-back, length-card}
-use Rattle.appends.specs.Next.{beyond, firstTorn, placeOf}
-use Rattle.appends.specs.Append.{added, follow, blocksFrom, notAdded, nowAdded}
+use Rattle.appends.specs.Next.{overfull, firstTorn, placeOf}
+use Rattle.appends.specs.Append.{appendLeft, areNext, blocksFrom, notAdded, nowAdded}
 use Rattle.appends.specs.File.{patched}
 use Rattle.appends.specs.Contract.{afterNext, afterAppend}
-use Rattle.appends.proofs.Counts.{Next, follows, follow-is, one-next, length-from}
+use Rattle.appends.proofs.Counts.{NextRecords, follows, follow-is, one-next, length-from}
 use Rattle.appends.proofs.Outcomes.{following-by, added-1, added-2, added-3, added-by}
 use Rattle.appends.proofs.Runs.{Begins, begins-is, begins-cut, card-split, append-begins}
-use Rattle.promises.specs.Cards.{Reading}
+use Rattle.promises.specs.Cards.{CardRead}
 use Rattle.promises.proofs.Cards.{left-of, block-read}
-use Rattle.promises.specs.Appends.{Appending, Asking, NextOf, Walk, start, more, cut, Finds, Unmade, Made, AppendsPromised}
+use Rattle.promises.specs.Appends.{Appending, AskingNext, NextOf, TankWalk, start, more, cut, CardFinds, Unmade, BlocksMade, AppendsPromised}
 
 -- an appending that was accepted
 record Accepted (long n : ℕ) (rs c : List ℕ) (a : Appending long n rs c) : Type 0 where
   can : writable rs ≡ true
   room : cardBytes (recordsOf rs) ≤ length c
-  within : beyond n long ≡ false
-  next : follow n (firstTorn long) (recordsOf rs) ≡ true
+  within : overfull n long ≡ false
+  next : areNext n (firstTorn long) (recordsOf rs) ≡ true
   left : afterAppend (a .returned) (a .lent) ≡ nowAdded n long rs c
 
 -- a refusal
@@ -51,19 +51,19 @@ record Refused (long n : ℕ) (rs c : List ℕ) (a : Appending long n rs c) : Ty
 by : (long n : ℕ) (rs c : List ℕ) (a : Appending long n rs c) → Refused long n rs c a ⊎ Accepted long n rs c a
 by long n rs c a = first (writable rs) refl
   where
-    refusal : (k : ℕ) → 1 ≤ k → k ≤ 4 → added n long rs c ≡ notAdded k c → Refused long n rs c a ⊎ Accepted long n rs c a
+    refusal : (k : ℕ) → 1 ≤ k → k ≤ 4 → appendLeft n long rs c ≡ notAdded k c → Refused long n rs c a ⊎ Accepted long n rs c a
     refusal k p q e = inl (record { number = k; first = p; last = q; left = a .meets ∙ e })
 
-    fourth : (x : Bool) → writable rs ≡ true → cardBytes (recordsOf rs) ≤ length c → beyond n long ≡ false → follow n (firstTorn long) (recordsOf rs) ≡ x → Refused long n rs c a ⊎ Accepted long n rs c a
+    fourth : (x : Bool) → writable rs ≡ true → cardBytes (recordsOf rs) ≤ length c → overfull n long ≡ false → areNext n (firstTorn long) (recordsOf rs) ≡ x → Refused long n rs c a ⊎ Accepted long n rs c a
     fourth true p q r s = inr (record { can = p; room = q; within = r; next = s; left = a .meets ∙ added-by n long rs c p q r true s })
     fourth false p q r s = refusal 4 (omega arith) (omega arith) (added-by n long rs c p q r false s)
 
-    third : (x : Bool) → writable rs ≡ true → cardBytes (recordsOf rs) ≤ length c → beyond n long ≡ x → Refused long n rs c a ⊎ Accepted long n rs c a
+    third : (x : Bool) → writable rs ≡ true → cardBytes (recordsOf rs) ≤ length c → overfull n long ≡ x → Refused long n rs c a ⊎ Accepted long n rs c a
     third true p q r = refusal 3 (omega arith) (omega arith) (added-3 n long rs c p q r)
-    third false p q r = fourth (follow n (firstTorn long) (recordsOf rs)) p q r refl
+    third false p q r = fourth (areNext n (firstTorn long) (recordsOf rs)) p q r refl
 
     second : (x : Bool) → writable rs ≡ true → leb (cardBytes (recordsOf rs)) (length c) ≡ x → Refused long n rs c a ⊎ Accepted long n rs c a
-    second true p q = third (beyond n long) p (leb-true (cardBytes (recordsOf rs)) (length c) q) refl
+    second true p q = third (overfull n long) p (leb-true (cardBytes (recordsOf rs)) (length c) q) refl
     second false p q = refusal 2 (omega arith) (omega arith) (added-2 n long rs c p (leb-false (cardBytes (recordsOf rs)) (length c) q))
 
     first : (x : Bool) → writable rs ≡ x → Refused long n rs c a ⊎ Accepted long n rs c a
@@ -82,15 +82,15 @@ accepted long n rs c a z = go (by long n rs c a)
         absurd (omega (arith, r .first, z, number))
 
 -- how long the blocks of an accepted one are
-long-from : (long n : ℕ) (rs c : List ℕ) (a : Appending long n rs c) → Accepted long n rs c a → length (blocksFrom n (firstTorn long) rs) ≡ 512 * blocksFor (recordsOf rs)
+long-from : (long n : ℕ) (rs c : List ℕ) (a : Appending long n rs c) → Accepted long n rs c a → length (blocksFrom n (firstTorn long) rs) ≡ blockBytes * blocksFor (recordsOf rs)
 unfolding blocksFrom
 long-from long n rs c a p = length-from n (firstTorn long) rs (follows n (firstTorn long) (recordsOf rs) (p .next)) (blocksFor (recordsOf rs)) (omega arith)
 
-made : (long n : ℕ) (rs c : List ℕ) (a : Appending long n rs c) → Unmade long n rs c a ⊎ Made long n rs c a
+made : (long n : ℕ) (rs c : List ℕ) (a : Appending long n rs c) → Unmade long n rs c a ⊎ BlocksMade long n rs c a
 unfolding afterAppend notAdded nowAdded placeOf firstTorn cardBytes
 made long n rs c a = go (by long n rs c a)
   where
-    go : Refused long n rs c a ⊎ Accepted long n rs c a → Unmade long n rs c a ⊎ Made long n rs c a
+    go : Refused long n rs c a ⊎ Accepted long n rs c a → Unmade long n rs c a ⊎ BlocksMade long n rs c a
     go (inl r) =
         let e = r .left in
         let number : a .returned .number ≡ r .number = λ i. e i .number in
@@ -99,31 +99,31 @@ made long n rs c a = go (by long n rs c a)
         let e = p .left in
         let k = blocksFor (recordsOf rs) in
         let blocks : a .returned .blocks ≡ k = λ i. e i .blocks in
-        let lent : a .lent ≡ blocksFrom n (long / 512) rs ++ drop (512 * k) c = λ i. e i .lent in
+        let lent : a .lent ≡ blocksFrom n (long / blockBytes) rs ++ drop (blockBytes * k) c = λ i. e i .lent in
         inr (record {
           number = λ i. e i .number;
           at = λ i. e i .at;
           blocks = blocks;
-          rest = (λ i. drop (512 * blocks i) (lent i)) ∙ (drop-at (blocksFrom n (long / 512) rs) (drop (512 * k) c) (512 * k) (long-from long n rs c a p) ∙ sym (ap (λ (x : ℕ). drop (512 * x) c) blocks));
+          rest = (λ i. drop (blockBytes * blocks i) (lent i)) ∙ (drop-at (blocksFrom n (long / blockBytes) rs) (drop (blockBytes * k) c) (blockBytes * k) (long-from long n rs c a p) ∙ sym (ap (λ (x : ℕ). drop (blockBytes * x) c) blocks));
         })
 
 -- what an accepted appending leaves on the file begins the card
-appended : (l f rs c : List ℕ) (a : Appending (length f) (recordsOf l) rs c) (j : ℕ) → writable l ≡ true → NextOf l (length f) rs → Accepted (length f) (recordsOf l) rs c a → j ≤ 512 * a .returned .blocks → Begins f (cardOf l) → Begins (patched f (a .returned .at) (take j (a .lent))) (cardOf l)
+appended : (l f rs c : List ℕ) (a : Appending (length f) (recordsOf l) rs c) (j : ℕ) → writable l ≡ true → NextOf l (length f) rs → Accepted (length f) (recordsOf l) rs c a → j ≤ blockBytes * a .returned .blocks → Begins f (cardOf l) → Begins (patched f (a .returned .at) (take j (a .lent))) (cardOf l)
 unfolding afterAppend nowAdded placeOf firstTorn cardBytes blocksFrom
 appended l f rs c a j can own p h b =
     let n = recordsOf l in
-    let k = length f / 512 in
+    let k = length f / blockBytes in
     let next = follows n k (recordsOf rs) (p .next) in
     let e = p .left in
-    let at : a .returned .at ≡ 512 * k = λ i. e i .at in
+    let at : a .returned .at ≡ blockBytes * k = λ i. e i .at in
     let size : a .returned .blocks ≡ blocksFor (recordsOf rs) = λ i. e i .blocks in
-    let lent : a .lent ≡ blocksFrom n k rs ++ drop (512 * blocksFor (recordsOf rs)) c = λ i. e i .lent in
+    let lent : a .lent ≡ blocksFrom n k rs ++ drop (blockBytes * blocksFor (recordsOf rs)) c = λ i. e i .lent in
     let long = long-from (length f) n rs c a p in
-    let put : take j (a .lent) ≡ take j (blocksFrom n k rs) = ap (take j) lent ∙ take-append-le j (blocksFrom n k rs) (drop (512 * blocksFor (recordsOf rs)) c) (omega (arith, h, size, long)) in
+    let put : take j (a .lent) ≡ take j (blocksFrom n k rs) = ap (take j) lent ∙ take-append-le j (blocksFrom n k rs) (drop (blockBytes * blocksFor (recordsOf rs)) c) (omega (arith, h, size, long)) in
     subst (λ (x : List ℕ). Begins x (cardOf l)) (sym (λ i. patched f (at i) (put i))) (append-begins l can k rs own (p .can) next f j refl (omega (arith, h, size)) b)
 
 -- what is on the file begins the card
-begins : (l f : List ℕ) → writable l ≡ true → Walk l f → Begins f (cardOf l)
+begins : (l f : List ℕ) → writable l ≡ true → TankWalk l f → Begins f (cardOf l)
 begins l f can start = (cardOf l, refl)
 begins l f can (cut g m w) = begins-cut m g (cardOf l) (begins l g can w)
 begins l f can (more g rs c a j w own z h) = appended l g rs c a j can own (accepted (length g) (recordsOf l) rs c a z) h (begins l g can w)
@@ -133,7 +133,7 @@ no-longer : (l f : List ℕ) → Begins f (cardOf l) → length f ≤ length (ca
 no-longer l f b = omega (arith, length-append f (b .0), ap length (b .1))
 
 -- 'For every cut length n, the reader finds ..'
-finds : (l f a : List ℕ) (r : Reading f (recordsOf l) a) → writable l ≡ true → Fit l → Walk l f → r .returned .number ≡ 0 → Finds l (length f) (r .returned .past) (r .answer)
+finds : (l f a : List ℕ) (r : CardRead f (recordsOf l) a) → writable l ≡ true → Fit l → TankWalk l f → r .returned .number ≡ 0 → CardFinds l (length f) (r .returned .past) (r .answer)
 unfolding bytesPast blocksThere
 finds l f a r can fit w z =
     record {
@@ -150,11 +150,11 @@ finds l f a r can fit w z =
     b : Begins f (cardOf l)
     b = begins l f can w
 
-    most : length f ≤ 512 * blocksFor (recordsOf l)
+    most : length f ≤ blockBytes * blocksFor (recordsOf l)
     most = omega (arith, no-longer l f (begins l f can w), length-card l can)
 
-    bytes : (k : ℕ) → k < length f / 512 → part (512 * k) 512 f ≡ part (512 * k) 512 (cardOf l)
-    bytes k h = sym (part-front f (begins l f can w .0) (512 * k) 512 (omega (arith, h))) ∙ ap (part (512 * k) 512) (begins l f can w .1)
+    bytes : (k : ℕ) → k < length f / blockBytes → part (blockBytes * k) blockBytes f ≡ part (blockBytes * k) blockBytes (cardOf l)
+    bytes k h = sym (part-front f (begins l f can w .0) (blockBytes * k) blockBytes (omega (arith, h))) ∙ ap (part (blockBytes * k) blockBytes) (begins l f can w .1)
 
 -- bytes put on an empty file
 append-drop-nil : (xs : List ℕ) → [] ++ xs ++ drop (0 + length xs) [] ≡ xs
@@ -165,15 +165,15 @@ unfolding blocksFor
 positive n h = omega (arith, h)
 
 -- a card on which a block is missing
-module _ (l f : List ℕ) (can : writable l ≡ true) (w : Walk l f) where
-  most : length f ≤ 512 * blocksFor (recordsOf l)
+module _ (l f : List ℕ) (can : writable l ≡ true) (w : TankWalk l f) where
+  most : length f ≤ blockBytes * blocksFor (recordsOf l)
   most = omega (arith, no-longer l f (begins l f can w), length-card l can)
 
-  not-beyond : beyond (recordsOf l) (length f) ≡ false
-  unfolding beyond
-  not-beyond = le-ltb (512 * blocksFor (recordsOf l)) (length f) most
+  not-beyond : overfull (recordsOf l) (length f) ≡ false
+  unfolding overfull
+  not-beyond = le-ltb (blockBytes * blocksFor (recordsOf l)) (length f) most
 
-  asks : (q : Asking (length f) (recordsOf l)) → (q .returned .number ≡ 0) × (q .returned .at ≡ 512 * (length f / 512)) × (q .returned .records ≡ used (recordsOf l) (length f / 512))
+  asks : (q : AskingNext (length f) (recordsOf l)) → (q .returned .number ≡ 0) × (q .returned .at ≡ blockBytes * (length f / blockBytes)) × (q .returned .records ≡ recordsUsed (recordsOf l) (length f / blockBytes))
   unfolding afterNext firstTorn placeOf
   asks q =
       let e = q .meets ∙ following-by (recordsOf l) (length f) false not-beyond in
@@ -184,32 +184,32 @@ module _ (l f : List ℕ) (can : writable l ≡ true) (w : Walk l f) where
     n = recordsOf l
 
     abbrev k : ℕ
-    k = length f / 512
+    k = length f / blockBytes
 
     abbrev rs : List ℕ
-    rs = recordsIn (recordsOf l) (length f / 512) l
+    rs = recordsIn (recordsOf l) (length f / blockBytes) l
 
-    missing : 12 * k < n
+    missing : recordsHeld * k < n
     missing = called n k (omega (arith, h, length-card l can))
 
-    length-rs : length rs ≡ 10 * used n k
+    length-rs : length rs ≡ recordWords * recordsUsed n k
     length-rs = length-own n k l (omega (arith, whole-records l can)) missing ∙ words-are n k
 
-    count : recordsOf rs ≡ used n k
+    count : recordsOf rs ≡ recordsUsed n k
     unfolding recordsOf
     count = omega (arith, length-rs)
 
     can-rs : writable rs ≡ true
-    can-rs = can-write rs (omega (arith, length-rs)) (omega (arith, count, used-le n k)) (ap (λ (m : ℕ). everyBelow m (λ r. leb (getD rs (10 * r) 0) 1)) count ∙ marks l can k missing)
+    can-rs = can-write rs (omega (arith, length-rs)) (omega (arith, count, used-le n k)) (ap (λ (m : ℕ). everyBelow m (λ r. leb (getD rs (recordWords * r) 0) 1)) count ∙ marks l can k missing)
 
     one : blocksFor (recordsOf rs) ≡ 1
     unfolding blocksFor
     one = omega (arith, count, used-le n k, used-one n k missing)
 
-    goes-on : (c : List ℕ) (a : Appending (length f) n rs c) → 512 ≤ length c → (a .returned .number ≡ 0) × (a .returned .at ≡ 512 * k) × (a .returned .blocks ≡ 1)
+    goes-on : (c : List ℕ) (a : Appending (length f) n rs c) → blockBytes ≤ length c → (a .returned .number ≡ 0) × (a .returned .at ≡ blockBytes * k) × (a .returned .blocks ≡ 1)
     unfolding afterAppend nowAdded firstTorn placeOf cardBytes
     goes-on c a m =
-        let next = follow-is n k (recordsOf rs) (subst (Next n k) (sym count) (one-next n k missing)) in
+        let next = follow-is n k (recordsOf rs) (subst (NextRecords n k) (sym count) (one-next n k missing)) in
         let e = a .meets ∙ added-by n (length f) rs c can-rs (omega (arith, one, m)) not-beyond true next in
         (λ i. e i .number, λ i. e i .at, (λ i. e i .blocks) ∙ one)
 
@@ -220,46 +220,46 @@ module _ (l : List ℕ) (can : writable l ≡ true) where
 
   -- a lent list with room
   abbrev lent : List ℕ
-  lent = replicate (512 * blocksFor (recordsOf l)) 0
+  lent = replicate (blockBytes * blocksFor (recordsOf l)) 0
 
-  all-next : 0 < total → Next total 0 total
+  all-next : 0 < total → NextRecords total 0 total
   all-next h = record { some = h; kind = inl (omega arith) }
 
   whole-call : 0 < total → Appending 0 total l lent
-  unfolding afterAppend nowAdded placeOf firstTorn beyond cardBytes
+  unfolding afterAppend nowAdded placeOf firstTorn overfull cardBytes
   whole-call h =
       record {
         returned = record { number = 0; blocks = blocksFor total; at = 0 };
-        lent = blocksFrom total 0 l ++ drop (512 * blocksFor total) lent;
-        meets = sym (added-by total 0 l lent can (omega (arith, length-zeros (512 * blocksFor total))) (le-ltb (512 * blocksFor total) 0 (omega arith)) true (follow-is total 0 total (all-next h)));
+        lent = blocksFrom total 0 l ++ drop (blockBytes * blocksFor total) lent;
+        meets = sym (added-by total 0 l lent can (omega (arith, length-zeros (blockBytes * blocksFor total))) (le-ltb (blockBytes * blocksFor total) 0 (omega arith)) true (follow-is total 0 total (all-next h)));
       }
 
   -- the first j bytes of it
-  first-bytes : (j : ℕ) → 0 < total → j ≤ 512 * blocksFor total → take j (blocksFrom total 0 l ++ drop (512 * blocksFor total) lent) ≡ take j (cardOf l)
+  first-bytes : (j : ℕ) → 0 < total → j ≤ blockBytes * blocksFor total → take j (blocksFrom total 0 l ++ drop (blockBytes * blocksFor total) lent) ≡ take j (cardOf l)
   unfolding blocksFrom blocksOf joined
   first-bytes j h k =
       let s = card-split l can 0 l (sym (part-whole l (length l) refl)) can (all-next h) in
-      let long : length (blocksFrom total 0 l) ≡ 512 * blocksFor total = length-from total 0 l (all-next h) (blocksFor total) (omega arith) in
-      take-append-le j (blocksFrom total 0 l) (drop (512 * blocksFor total) lent) (omega (arith, k, long)) ∙ sym (ap (take j) (s .1) ∙ take-append-le j (blocksFrom total 0 l) (s .0) (omega (arith, k, long)))
+      let long : length (blocksFrom total 0 l) ≡ blockBytes * blocksFor total = length-from total 0 l (all-next h) (blocksFor total) (omega arith) in
+      take-append-le j (blocksFrom total 0 l) (drop (blockBytes * blocksFor total) lent) (omega (arith, k, long)) ∙ sym (ap (take j) (s .1) ∙ take-append-le j (blocksFrom total 0 l) (s .0) (omega (arith, k, long)))
 
-  reach : (j : ℕ) → j ≤ 512 * blocksFor total → Walk l (take j (cardOf l))
+  reach : (j : ℕ) → j ≤ blockBytes * blocksFor total → TankWalk l (take j (cardOf l))
   unfolding patched whole-call
   reach zero h = start
   reach (suc j) h =
-      subst (Walk l) (append-drop-nil (take (suc j) (blocksFrom total 0 l ++ drop (512 * blocksFor total) lent)) ∙ first-bytes (suc j) some h)
+      subst (TankWalk l) (append-drop-nil (take (suc j) (blocksFrom total 0 l ++ drop (blockBytes * blocksFor total) lent)) ∙ first-bytes (suc j) some h)
       (more [] l lent (whole-call some) (suc j) start (sym (part-whole l (length l) refl)) refl h)
     where
       some : 0 < recordsOf l
       some = positive (recordsOf l) (omega (arith, h))
 
-  reaches : (m : ℕ) → Walk l (take m (cardOf l))
-  reaches m = go (leb m (512 * blocksFor total)) refl
+  reaches : (m : ℕ) → TankWalk l (take m (cardOf l))
+  reaches m = go (leb m (blockBytes * blocksFor total)) refl
     where
-      go : (x : Bool) → leb m (512 * blocksFor total) ≡ x → Walk l (take m (cardOf l))
-      go true h = reach m (leb-true m (512 * blocksFor total) h)
+      go : (x : Bool) → leb m (blockBytes * blocksFor total) ≡ x → TankWalk l (take m (cardOf l))
+      go true h = reach m (leb-true m (blockBytes * blocksFor total) h)
       go false h =
-          let k = leb-false m (512 * blocksFor total) h in
-          subst (Walk l) (take-all (512 * blocksFor total) (cardOf l) (omega (arith, length-card l can)) ∙ sym (take-all m (cardOf l) (omega (arith, k, length-card l can)))) (reach (512 * blocksFor total) (omega arith))
+          let k = leb-false m (blockBytes * blocksFor total) h in
+          subst (TankWalk l) (take-all (blockBytes * blocksFor total) (cardOf l) (omega (arith, length-card l can)) ∙ sym (take-all m (cardOf l) (omega (arith, k, length-card l can)))) (reach (blockBytes * blocksFor total) (omega arith))
 
 one-appending : (long n : ℕ) (rs c : List ℕ) (a b : Appending long n rs c) → (a .returned ≡ b .returned) × (a .lent ≡ b .lent)
 unfolding afterAppend
@@ -267,13 +267,13 @@ one-appending long n rs c a b =
     let e = a .meets ∙ sym (b .meets) in
     (λ i. record { number = e i .number; blocks = e i .blocks; at = e i .at }, λ i. e i .lent)
 
-one-asking : (long n : ℕ) (a b : Asking long n) → a .returned ≡ b .returned
+one-asking : (long n : ℕ) (a b : AskingNext long n) → a .returned ≡ b .returned
 unfolding afterNext
 one-asking long n a b =
     let e = a .meets ∙ sym (b .meets) in
     λ i. record { number = e i .number; records = e i .records; at = e i .at }
 
-same : (l f : List ℕ) → writable l ≡ true → Walk l f → f ≡ take (length f) (cardOf l)
+same : (l f : List ℕ) → writable l ≡ true → TankWalk l f → f ≡ take (length f) (cardOf l)
 same l f can w = begins-is f (cardOf l) (begins l f can w)
 
 pub appends-promised : AppendsPromised

@@ -9,12 +9,12 @@ use lib.ListN.{length, getD, take, drop, replicate, length-append}
 use lib.Seq.{take-at, drop-at}
 use lib.Dec.{leb, ltb}
 use borrow.Author.Tests.{leb-true, leb-false}
-use Rattle.words.specs.Lists.{sumOf, joined, part}
-use Rattle.words.specs.Words.{wordBytes, bytesOf, wordAt, Fit}
-use Rattle.words.proofs.Lists.{joined-same, part-front}
+use Rattle.lists.specs.Parts.{sumOf, joined, part}
+use Rattle.words.specs.Words.{wordValues, wordBytes, bytesOf, wordAt, Fit}
+use Rattle.lists.proofs.Parts.{joined-same, part-front}
 use Rattle.words.proofs.Words.{word-of, length-words}
-use Rattle.blocks.specs.Format.{blocksFor, used, usedWords, recordsIn, header, body, complement, checkWord, block, blockOf}
-use Rattle.blocks.specs.Judged.{sound, blockAt, good, lost, recordsRead}
+use Rattle.blocks.specs.Format.{blockBytes, blockWords, recordWords, recordsHeld, blocksFor, recordsUsed, usedWords, recordsIn, header, body, complement, checkWord, block, blockOf}
+use Rattle.blocks.specs.Judged.{soundBlock, blockAt, good, lost, recordsRead}
 use Rattle.bits.proofs.Bools.{and-right}
 use Rattle.blocks.proofs.Counts.{block-of, place-of}
 use Rattle.blocks.proofs.Judged.{read-lost}
@@ -28,14 +28,14 @@ use Rattle.cards.proofs.Outcomes.{whole-records, wrote-0, wrote-1, wrote-2, got
 use Rattle.cards.proofs.Back.{block-back, all-back, length-card}
 use Rattle.cards.proofs.Places.{block-place, record-kept, record-mark, record-lost}
 use Rattle.promises.specs.Cards as spec
-use Rattle.promises.specs.Cards.{Writing, Reading, Unwritten, Done, Unread, OneWord, Kept, Lost, Bytes, recordAt, CardsPromised, sampleBytes}
+use Rattle.promises.specs.Cards.{Writing, CardRead, Unwritten, CardDone, Unread, OneWord, RecordKept, RecordLost, Bytes, recordAt, CardsPromised, sampleBytes}
 
 -- which outcome a writing had
-written : (l c : List ℕ) (w : Writing l c) → Unwritten l c w ⊎ Done l c w
+written : (l c : List ℕ) (w : Writing l c) → Unwritten l c w ⊎ CardDone l c w
 unfolding afterWrite notWritten cardWritten
 written l c w = first (writable l) refl
   where
-    second : (x : Bool) → writable l ≡ true → leb (cardBytes (recordsOf l)) (length c) ≡ x → Unwritten l c w ⊎ Done l c w
+    second : (x : Bool) → writable l ≡ true → leb (cardBytes (recordsOf l)) (length c) ≡ x → Unwritten l c w ⊎ CardDone l c w
     second true h k =
         let e = w .meets ∙ wrote-0 l c h (leb-true (cardBytes (recordsOf l)) (length c) k) in
         inr (record { can = h; room = leb-true (cardBytes (recordsOf l)) (length c) k; number = λ i. e i .number; bytes = λ i. e i .bytes; card = λ i. e i .card })
@@ -43,17 +43,17 @@ written l c w = first (writable l) refl
         let e = w .meets ∙ wrote-2 l c h (leb-false (cardBytes (recordsOf l)) (length c) k) in
         inl (record { number = inr (h, leb-false (cardBytes (recordsOf l)) (length c) k, λ i. e i .number); bytes = λ i. e i .bytes; card = λ i. e i .card })
 
-    first : (x : Bool) → writable l ≡ x → Unwritten l c w ⊎ Done l c w
+    first : (x : Bool) → writable l ≡ x → Unwritten l c w ⊎ CardDone l c w
     first true h = second (leb (cardBytes (recordsOf l)) (length c)) h refl
     first false h =
         let e = w .meets ∙ wrote-1 l c h in
         inl (record { number = inl (h, λ i. e i .number); bytes = λ i. e i .bytes; card = λ i. e i .card })
 
 -- an accepted one
-done : (l c : List ℕ) (w : Writing l c) → w .returned .number ≡ 0 → Done l c w
+done : (l c : List ℕ) (w : Writing l c) → w .returned .number ≡ 0 → CardDone l c w
 done l c w zero = go (written l c w)
   where
-    go : Unwritten l c w ⊎ Done l c w → Done l c w
+    go : Unwritten l c w ⊎ CardDone l c w → CardDone l c w
     go (inr d) = d
     go (inl u) = absurd (other (u .number))
       where
@@ -62,48 +62,48 @@ done l c w zero = go (written l c w)
         other (inr e) = omega (arith, zero, e .2)
 
 -- an accepted reading: what it left
-pub record Left (bs : List ℕ) (n : ℕ) (a : List ℕ) (r : Reading bs n a) : Type 0 where
-  pub room : 10 * n ≤ length a
-  pub answer : r .answer ≡ readings n bs ++ drop (10 * n) a
+pub record Left (bs : List ℕ) (n : ℕ) (a : List ℕ) (r : CardRead bs n a) : Type 0 where
+  pub room : recordWords * n ≤ length a
+  pub answer : r .answer ≡ readings n bs ++ drop (recordWords * n) a
   pub past : r .returned .past ≡ bytesPast n bs
 
 -- which outcome a reading had
-read-by : (bs : List ℕ) (n : ℕ) (a : List ℕ) (r : Reading bs n a) → Unread bs n a r ⊎ ((r .returned .number ≡ 0) × Left bs n a r)
+read-by : (bs : List ℕ) (n : ℕ) (a : List ℕ) (r : CardRead bs n a) → Unread bs n a r ⊎ ((r .returned .number ≡ 0) × Left bs n a r)
 unfolding afterRead
-read-by bs n a r = go (leb (10 * n) (length a)) refl
+read-by bs n a r = go (leb (recordWords * n) (length a)) refl
   where
-    go : (x : Bool) → leb (10 * n) (length a) ≡ x → Unread bs n a r ⊎ ((r .returned .number ≡ 0) × Left bs n a r)
+    go : (x : Bool) → leb (recordWords * n) (length a) ≡ x → Unread bs n a r ⊎ ((r .returned .number ≡ 0) × Left bs n a r)
     go true h =
-        let e = r .meets ∙ got-0 n bs a (leb-true (10 * n) (length a) h) in
-        inr (λ i. e i .number, record { room = leb-true (10 * n) (length a) h; answer = λ i. e i .answer; past = λ i. e i .past })
+        let e = r .meets ∙ got-0 n bs a (leb-true (recordWords * n) (length a) h) in
+        inr (λ i. e i .number, record { room = leb-true (recordWords * n) (length a) h; answer = λ i. e i .answer; past = λ i. e i .past })
     go false h =
-        let e = r .meets ∙ got-2 n bs a (leb-false (10 * n) (length a) h) in
-        inl (record { short = leb-false (10 * n) (length a) h; number = λ i. e i .number; past = λ i. e i .past; answer = λ i. e i .answer })
+        let e = r .meets ∙ got-2 n bs a (leb-false (recordWords * n) (length a) h) in
+        inl (record { short = leb-false (recordWords * n) (length a) h; number = λ i. e i .number; past = λ i. e i .past; answer = λ i. e i .answer })
 
-pub left-of : (bs : List ℕ) (n : ℕ) (a : List ℕ) (r : Reading bs n a) → r .returned .number ≡ 0 → Left bs n a r
+pub left-of : (bs : List ℕ) (n : ℕ) (a : List ℕ) (r : CardRead bs n a) → r .returned .number ≡ 0 → Left bs n a r
 left-of bs n a r zero = go (read-by bs n a r)
   where
     go : Unread bs n a r ⊎ ((r .returned .number ≡ 0) × Left bs n a r) → Left bs n a r
     go (inr g) = g .1
     go (inl u) = absurd (omega (arith, zero, u .number))
 
-read : (bs : List ℕ) (n : ℕ) (a : List ℕ) (r : Reading bs n a) → Unread bs n a r ⊎ spec.Got bs n a r
+read : (bs : List ℕ) (n : ℕ) (a : List ℕ) (r : CardRead bs n a) → Unread bs n a r ⊎ spec.CardGot bs n a r
 read bs n a r = go (read-by bs n a r)
   where
-    go : Unread bs n a r ⊎ ((r .returned .number ≡ 0) × Left bs n a r) → Unread bs n a r ⊎ spec.Got bs n a r
+    go : Unread bs n a r ⊎ ((r .returned .number ≡ 0) × Left bs n a r) → Unread bs n a r ⊎ spec.CardGot bs n a r
     go (inl u) = inl u
-    go (inr g) = inr (record { room = g .1 .room; number = g .0; past = g .1 .past; rest = ap (drop (10 * n)) (g .1 .answer) ∙ drop-at (readings n bs) (drop (10 * n) a) (10 * n) (length-readings n bs) })
+    go (inr g) = inr (record { room = g .1 .room; number = g .0; past = g .1 .past; rest = ap (drop (recordWords * n)) (g .1 .answer) ∙ drop-at (readings n bs) (drop (recordWords * n) a) (recordWords * n) (length-readings n bs) })
 
 -- the records of block b in what was read
-pub block-read : (bs : List ℕ) (n b : ℕ) (a : List ℕ) (r : Reading bs n a) → b < blocksFor n → r .returned .number ≡ 0 → recordsIn n b (r .answer) ≡ recordsRead n b bs
-block-read bs n b a r h z = ap (recordsIn n b) (left-of bs n a r z .answer) ∙ block-place n bs (drop (10 * n) a) b h
+pub block-read : (bs : List ℕ) (n b : ℕ) (a : List ℕ) (r : CardRead bs n a) → b < blocksFor n → r .returned .number ≡ 0 → recordsIn n b (r .answer) ≡ recordsRead n b bs
+block-read bs n b a r h z = ap (recordsIn n b) (left-of bs n a r z .answer) ∙ block-place n bs (drop (recordWords * n) a) b h
 
 -- a card with bytes past it: its blocks are read as if they were not there
 with-tail : (l t : List ℕ) → writable l ≡ true → Fit l → readings (recordsOf l) (cardOf l ++ t) ≡ l
 unfolding readings
 with-tail l t k f =
     joined-same (blocksFor n) (λ b. recordsRead n b (cardOf l ++ t)) (λ b. recordsRead n b (cardOf l))
-    (λ b h. same-read n b (cardOf l ++ t) (cardOf l) (part-front (cardOf l) t (512 * b) 512 (omega (arith, h, length-card l k)))) ∙ all-back l k f
+    (λ b h. same-read n b (cardOf l ++ t) (cardOf l) (part-front (cardOf l) t (blockBytes * b) blockBytes (omega (arith, h, length-card l k)))) ∙ all-back l k f
   where
     n : ℕ
     n = recordsOf l
@@ -113,7 +113,7 @@ unfolding bytesPast blocksThere
 tail-past l t k = omega (arith, length-append (cardOf l) t, length-card l k)
 
 -- 'What was written reads back the same'
-back : (l c t a : List ℕ) (w : Writing l c) (r : Reading (take (w .returned .bytes) (w .card) ++ t) (recordsOf l) a) → Fit l → w .returned .number ≡ 0 → r .returned .number ≡ 0 → (r .answer ≡ l ++ drop (length l) a) × (r .returned .past ≡ length t)
+back : (l c t a : List ℕ) (w : Writing l c) (r : CardRead (take (w .returned .bytes) (w .card) ++ t) (recordsOf l) a) → Fit l → w .returned .number ≡ 0 → r .returned .number ≡ 0 → (r .answer ≡ l ++ drop (length l) a) × (r .returned .past ≡ length t)
 unfolding cardBytes
 back l c t a w r f y z =
     let d = done l c w y in
@@ -123,7 +123,7 @@ back l c t a w r f y z =
     (g .answer ∙ (λ i. (ap (readings (recordsOf l)) bs ∙ with-tail l t k f) i ++ drop (sym (whole-records l k) i) a), g .past ∙ (ap (bytesPast (recordsOf l)) bs ∙ tail-past l t k))
 
 -- words of bytes are words
-word-fits : (bs : List ℕ) (i : ℕ) → Bytes bs → wordAt bs i < 4294967296
+word-fits : (bs : List ℕ) (i : ℕ) → Bytes bs → wordAt bs i < wordValues
 unfolding wordAt
 word-fits bs i h = omega (arith, h (4 * i), h (4 * i + 1), h (4 * i + 2), h (4 * i + 3))
 
@@ -132,54 +132,54 @@ bad : (n b i : ℕ) (bs cs : List ℕ) → Bytes bs → Bytes cs → good n b bs
 unfolding good blockAt
 bad n b i bs cs f g h o = go (good n b cs) refl
   where
-    at : getD (blockAt b bs) i 0 ≡ wordAt bs (128 * b + i)
-    at = word-of bs (128 * b) 128 i (o .inside)
+    at : getD (blockAt b bs) i 0 ≡ wordAt bs (blockWords * b + i)
+    at = word-of bs (blockWords * b) blockWords i (o .inside)
 
-    sound-of : (l : List ℕ) → good n b l ≡ true → sound n b (blockAt b l) ≡ true
-    sound-of l e = and-right (ltb b (length l / 512)) (sound n b (blockAt b l)) e
+    sound-of : (l : List ℕ) → good n b l ≡ true → soundBlock n b (blockAt b l) ≡ true
+    sound-of l e = and-right (ltb b (length l / blockBytes)) (soundBlock n b (blockAt b l)) e
 
     go : (x : Bool) → good n b cs ≡ x → good n b cs ≡ false
     go false e = e
     go true e =
-        absurd (one-word n b (blockAt b bs) i (wordAt cs (128 * b + i)) (length-words bs (128 * b) 128) (o .inside) (subst (λ (k : ℕ). k < 4294967296) (sym at) (word-fits bs (128 * b + i) f)) (word-fits cs (128 * b + i) g)
-        (λ p. o .other (p ∙ at)) (sound-of bs h) (ap (sound n b) (sym (o .rest)) ∙ sound-of cs e))
+        absurd (one-word n b (blockAt b bs) i (wordAt cs (blockWords * b + i)) (length-words bs (blockWords * b) blockWords) (o .inside) (subst (λ (k : ℕ). k < wordValues) (sym at) (word-fits bs (blockWords * b + i) f)) (word-fits cs (blockWords * b + i) g)
+        (λ p. o .other (p ∙ at)) (sound-of bs h) (ap (soundBlock n b) (sym (o .rest)) ∙ sound-of cs e))
 
-noticed : (n b i : ℕ) (bs cs a : List ℕ) (r : Reading cs n a) → b < blocksFor n → Bytes bs → Bytes cs → good n b bs ≡ true → OneWord b i bs cs → r .returned .number ≡ 0 → recordsIn n b (r .answer) ≡ joined (used n b) (λ _. lost)
+noticed : (n b i : ℕ) (bs cs a : List ℕ) (r : CardRead cs n a) → b < blocksFor n → Bytes bs → Bytes cs → good n b bs ≡ true → OneWord b i bs cs → r .returned .number ≡ 0 → recordsIn n b (r .answer) ≡ joined (recordsUsed n b) (λ _. lost)
 noticed n b i bs cs a r h f g k o z = block-read cs n b a r h z ∙ read-lost n b cs (bad n b i bs cs f g k o)
 
-others : (n b : ℕ) (bs cs a d : List ℕ) (r : Reading bs n a) (q : Reading cs n d) → b < blocksFor n → part (512 * b) 512 bs ≡ part (512 * b) 512 cs → r .returned .number ≡ 0 → q .returned .number ≡ 0 → recordsIn n b (r .answer) ≡ recordsIn n b (q .answer)
+others : (n b : ℕ) (bs cs a d : List ℕ) (r : CardRead bs n a) (q : CardRead cs n d) → b < blocksFor n → part (blockBytes * b) blockBytes bs ≡ part (blockBytes * b) blockBytes cs → r .returned .number ≡ 0 → q .returned .number ≡ 0 → recordsIn n b (r .answer) ≡ recordsIn n b (q .answer)
 others n b bs cs a d r q h e y z = block-read bs n b a r h y ∙ (same-read n b bs cs e ∙ sym (block-read cs n b d q h z))
 
-stands : (l c bs a : List ℕ) (b : ℕ) (w : Writing l c) (r : Reading bs (recordsOf l) a) → b < blocksFor (recordsOf l) → Fit l → w .returned .number ≡ 0 → part (512 * b) 512 bs ≡ part (512 * b) 512 (w .card) → r .returned .number ≡ 0 → recordsIn (recordsOf l) b (r .answer) ≡ recordsIn (recordsOf l) b l
+stands : (l c bs a : List ℕ) (b : ℕ) (w : Writing l c) (r : CardRead bs (recordsOf l) a) → b < blocksFor (recordsOf l) → Fit l → w .returned .number ≡ 0 → part (blockBytes * b) blockBytes bs ≡ part (blockBytes * b) blockBytes (w .card) → r .returned .number ≡ 0 → recordsIn (recordsOf l) b (r .answer) ≡ recordsIn (recordsOf l) b l
 unfolding part
 stands l c bs a b w r h f y e z =
     let d = done l c w y in
     let k = d .can in
     block-read bs (recordsOf l) b a r h z
-    ∙ (same-read (recordsOf l) b bs (cardOf l) (e ∙ (ap (part (512 * b) 512) (d .card) ∙ part-front (cardOf l) (drop (cardBytes (recordsOf l)) c) (512 * b) 512 (omega (arith, h, length-card l k)))) ∙ block-back l k f b h)
+    ∙ (same-read (recordsOf l) b bs (cardOf l) (e ∙ (ap (part (blockBytes * b) blockBytes) (d .card) ∙ part-front (cardOf l) (drop (cardBytes (recordsOf l)) c) (blockBytes * b) blockBytes (omega (arith, h, length-card l k)))) ∙ block-back l k f b h)
 
-told : (n k : ℕ) (bs a : List ℕ) (r : Reading bs n a) → k < n → r .returned .number ≡ 0 → Kept bs n k (recordAt k (r .answer)) ⊎ Lost bs n k (recordAt k (r .answer))
+told : (n k : ℕ) (bs a : List ℕ) (r : CardRead bs n a) → k < n → r .returned .number ≡ 0 → RecordKept bs n k (recordAt k (r .answer)) ⊎ RecordLost bs n k (recordAt k (r .answer))
 unfolding recordAt
-told n k bs a r h z = go (good n (k / 12) bs) refl
+told n k bs a r h z = go (good n (k / recordsHeld) bs) refl
   where
-    b : k / 12 < blocksFor n
+    b : k / recordsHeld < blocksFor n
     b = block-of n k h
 
-    u : k % 12 < used n (k / 12)
+    u : k % recordsHeld < recordsUsed n (k / recordsHeld)
     u = place-of n k h
 
-    there : part (10 * k) 10 (r .answer) ≡ part (10 * (12 * (k / 12) + k % 12)) 10 (readings n bs ++ drop (10 * n) a)
-    there = (λ i. part (10 * number i) 10 (left-of bs n a r z .answer i))
+    there : part (recordWords * k) recordWords (r .answer) ≡ part (recordWords * (recordsHeld * (k / recordsHeld) + k % recordsHeld)) recordWords (readings n bs ++ drop (recordWords * n) a)
+    there = (λ i. part (recordWords * number i) recordWords (left-of bs n a r z .answer i))
       where
-        number : k ≡ 12 * (k / 12) + k % 12
+        number : k ≡ recordsHeld * (k / recordsHeld) + k % recordsHeld
         number = omega arith
 
-    go : (x : Bool) → good n (k / 12) bs ≡ x → Kept bs n k (part (10 * k) 10 (r .answer)) ⊎ Lost bs n k (part (10 * k) 10 (r .answer))
+    go : (x : Bool) → good n (k / recordsHeld) bs ≡ x → RecordKept bs n k (part (recordWords * k) recordWords (r .answer)) ⊎ RecordLost bs n k (part (recordWords * k) recordWords (r .answer))
     go true g =
-        let e = there ∙ record-kept n bs (drop (10 * n) a) (k / 12) (k % 12) b u g in
-        inl (record { sound = g; words = e; mark = subst (λ (l : List ℕ). getD l 0 0 ≤ 1) (sym e) (record-mark n bs (drop (10 * n) a) (k / 12) (k % 12) b u g) })
+        let e = there ∙ record-kept n bs (drop (recordWords * n) a) (k / recordsHeld) (k % recordsHeld) b u g in
+        inl (record { sound = g; words = e; mark = subst (λ (l : List ℕ). getD l 0 0 ≤ 1) (sym e) (record-mark n bs (drop (recordWords * n) a) (k / recordsHeld) (k % recordsHeld) b u g) })
     go false g =
-        let e = there ∙ record-lost n bs (drop (10 * n) a) (k / 12) (k % 12) b u g in
+        let e = there ∙ record-lost n bs (drop (recordWords * n) a) (k / recordsHeld) (k % recordsHeld) b u g in
         inr (record { unsound = g; words = e; mark = ap (λ (l : List ℕ). getD l 0 0) e })
 
 one-writing : (l c : List ℕ) (w v : Writing l c) → (w .returned ≡ v .returned) × (w .card ≡ v .card)
@@ -188,14 +188,14 @@ one-writing l c w v =
     let e = w .meets ∙ sym (v .meets) in
     (λ i. record { number = e i .number; bytes = e i .bytes }, λ i. e i .card)
 
-one-reading : (bs : List ℕ) (n : ℕ) (a : List ℕ) (r q : Reading bs n a) → (r .returned ≡ q .returned) × (r .answer ≡ q .answer)
+one-reading : (bs : List ℕ) (n : ℕ) (a : List ℕ) (r q : CardRead bs n a) → (r .returned ≡ q .returned) × (r .answer ≡ q .answer)
 unfolding afterRead
 one-reading bs n a r q =
     let e = r .meets ∙ sym (q .meets) in
     (λ i. record { number = e i .number; past = e i .past }, λ i. e i .answer)
 
 sample : blockOf 14 1 (1 ∷ replicate 19 0) ≡ sampleBytes
-unfolding blockOf block body header checkWord complement sumOf used usedWords bytesOf wordBytes flatMap
+unfolding blockOf block body header checkWord complement sumOf recordsUsed usedWords bytesOf wordBytes flatMap
 sample = refl
 
 pub cards-promised : CardsPromised

@@ -12,7 +12,7 @@ use Rattle.islands.specs.Together.{picked, rank, Closed}
 use Rattle.islands.proofs.Agree.{touching}
 use Rattle.islands.proofs.Sizes.{mesh-length}
 use Rattle.islands.proofs.Together.{closed-frames}
-use Rattle.promises.specs.Calls.{Call, meshOf}
+use Rattle.definition.specs.Handed.{Call, meshOf}
 use Rattle.promises.specs.PublicCall.{remains}
 use Rattle.promises.specs.ClosedFaces.{Promised}
 use Rattle.promises.proofs.PublicCall.{answers}
@@ -39,8 +39,7 @@ unfolding faceWords flatMap
 words-of x f = List·getD-map (flatMap slot.words) (frames (x .threshold) (meshOf (x .mesh))) f []
 
 faces-many : (x : Call) → length (meshOf (x .mesh)) ≡ length (x .mesh .sizes)
-unfolding meshOf
-faces-many x = mesh-length (x .mesh .places) (x .mesh .normals) (x .mesh .texture) 0 (x .mesh .sizes)
+faces-many x = mesh-length (x .mesh .positions) (x .mesh .normals) (x .mesh .texture) 0 (x .mesh .sizes)
 
 pub closed-faces : Promised
 unfolding Closed Rattle.mikktspace.specs.Contract.left

@@ -11,46 +11,44 @@ use Rattle.tangent.specs.declared.Reading.{Reading}
 use Rattle.tangent.specs.declared.Reading.the-variants.{Absent}
 use Rattle.tangent.specs.Slot.{slotWords, words}
 use Rattle.tangent.proofs.Slots.{absent-alone}
-use Rattle.definition.specs.Limits.{workWords}
-use Rattle.definition.specs.Handed.{meshFrom, slotCount}
+use Rattle.definition.specs.Limits.{workWords, highestRefusal}
+use Rattle.definition.specs.Handed.{Call, meshOf, slotCount}
 use Rattle.definition.specs.declared.Corner.{Corner}
 use Rattle.definition.specs.declared.Triangle.{Triangle}
-use Rattle.definition.specs.Triangles.{triangles}
 use Rattle.definition.specs.Step4Order.{sound}
 use Rattle.definition.specs.Step5Links.{links}
 use Rattle.definition.specs.Step6Groups.{marks}
 use Rattle.definition.specs.Step7Sums.{Brought, broughtAll}
 use Rattle.definition.specs.Step9Copies.{faceReadings}
-use Rattle.definition.specs.Frames.{numbered, framesFrom, framesOf, frames}
-use Rattle.definition.specs.Desk.{Row}
+use Rattle.definition.specs.Frames.{trianglesOf, numbered, framesFrom, framesOf, frames}
+use Rattle.definition.specs.Desk.{Row, atDesk}
 use Rattle.definition.specs.Outcome.{Result, answerWords, accepted, answered, outcome}
-use Rattle.laws.proofs.Part.{Each, each-none, each-some}
-use Rattle.laws.proofs.Closed.{Found}
-use Rattle.laws.proofs.Verdict.{fine}
+use Rattle.lists.specs.Every.{Each, each-none, each-some}
+use Rattle.laws.proofs.Verdict.{fine, InTable, Numbered}
 use Rattle.laws.proofs.Bridge.{answer-length}
 use Rattle.view.specs.Answer.{slotNumber, HasSlot, Shows, finalAt}
 use Rattle.view.proofs.Answer.{slot-words, frames-shown}
 use Rattle.copies.proofs.Places.{length-mesh}
-use Rattle.promises.specs.Calls.{Call, meshOf, leaves, readingAt}
+use Rattle.promises.specs.Calls.{leaves, readingAt}
 use Rattle.promises.specs.Demand1.{Refused, SlotTells, Taken, Promised}
 use Rattle.promises.proofs.Acceptance.{verdictOf, numbered as numbers-of}
 
 -- what a call leaves behind, by the verdict
 abbrev by : Call → Option Row → Result
-by x o = answered o (accepted (x .mesh .sizes) (x .mesh .places) (x .mesh .normals) (x .mesh .texture) (x .threshold) (x .answer) (x .work)) (x .answer) (x .work)
+by x o = answered o (accepted x) (x .answer) (x .work)
 
 leaves-is : (x : Call) (o : Option Row) → verdictOf x ≡ o → leaves x ≡ by x o
 unfolding leaves outcome
 leaves-is x o e = ap (by x) e
 
 -- ---- a refusal
-refused : (x : Call) (r : Row) → verdictOf x ≡ some r → (0 < r .number) × (r .number ≤ 6) → Refused x (leaves x)
+refused : (x : Call) (r : Row) → verdictOf x ≡ some r → Numbered r → Refused x (leaves x)
 unfolding answered
 refused x r e h =
     let is = leaves-is x (some r) e in
     record {
       low = subst (λ (y : Result). 0 < y .number) (sym is) (h .0);
-      high = subst (λ (y : Result). y .number ≤ 6) (sym is) (h .1);
+      high = subst (λ (y : Result). y .number ≤ highestRefusal) (sym is) (h .1);
       no-slots = ap (λ (y : Result). y .slots) is;
       same-answer = ap (λ (y : Result). y .answer) is;
       same-work = ap (λ (y : Result). y .work) is;
@@ -79,24 +77,24 @@ module _ (x : Call) where
   sizes = x .mesh .sizes
 
   abbrev mesh : List (List Corner)
-  mesh = meshFrom (x .mesh .places) (x .mesh .normals) (x .mesh .texture) 0 sizes
+  mesh = meshOf (x .mesh)
 
   abbrev ss : List Triangle
-  ss = sound (triangles (numbered 0 mesh))
+  ss = sound (trianglesOf (x .mesh))
 
   abbrev bs : List Brought
   bs = broughtAll (x .threshold) ss (marks ss (links ss))
 
   reading-is : (f i : ℕ) → HasSlot sizes f i → finalAt bs ss mesh f i ≡ readingAt x f i
-  unfolding finalAt readingAt meshOf frames framesOf
+  unfolding finalAt readingAt frames framesOf
   reading-is f i h =
       let q : f ≡ 0 + f = omega arith in
-      ap (λ (l : List Reading). getD l i Absent) (sym (frames-at bs ss 0 f mesh f q (subst (λ (n : ℕ). f < n) (sym (length-mesh (x .mesh .places) (x .mesh .normals) (x .mesh .texture) 0 sizes)) (h .face))))
+      ap (λ (l : List Reading). getD l i Absent) (sym (frames-at bs ss 0 f mesh f q (subst (λ (n : ℕ). f < n) (sym (length-mesh (x .mesh .positions) (x .mesh .normals) (x .mesh .texture) 0 sizes)) (h .face))))
 
   slot-tells : (f i : ℕ) → HasSlot sizes f i → (a : List ℕ) → a ≡ answerWords (frames (x .threshold) mesh) ++ drop (slotWords * slotCount sizes) (x .answer) → SlotTells (take slotWords (drop (slotWords * slotNumber sizes f i) a)) (readingAt x f i)
   unfolding frames framesOf words
   slot-tells f i h a e =
-      let S : Shows sizes (finalAt bs ss mesh) (x .answer) a = e ∙ sym (frames-shown (x .mesh .places) (x .mesh .normals) (x .mesh .texture) ss bs sizes (x .answer) _ refl) in
+      let S : Shows sizes (finalAt bs ss mesh) (x .answer) a = e ∙ sym (frames-shown (x .mesh .positions) (x .mesh .normals) (x .mesh .texture) ss bs sizes (x .answer) _ refl) in
       let w = slot-words sizes (x .answer) (finalAt bs ss mesh) a f i h S ∙ ap words (reading-is f i h) in
       record { words-are = w; absent-is = λ q. w ∙ ap words q; absent-alone = λ q. absent-alone (readingAt x f i) (sym w ∙ q) }
 
@@ -104,11 +102,11 @@ taken : (x : Call) → verdictOf x ≡ none → Taken x (leaves x)
 unfolding answered accepted
 taken x e =
     let is = leaves-is x none e in
-    let long = fine (x .mesh .sizes) (x .mesh .places) (x .mesh .normals) (x .mesh .texture) (x .threshold) (length (x .answer)) (length (x .work)) e in
+    let long = fine (atDesk x) e in
     let sizes = x .mesh .sizes in
     let n = slotWords * slotCount sizes in
     let k = workWords * length sizes in
-    let a = front n (answerWords (frames (x .threshold) (meshFrom (x .mesh .places) (x .mesh .normals) (x .mesh .texture) 0 sizes))) (x .answer) (answer-length (x .mesh .places) (x .mesh .normals) (x .mesh .texture) (x .threshold) sizes) (long .answer-fits) in
+    let a = front n (answerWords (frames (x .threshold) (meshOf (x .mesh)))) (x .answer) (answer-length (x .mesh .positions) (x .mesh .normals) (x .mesh .texture) (x .threshold) sizes) (long .answer-fits) in
     let w = front k (replicate k 0) (x .work) (length-replicate k 0) (long .work-fits) in
     record {
       number-0 = ap (λ (y : Result). y .number) is;
@@ -126,7 +124,7 @@ taken x e =
 by-verdict : (x : Call) → Refused x (leaves x) ⊎ Taken x (leaves x)
 by-verdict x = go (verdictOf x) refl (numbers-of x)
   where
-    go : (o : Option Row) → verdictOf x ≡ o → Each (Found (λ r. r .applies) (λ r. (0 < r .number) × (r .number ≤ 6))) o → Refused x (leaves x) ⊎ Taken x (leaves x)
+    go : (o : Option Row) → verdictOf x ≡ o → Each InTable o → Refused x (leaves x) ⊎ Taken x (leaves x)
     go none e each-none = inr (taken x e)
     go (some r) e (each-some h) = inl (refused x r e (h .known))
 

@@ -13,7 +13,7 @@ use Rattle.tangent.specs.declared.Reading.{Reading}
 use Rattle.tangent.specs.Slot as slot
 use Rattle.tangent.specs.Slot.{slotWords}
 use Rattle.definition.specs.declared.Triangle.{Triangle}
-use Rattle.definition.specs.Handed.{meshFrom, slotsOf, slotCount}
+use Rattle.definition.specs.Handed.{Call, meshOf, meshFrom, slotsOf, slotCount}
 use Rattle.definition.specs.Step7Sums.{Brought}
 use Rattle.definition.specs.Frames.{numbered, framesFrom, framesOf, frames}
 use Rattle.definition.specs.Desk.{Row}
@@ -21,7 +21,7 @@ use Rattle.definition.specs.Outcome.{Result, answerWords, accepted, answered, o
 use Rattle.definition.specs.Shuffle.{Shuffle, done, left, right, shares}
 use Rattle.laws.proofs.Bridge.{face-length}
 use Rattle.laws.proofs.Shuffled.{shuffled}
-use Rattle.promises.specs.Calls.{Call, meshOf, leaves, Answers, Accepted, slotsBefore, faceAnswer}
+use Rattle.promises.specs.Calls.{leaves, Answers, Accepted, slotsBefore, faceAnswer}
 use Rattle.promises.proofs.Acceptance.{no-row}
 use Rattle.promises.specs.Demand3.{leftAt, rightAt, Promised}
 
@@ -51,8 +51,8 @@ module _ (ps ns ts : List Float) (bs : List Brought) (ss : List Triangle) where
   faces-from k i (n ∷ sizes) = one-face (face-length ps ns ts bs ss k i n) (faces-from (suc k) (i + n) sizes)
 
 faces-of : (x : Call) → Faces (x .mesh .sizes) (faceWords x)
-unfolding faceWords meshOf frames framesOf
-faces-of x = faces-from (x .mesh .places) (x .mesh .normals) (x .mesh .texture) _ _ 0 0 (x .mesh .sizes)
+unfolding faceWords frames framesOf
+faces-of x = faces-from (x .mesh .positions) (x .mesh .normals) (x .mesh .texture) _ _ 0 0 (x .mesh .sizes)
 
 -- the words of face number n, where those of all faces stand one after the other
 part : {ks : List ℕ} {ws : List (List ℕ)} → Faces ks ws → (rest : List ℕ) (n : ℕ) → n < length ks → take (slotWords * slotsOf (getD ks n 0)) (drop (slotWords * slotsBefore ks n) (join ws ++ rest)) ≡ getD ws n []
@@ -70,9 +70,9 @@ part (one-face {k} {ks} {w} {ws} e r) rest (suc n) h =
 -- ---- acceptance
 -- the answer begins with the words of the faces
 answer-is : (x : Call) → Accepted x → leaves x .answer ≡ join (faceWords x) ++ drop (slotWords * slotCount (x .mesh .sizes)) (x .answer)
-unfolding leaves outcome answered accepted faceWords meshOf
+unfolding leaves outcome answered accepted faceWords
 answer-is x e =
-    ap (λ (o : Option Row). answered o (accepted (x .mesh .sizes) (x .mesh .places) (x .mesh .normals) (x .mesh .texture) (x .threshold) (x .answer) (x .work)) (x .answer) (x .work) .answer) (no-row x e)
+    ap (λ (o : Option Row). answered o (accepted x) (x .answer) (x .work) .answer) (no-row x e)
     ∙ ap (λ (l : List ℕ). l ++ drop (slotWords * slotCount (x .mesh .sizes)) (x .answer)) (joined (frames (x .threshold) (meshOf (x .mesh))))
 
 -- what is answered for a face is what the definition has for it

@@ -13,10 +13,11 @@ use Rattle.tangent.specs.Slot.{words}
 use Rattle.tangent.specs.Finite.{FiniteReading, absent}
 use Rattle.tangent.proofs.Finite.{words-finite}
 use Rattle.definition.specs.Outcome.{Result}
-use Rattle.laws.proofs.Part.{Every, every-nil, every-cons}
+use Rattle.lists.specs.Every.{Every, every-nil, every-cons}
 use Rattle.laws.proofs.Finite.{frames-finite}
 use Rattle.view.specs.Answer.{HasSlot}
-use Rattle.promises.specs.Calls.{Call, Answers, meshOf, readingAt}
+use Rattle.definition.specs.Handed.{Call, meshOf}
+use Rattle.promises.specs.Calls.{Answers, readingAt}
 use Rattle.promises.specs.Demand1.{Refused, Taken, Promised as Demand1}
 use Rattle.promises.specs.Directions.{slotIn, FiniteWords, Promised}
 use Rattle.promises.proofs.Demand1.{demand1}

@@ -7,29 +7,30 @@ use mathlib.Core.List.{List, [], _∷_}
 use mathlib.Core.Option.{Option, none, some, Option·some-injective, Option·none-ne-some}
 use lib.Dec.{eqb, ltb}
 use lib.ListN.{length, take}
-use lib.Ieee.{Float, ofBits}
+use lib.Ieee.{ofBits}
 use borrow.Author.Tests.{ltb-true, lt-ltb, eqb-true}
+use Rattle.definition.specs.Frames.{trianglesOf}
 use Rattle.bits.specs.Word.{isFinite}
 use Rattle.bits.specs.Single.{zeroᶠ}
 use Rattle.tangent.specs.Slot.{slotWords}
 use Rattle.table.specs.Table.{cell}
-use Rattle.table.specs.Loop.{listOf}
-use Rattle.table.proofs.Loops.{length-listOf}
+use Rattle.lists.specs.Loops.{listOf}
+use Rattle.lists.proofs.Loops.{length-listOf}
 use Rattle.table.specs.Columns.{rowsOf, orientationColumn, anyColumn, vertexColumn, linkColumn, groupColumn}
 use Rattle.definition.specs.declared.Triangle.{Triangle}
 use Rattle.definition.specs.Limits.{faceLimit, workWords}
-use Rattle.definition.specs.Lists.{first}
+use Rattle.lists.specs.Lists.{first}
 use Rattle.definition.specs.Mesh.{cornerOf}
-use Rattle.definition.specs.Handed.{cornerAt, meshFrom, used, slotsOf, slotCount}
-use Rattle.definition.specs.Desk.{Row, badCorner, isThere, orZero, tooMany, misfit, table, verdict}
+use Rattle.definition.specs.Handed.{Handed, cornerAt, used, slotsOf, slotCount}
+use Rattle.definition.specs.Desk.{notFinite, Row, isThere, orZero, tooMany, misfit, table, verdict, shown}
 use Rattle.definition.specs.Step4Order.{sound, welded}
 use Rattle.laws.proofs.Laws.{some-triangle}
 use Rattle.laws.proofs.Weld.{welded-refl, welded-as, found-at}
-use Rattle.laws.proofs.Verdict.{verdict-numbered, fine}
+use Rattle.laws.proofs.Verdict.{verdict-numbered, fine, Numbered}
 use Rattle.view.specs.Rows.{spotRow}
 use Rattle.view.specs.Weld.{Welds}
-use Rattle.grouped.specs.declared.Counts.{Counts}
-use Rattle.grouped.specs.Grouped.{Left}
+use Rattle.grouped.specs.declared.MeshCounts.{MeshCounts}
+use Rattle.grouped.specs.Grouped.{LeftBySix}
 use Rattle.asked.specs.Lowest.{Verdict, accepted}
 use Rattle.asked.specs.Links.{Equal, LinksFit}
 use Rattle.asked.specs.Groups.{GroupsFit}
@@ -40,13 +41,12 @@ use Rattle.asked.proofs.Fits.{clear-links, clear-groups, clear-long, all-clear}
 use Rattle.asked.proofs.Likes.{links-like, groups-like}
 use Rattle.asked.proofs.Bridge.{fit-accepted, accepted-fit, groups-accepted, accepted-groups}
 use Rattle.examine.specs.declared.Examined.{Examined}
-use Rattle.examine.specs.declared.Handed as outcome
+use Rattle.examine.specs.declared.Owned as outcome
 use Rattle.mikktspace.specs.Alone.{longestAnswer as longest}
-use Rattle.examine.specs.Contract.{refusal, trianglesOf, soundOf, tooShort, Decided, HandedOut}
+use Rattle.examine.specs.Contract.{refusal, soundOf, tooShort, Decided, HandedOut}
 use Rattle.examine.proofs.Columns.{to-same, from-same, grouped-fit}
 use Rattle.examine.proofs.Fronts.{front-take}
 use Rattle.examine.proofs.Results.{long-enough}
-use Rattle.promises.specs.Calls.{Handed}
 use Rattle.promises.specs.OwnColumns.{Promised}
 use Rattle.promises.specs.Examiner.{Asking, Asked, Fetched, soundIn, Sound, Objects, Refused, Examiner, AboutOwn, OwnAccepted}
 use Rattle.promises.proofs.OwnColumns.{own-columns, welded-words, any-words}
@@ -93,20 +93,20 @@ finite-zero : not (isFinite zeroᶠ) ≡ false
 unfolding isFinite ofBits
 finite-zero = refl
 
-module _ (sizes : List ℕ) (ps ns ts : List Float) (work : ℕ) where
+module _ (mesh : Handed) (work : ℕ) where
   abbrev desk : Option Row
-  desk = refusal sizes ps ns ts work
+  desk = refusal mesh work
 
   -- neither 3 nor 5 is ever given
   pub never-3-5 : (x : Row) → desk ≡ some x → (x .number ≡ 3 → ⊥) × (x .number ≡ 5 → ⊥)
   unfolding verdict table tooMany
   never-3-5 x s =
-      let bad = badCorner 0 (meshFrom ps ns ts 0 sizes) in
-      never (ltb faceLimit (length sizes)) (misfit sizes ps ns ts) (not (isFinite zeroᶠ)) (isThere bad) (ltb longest (slotWords * slotCount sizes)) (ltb work (workWords * length sizes)) (orZero bad) x finite-zero
-      (λ e. lt-ltb faceLimit (length sizes) (omega (arith, ltb-true longest (slotWords * slotCount sizes) e, slots-few sizes))) s
+      let bad = notFinite mesh in
+      never (ltb faceLimit (length (mesh .sizes))) (misfit mesh) (not (isFinite zeroᶠ)) (isThere bad) (ltb longest (slotWords * slotCount (mesh .sizes))) (ltb work (workWords * length (mesh .sizes))) (orZero bad) x finite-zero
+      (λ e. lt-ltb faceLimit (length (mesh .sizes)) (omega (arith, ltb-true longest (slotWords * slotCount (mesh .sizes)) e, slots-few (mesh .sizes)))) s
 
-  numbered : (x : Row) → desk ≡ some x → (0 < x .number) × (x .number ≤ 6)
-  numbered x s = found-at _ x (verdict-numbered sizes ps ns ts zeroᶠ longest work) s .known
+  numbered : (x : Row) → desk ≡ some x → Numbered x
+  numbered x s = found-at _ x (verdict-numbered (shown mesh zeroᶠ longest work)) s .known
 
   -- there is a refusal or there is none
   pub either : {P : Type 0} → ((x : Row) → desk ≡ some x → P) → (desk ≡ none → P) → P
@@ -138,22 +138,22 @@ module _ (x : Asking) (a : Asked x) where
   abbrev ss : List Triangle
   ss = soundIn m
 
-  not-refused : a .returned .refusal ≡ 0 → refusal (m .sizes) (m .places) (m .normals) (m .texture) (length (x .work)) ≡ none
+  not-refused : a .returned .refusal ≡ 0 → refusal m (length (x .work)) ≡ none
   not-refused z =
-      either (m .sizes) (m .places) (m .normals) (m .texture) (length (x .work))
-      (λ r s. absurd (let n = numbered (m .sizes) (m .places) (m .normals) (m .texture) (length (x .work)) r s .0 in let e = a .meets .refused r s .number in omega arith))
+      either m (length (x .work))
+      (λ r s. absurd (let n = numbered m (length (x .work)) r s .0 in let e = a .meets .refused r s .number in omega arith))
       (λ n. n)
 
-  decision : a .returned .refusal ≡ 0 → Decided (m .sizes) (m .places) (m .normals) (m .texture) (x .links) (x .groups) (x .ways) (x .work) (a .returned) (a .work)
+  decision : a .returned .refusal ≡ 0 → Decided m (x .links) (x .groups) (x .ways) (x .work) (a .returned) (a .work)
   decision z = a .meets .decided (not-refused z)
 
   refused-with : (a .returned .refusal ≡ 0 → ⊥) → Refused x (a .returned) (a .work)
   refused-with ne =
-      either (m .sizes) (m .places) (m .normals) (m .texture) (length (x .work))
+      either m (length (x .work))
       (λ r s.
       let R = a .meets .refused r s in
-      let n = numbered (m .sizes) (m .places) (m .normals) (m .texture) (length (x .work)) r s in
-      let o = never-3-5 (m .sizes) (m .places) (m .normals) (m .texture) (length (x .work)) r s in
+      let n = numbered m (length (x .work)) r s in
+      let o = never-3-5 m (length (x .work)) r s in
       record {
         low = let e = R .number in let l = n .0 in omega arith;
         high = let e = R .number in let l = n .1 in omega arith;
@@ -191,7 +191,7 @@ module _ (x : Asking) (a : Asked x) where
 determined : (x : Asking) (a b : Asked x) → (a .returned ≡ b .returned) × (a .work ≡ b .work)
 determined x a b =
     let m = x .mesh in
-    either (m .sizes) (m .places) (m .normals) (m .texture) (length (x .work))
+    either m (length (x .work))
     (λ r s.
     let A = a .meets .refused r s in
     let B = b .meets .refused r s in
@@ -203,7 +203,7 @@ determined x a b =
     let A = a .meets .decided n in
     let B = b .meets .decided n in
     let p = A .number ∙ sym (B .number) in
-    let d = some-triangle (cornerAt (m .places) (m .normals) (m .texture) 0) in
+    let d = some-triangle (cornerAt (m .positions) (m .normals) (m .texture) 0) in
     let v = one-verdict x a d (A .number) (b .returned .objection) (b .returned .place) (B .decides .verdict d) in
     ((λ i. record { refusal = p i; objection = v .0 i; place = v .1 i }), A .work ∙ sym (B .work)))
 
@@ -222,12 +222,12 @@ examiner =
 -- ---- our own lists
 
 -- what steps 1 to 6 leave fits, in the words of the triangles
-module _ (sizes : List ℕ) (ps ns ts : List Float) (c : Counts) (w v : List ℕ) (K : Left sizes ps ns ts (trianglesOf sizes ps ns ts) c w v) (good : badCorner 0 (meshFrom ps ns ts 0 sizes) ≡ none) (d : Triangle) where
+module _ (mesh : Handed) (c : MeshCounts) (w v : List ℕ) (K : LeftBySix mesh c w v) (good : notFinite mesh ≡ none) (d : Triangle) where
   abbrev rows : ℕ
-  rows = rowsOf (length sizes)
+  rows = rowsOf (length (mesh .sizes))
 
   abbrev os : List Triangle
-  os = soundOf sizes ps ns ts
+  os = soundOf mesh
 
   abbrev L : List ℕ
   L = listOf (3 * c .sound) (λ r. cell rows linkColumn r v)
@@ -242,12 +242,12 @@ module _ (sizes : List ℕ) (ps ns ts : List Float) (c : Counts) (w v : List ℕ
   columns-fit : LinksFit (3 * length os) (Equal (λ x. cell rows vertexColumn x v)) L × GroupsFit (length os) (Equal (λ x. cell rows vertexColumn x v)) (λ t. cell rows anyColumn t v) (wayOf os d) L G O
   unfolding Promised
   columns-fit =
-      let W = own-columns sizes ps ns ts c w v K good d in
+      let W = own-columns mesh c w v K good d in
       subst (λ (n : ℕ). LinksFit (3 * n) (Equal (λ x. cell rows vertexColumn x v)) L × GroupsFit n (Equal (λ x. cell rows vertexColumn x v)) (λ t. cell rows anyColumn t v) (wayOf os d) L G O) (K .sound-count)
       (own-links rows (c .sound) (c .members) (wayOf os d) v W, own-groups rows (c .sound) (c .members) (wayOf os d) v W)
 
   welds-own : Welds rows os d v
-  welds-own = welded-words rows sizes ps ns ts (trianglesOf sizes ps ns ts) d c v (K .stands good d) (K .fits)
+  welds-own = welded-words rows mesh (trianglesOf mesh) d c v (K .stands good d) (K .fits)
 
   links-fit : LinksFit (3 * length os) (Same os d) L
   links-fit = links-like (length os) (Equal (λ x. cell rows vertexColumn x v)) (Same os d) L (to-same rows os d v welds-own) (from-same rows os d v welds-own) (columns-fit .0)
@@ -255,7 +255,7 @@ module _ (sizes : List ℕ) (ps ns ts : List Float) (c : Counts) (w v : List ℕ
   groups-fit : GroupsFit (length os) (Same os d) (anyOf os d) (wayOf os d) L G O
   groups-fit =
       groups-like (length os) (Equal (λ x. cell rows vertexColumn x v)) (Same os d) L (to-same rows os d v welds-own) (from-same rows os d v welds-own) (λ t. cell rows anyColumn t v) (anyOf os d) (wayOf os d) (wayOf os d) G O
-      (any-words rows sizes ps ns ts (trianglesOf sizes ps ns ts) d c v (K .stands good d) (K .fits)) (λ t h. refl) (columns-fit .0) (columns-fit .1)
+      (any-words rows mesh (trianglesOf mesh) d c v (K .stands good d) (K .fits)) (λ t h. refl) (columns-fit .0) (columns-fit .1)
 
   long-links : length L ≡ 3 * length os
   long-links = length-listOf (3 * c .sound) (λ r. cell rows linkColumn r v) ∙ ap (λ (n : ℕ). 3 * n) (K .sound-count)
@@ -277,20 +277,20 @@ module _ (x : Asking) (f : Fetched x) (z : f .returned .number ≡ 0) where
   abbrev h : Handed
   h = x .mesh
 
-  no-desk : refusal (h .sizes) (h .places) (h .normals) (h .texture) (length (x .work)) ≡ none
+  no-desk : refusal h (length (x .work)) ≡ none
   no-desk =
-      either (h .sizes) (h .places) (h .normals) (h .texture) (length (x .work))
-      (λ r s. absurd (let n = numbered (h .sizes) (h .places) (h .normals) (h .texture) (length (x .work)) r s .0 in let e = ap (λ (y : outcome.Handed). y .number) (f .meets .refused r s .is) in omega arith))
+      either h (length (x .work))
+      (λ r s. absurd (let n = numbered h (length (x .work)) r s .0 in let e = ap (λ (y : outcome.Owned). y .number) (f .meets .refused r s .is) in omega arith))
       (λ n. n)
 
   long : tooShort (length (h .sizes)) (length (x .links)) (length (x .groups)) (length (x .ways)) ≡ false
   long = go (tooShort (length (h .sizes)) (length (x .links)) (length (x .groups)) (length (x .ways))) refl
     where
       go : (b : Bool) → tooShort (length (h .sizes)) (length (x .links)) (length (x .groups)) (length (x .ways)) ≡ b → tooShort (length (h .sizes)) (length (x .links)) (length (x .groups)) (length (x .ways)) ≡ false
-      go true e = absurd (let n = ap (λ (y : outcome.Handed). y .number) (f .meets .short no-desk e .is) in omega arith)
+      go true e = absurd (let n = ap (λ (y : outcome.Owned). y .number) (f .meets .short no-desk e .is) in omega arith)
       go false e = e
 
-  pub given-out : HandedOut (h .sizes) (h .places) (h .normals) (h .texture) (x .links) (x .groups) (x .ways) (x .work) (f .returned .sound) (f .links) (f .groups) (f .ways) (f .work)
+  pub given-out : HandedOut h (x .links) (x .groups) (x .ways) (x .work) (f .returned .sound) (f .links) (f .groups) (f .ways) (f .work)
   given-out = f .meets .given no-desk long .handed
 
   pub place-is : f .returned .place ≡ 0
@@ -299,41 +299,41 @@ module _ (x : Asking) (f : Fetched x) (z : f .returned .number ≡ 0) where
   pub long-lists : (6 * length (h .sizes) ≤ length (x .links)) × (6 * length (h .sizes) ≤ length (x .groups)) × (2 * length (h .sizes) ≤ length (x .ways))
   long-lists = long-enough (length (h .sizes)) (length (x .links)) (length (x .groups)) (length (x .ways)) long
 
-  pub good-mesh : badCorner 0 (meshFrom (h .places) (h .normals) (h .texture) 0 (h .sizes)) ≡ none
-  good-mesh = fine (h .sizes) (h .places) (h .normals) (h .texture) zeroᶠ longest (length (x .work)) no-desk .good
+  pub good-mesh : notFinite h ≡ none
+  good-mesh = fine (shown h zeroᶠ longest (length (x .work))) no-desk .good
 
   module _ (y : Asking) (q : AboutOwn x f y) (d : Triangle) where
-    abbrev D : HandedOut (h .sizes) (h .places) (h .normals) (h .texture) (x .links) (x .groups) (x .ways) (x .work) (f .returned .sound) (f .links) (f .groups) (f .ways) (f .work)
+    abbrev D : HandedOut h (x .links) (x .groups) (x .ways) (x .work) (f .returned .sound) (f .links) (f .groups) (f .ways) (f .work)
     D = given-out
 
     fits : 3 * D .counts .sound ≤ rowsOf (length (h .sizes))
-    fits = grouped-fit (h .sizes) (h .places) (h .normals) (h .texture) _ (D .counts) (x .work) (D .v) (D .left)
+    fits = grouped-fit h (D .counts) (x .work) (D .v) (D .left)
 
-    same-links : y .links ≡ L (h .sizes) (h .places) (h .normals) (h .texture) (D .counts) (x .work) (D .v) (D .left) good-mesh d
+    same-links : y .links ≡ L h (D .counts) (x .work) (D .v) (D .left) good-mesh d
     same-links = q .links ∙ ((λ i. take (3 * D .sound i) (D .links i)) ∙ front-take _ (x .links) (3 * D .counts .sound) (omega (arith, fits, long-lists .0)))
 
-    same-groups : y .groups ≡ G (h .sizes) (h .places) (h .normals) (h .texture) (D .counts) (x .work) (D .v) (D .left) good-mesh d
+    same-groups : y .groups ≡ G h (D .counts) (x .work) (D .v) (D .left) good-mesh d
     same-groups = q .groups ∙ ((λ i. take (3 * D .sound i) (D .groups i)) ∙ front-take _ (x .groups) (3 * D .counts .sound) (omega (arith, fits, long-lists .1)))
 
-    same-ways : y .ways ≡ O (h .sizes) (h .places) (h .normals) (h .texture) (D .counts) (x .work) (D .v) (D .left) good-mesh d
+    same-ways : y .ways ≡ O h (D .counts) (x .work) (D .v) (D .left) good-mesh d
     same-ways = q .ways ∙ ((λ i. take (D .sound i) (D .ways i)) ∙ front-take _ (x .ways) (D .counts .sound) (omega (arith, fits, long-lists .2)))
 
     pub own-sound : Sound y d
     own-sound =
         record {
-          links = subst (λ (k : Handed). LinksAccepted (soundIn k) d (y .links)) (sym (q .mesh)) (subst (LinksAccepted (soundIn h) d) (sym same-links) (own-links-accepted (h .sizes) (h .places) (h .normals) (h .texture) (D .counts) (x .work) (D .v) (D .left) good-mesh d));
+          links = subst (λ (k : Handed). LinksAccepted (soundIn k) d (y .links)) (sym (q .mesh)) (subst (LinksAccepted (soundIn h) d) (sym same-links) (own-links-accepted h (D .counts) (x .work) (D .v) (D .left) good-mesh d));
           groups = subst (λ (k : Handed). GroupsAccepted (soundIn k) d (y .links) (y .groups) (y .ways)) (sym (q .mesh))
               (subst (λ (l : List ℕ). GroupsAccepted (soundIn h) d l (y .groups) (y .ways)) (sym same-links)
-              (subst (λ (l : List ℕ). GroupsAccepted (soundIn h) d (L (h .sizes) (h .places) (h .normals) (h .texture) (D .counts) (x .work) (D .v) (D .left) good-mesh d) l (y .ways)) (sym same-groups)
-              (subst (GroupsAccepted (soundIn h) d _ _) (sym same-ways) (own-groups-accepted (h .sizes) (h .places) (h .normals) (h .texture) (D .counts) (x .work) (D .v) (D .left) good-mesh d))));
+              (subst (λ (l : List ℕ). GroupsAccepted (soundIn h) d (L h (D .counts) (x .work) (D .v) (D .left) good-mesh d) l (y .ways)) (sym same-groups)
+              (subst (GroupsAccepted (soundIn h) d _ _) (sym same-ways) (own-groups-accepted h (D .counts) (x .work) (D .v) (D .left) good-mesh d))));
         }
 
     not-refused-own : (a : Asked y) → length (y .work) ≡ length (x .work) → a .returned .refusal ≡ 0
-    not-refused-own a e = a .meets .decided ((λ i. refusal (q .mesh i .sizes) (q .mesh i .places) (q .mesh i .normals) (q .mesh i .texture) (e i)) ∙ no-desk) .number
+    not-refused-own a e = a .meets .decided ((λ i. refusal (q .mesh i) (e i)) ∙ no-desk) .number
 
 pub own-accepted : OwnAccepted
 unfolding OwnAccepted
 own-accepted x f z y q a =
     let m = x .mesh in
-    let d = some-triangle (cornerAt (m .places) (m .normals) (m .texture) 0) in
+    let d = some-triangle (cornerAt (m .positions) (m .normals) (m .texture) 0) in
     ((λ e. takes y a d e (own-sound x f z y q d)), not-refused-own x f z y q d a)

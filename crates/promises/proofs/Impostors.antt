@@ -5,9 +5,9 @@ use mathlib.Core.List.{[], _∷_, _++_}
 use mathlib.Core.Logic.{_⊎_, inl, inr}
 use lib.ListN.{take}
 use Rattle.tangent.specs.Slot.{slotWords}
-use Rattle.definition.specs.Handed.{used, cornerCount, slotsOf, slotCount}
+use Rattle.definition.specs.Handed.{Call, used, cornerCount, slotsOf, slotCount}
 use Rattle.definition.proofs.Samples as samples
-use Rattle.promises.specs.Calls.{Call, leaves, Accepted}
+use Rattle.promises.specs.Calls.{leaves, Accepted}
 use Rattle.promises.specs.Small.{one, minusOne, up, lying, triangle, sample1, sample2, fan, fanFirst, mirror, there, thrice, takenWith}
 use Rattle.promises.specs.Demand1 as Demand1
 use Rattle.promises.specs.Demand1.{Refused, Taken}

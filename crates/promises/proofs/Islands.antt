@@ -5,11 +5,11 @@ use mathlib.Core.Path.{_≡_, refl, sym, _∙_, ap, subst}
 use mathlib.Core.Bool.{Bool, true, false}
 use mathlib.Core.Option.{Option, none, some}
 use lib.ListN.{getD}
-use Rattle.definition.specs.Handed.{meshFrom}
+use Rattle.laws.proofs.Verdict.{InTable}
+use Rattle.definition.specs.Handed.{Call, meshOf}
 use Rattle.definition.specs.Desk.{Row}
 use Rattle.definition.specs.Outcome.{Result, accepted, answered, outcome}
-use Rattle.laws.proofs.Part.{Each, each-none, each-some}
-use Rattle.laws.proofs.Closed.{Found}
+use Rattle.lists.specs.Every.{Each, each-none, each-some}
 use Rattle.mikktspace.specs.Contract.{left}
 use Rattle.islands.specs.Islands.{Given}
 use Rattle.islands.proofs.Agree.{given}
@@ -19,28 +19,28 @@ use Rattle.apart.specs.Call.{Own, short, acceptedOf, ownAfter, ownLeft, leaving
 use Rattle.apart.proofs.Call.{same-result, outcome-by}
 use Rattle.islands.proofs.Labels.{label-at}
 use Rattle.apart.proofs.Finishing.{long-is}
-use Rattle.promises.specs.Calls.{Call, meshOf, leaves, Accepted}
+use Rattle.promises.specs.Calls.{leaves, Accepted}
 use Rattle.promises.specs.Islands.{Made, remains, facesOf, Entries, Promised}
 use Rattle.promises.proofs.Acceptance.{verdictOf, numbered, no-row}
 
 module _ (x : Call) (o : Own) where
   abbrev taken : Result
-  taken = acceptedOf (x .mesh .sizes) (x .mesh .places) (x .mesh .normals) (x .mesh .texture) (x .threshold) (x .answer) (x .work)
+  taken = acceptedOf x
 
   abbrev after : Own
-  after = ownAfter (x .mesh .sizes) (x .mesh .places) (x .mesh .normals) (x .mesh .texture) o
+  after = ownAfter (x .mesh) o
 
   -- what one call leaves, by the verdict
-  leaves-by : (v : Option Row) → verdictOf x ≡ v → leaves x ≡ answered v (accepted (x .mesh .sizes) (x .mesh .places) (x .mesh .normals) (x .mesh .texture) (x .threshold) (x .answer) (x .work)) (x .answer) (x .work)
+  leaves-by : (v : Option Row) → verdictOf x ≡ v → leaves x ≡ answered v (accepted x) (x .answer) (x .work)
   unfolding leaves outcome
-  leaves-by v e = ap (λ u. answered u (accepted (x .mesh .sizes) (x .mesh .places) (x .mesh .normals) (x .mesh .texture) (x .threshold) (x .answer) (x .work)) (x .answer) (x .work)) e
+  leaves-by v e = ap (λ u. answered u (accepted x) (x .answer) (x .work)) e
 
   -- one call is never refused with 9
   not-nine : leaves x .number ≡ 9 → ⊥
   unfolding answered accepted
   not-nine = go (verdictOf x) (numbered x) refl
     where
-      go : (v : Option Row) → Each (Found (λ r. r .applies) (λ r. (0 < r .number) × (r .number ≤ 6))) v → verdictOf x ≡ v → leaves x .number ≡ 9 → ⊥
+      go : (v : Option Row) → Each InTable v → verdictOf x ≡ v → leaves x .number ≡ 9 → ⊥
       go none each-none e k = let z = ap (λ r. r .number) (leaves-by none e) in omega (arith, z, k)
       go (some r) (each-some f) e k = let z = ap (λ r. r .number) (leaves-by (some r) e) in omega (arith, z, k, f .known .1)
 
@@ -48,11 +48,11 @@ module _ (x : Call) (o : Own) where
     -- what it left, by the verdict and by whether its own lists are too short
     result-by : (v : Option Row) (s : Bool) → verdictOf x ≡ v → short (facesOf x) o ≡ s → remains m ≡ answered (afterwards v s) taken (x .answer) (x .work)
     unfolding leaving
-    result-by v s e f = ap (λ z. z .result) (m .meets ∙ outcome-by (x .mesh .sizes) (x .mesh .places) (x .mesh .normals) (x .mesh .texture) (x .threshold) (x .answer) (x .work) o v s e f)
+    result-by v s e f = ap (λ z. z .result) (m .meets ∙ outcome-by (x .mesh) (x .threshold) (x .answer) (x .work) o v s e f)
 
     own-by : (v : Option Row) (s : Bool) → verdictOf x ≡ v → short (facesOf x) o ≡ s → m .own ≡ ownLeft (afterwards v s) after o
     unfolding leaving
-    own-by v s e f = ap (λ z. z .own) (m .meets ∙ outcome-by (x .mesh .sizes) (x .mesh .places) (x .mesh .normals) (x .mesh .texture) (x .threshold) (x .answer) (x .work) o v s e f)
+    own-by v s e f = ap (λ z. z .own) (m .meets ∙ outcome-by (x .mesh) (x .threshold) (x .answer) (x .work) o v s e f)
 
     number-by : (v : Option Row) (s : Bool) → verdictOf x ≡ v → short (facesOf x) o ≡ s → m .returned .number ≡ answered (afterwards v s) taken (x .answer) (x .work) .number
     unfolding left
@@ -60,7 +60,7 @@ module _ (x : Call) (o : Own) where
 
     same-is : short (facesOf x) o ≡ false → remains m ≡ leaves x
     unfolding leaves leaving
-    same-is e = ap (λ z. z .result) (m .meets) ∙ same-result (x .mesh .sizes) (x .mesh .places) (x .mesh .normals) (x .mesh .texture) (x .threshold) (x .answer) (x .work) o e
+    same-is e = ap (λ z. z .result) (m .meets) ∙ same-result (x .mesh) (x .threshold) (x .answer) (x .work) o e
 
     first-is : (leaves x .number ≡ 0 → ⊥) → (remains m ≡ leaves x) × (m .own ≡ o)
     unfolding answered accepted afterwards ownLeft
@@ -79,7 +79,7 @@ module _ (x : Call) (o : Own) where
     unfolding answered acceptedOf afterwards
     accepted-of k = go (verdictOf x) (numbered x) refl (short (facesOf x) o) refl
       where
-        go : (v : Option Row) → Each (Found (λ r. r .applies) (λ r. (0 < r .number) × (r .number ≤ 6))) v → verdictOf x ≡ v → (s : Bool) → short (facesOf x) o ≡ s → (verdictOf x ≡ none) × (short (facesOf x) o ≡ false)
+        go : (v : Option Row) → Each InTable v → verdictOf x ≡ v → (s : Bool) → short (facesOf x) o ≡ s → (verdictOf x ≡ none) × (short (facesOf x) o ≡ false)
         go none each-none e false f = (e, f)
         go none each-none e true f = let z = number-by none true e f in absurd (omega (arith, z, k))
         go (some r) (each-some g) e s f = let z = number-by (some r) s e f in absurd (omega (arith, z, k, g .known .0))
@@ -89,11 +89,11 @@ module _ (x : Call) (o : Own) where
     cleared-is k = let e = accepted-of k in own-by none false (e .0) (e .1)
 
     labelled-is : m .returned .number ≡ 0 → (f : ℕ) → f < facesOf x → Given (meshOf (x .mesh)) f (getD (m .own .labels) f 0)
-    unfolding ownAfter meshOf
+    unfolding ownAfter
     labelled-is k f h =
-        subst (λ n. Given (meshFrom (x .mesh .places) (x .mesh .normals) (x .mesh .texture) 0 (x .mesh .sizes)) f n)
-        (sym (ap (λ z. getD (z .labels) f 0) (cleared-is k) ∙ label-at (x .mesh .sizes) (x .mesh .places) (x .mesh .normals) (x .mesh .texture) (o .labels) f h))
-        (given (meshFrom (x .mesh .places) (x .mesh .normals) (x .mesh .texture) 0 (x .mesh .sizes)) f)
+        subst (λ n. Given (meshOf (x .mesh)) f n)
+        (sym (ap (λ z. getD (z .labels) f 0) (cleared-is k) ∙ label-at (x .mesh) (o .labels) f h))
+        (given (meshOf (x .mesh)) f)
 
   determined-is : (m n : Made x o) → (m .returned ≡ n .returned) × (m .answer ≡ n .answer) × (m .work ≡ n .work) × (m .own ≡ n .own)
   unfolding leaving left

@@ -7,7 +7,7 @@ use mathlib.Core.List.{List}
 use mathlib.Core.Option.{Option, none, some}
 use lib.ListN.{length, getD}
 use Rattle.definition.specs.declared.Corner.{Corner}
-use Rattle.definition.specs.Handed.{meshFrom}
+use Rattle.definition.specs.Handed.{Handed, meshOf}
 use Rattle.definition.specs.Desk.{Row}
 use Rattle.islands.specs.Islands.{Chain, alone, onward, counted, Given, lowest, other, islandOf}
 use Rattle.islands.proofs.Chains.{chain-join, touches-counted, touches-sym}
@@ -16,15 +16,14 @@ use Rattle.islands.proofs.Labels.{label-at}
 use Rattle.labels.specs.Labels.{Leaving, left, answered, acceptedLabels, labelsVerdict, labelsOutcome, ownNumbers, islandCount}
 use Rattle.labels.proofs.Counting.{own-same}
 use Rattle.labels.proofs.Verdicts.{given-number}
-use Rattle.promises.specs.Calls.{Handed, meshOf}
 use Rattle.promises.specs.Labels.{Made, numberOf, Promised}
 
 module _ (x : Handed) (l w : List ℕ) (m : Made x l w) where
   abbrev verdictOf : Option Row
-  verdictOf = labelsVerdict (x .sizes) (x .places) (x .normals) (x .texture) (length l) (length w)
+  verdictOf = labelsVerdict x (length l) (length w)
 
   abbrev taken : Leaving
-  taken = acceptedLabels (x .sizes) (x .places) (x .normals) (x .texture) l w
+  taken = acceptedLabels x l w
 
   abbrev remains : Leaving
   remains = left (m .returned) (m .labels) (m .work)
@@ -41,21 +40,21 @@ module _ (x : Handed) (l w : List ℕ) (m : Made x l w) where
     where
       go : (o : Option Row) → verdictOf ≡ o → remains ≡ taken
       go none e = left-by none e
-      go (some r) e = let g = given-number (x .sizes) (x .places) (x .normals) (x .texture) (length l) (length w) r e in let q = ap (λ z. z .number) (left-by (some r) e) in absurd (omega (arith, g, q, k))
+      go (some r) e = let g = given-number x (length l) (length w) r e in let q = ap (λ z. z .number) (left-by (some r) e) in absurd (omega (arith, g, q, k))
 
   labelled-is : m .returned .number ≡ 0 → (f : ℕ) → f < length (x .sizes) → Given (meshOf x) f (numberOf m f)
-  unfolding left acceptedLabels meshOf
+  unfolding left acceptedLabels
   labelled-is k f h =
-      subst (λ n. Given (meshFrom (x .places) (x .normals) (x .texture) 0 (x .sizes)) f n)
-      (sym (ap (λ z. getD (z .labels) f 0) (accepted-of k) ∙ label-at (x .sizes) (x .places) (x .normals) (x .texture) l f h))
-      (given (meshFrom (x .places) (x .normals) (x .texture) 0 (x .sizes)) f)
+      subst (λ n. Given (meshOf x) f n)
+      (sym (ap (λ z. getD (z .labels) f 0) (accepted-of k) ∙ label-at x l f h))
+      (given (meshOf x) f)
 
   counts-is : m .returned .number ≡ 0 → m .returned .islands ≡ ownNumbers (length (x .sizes)) (numberOf m)
   unfolding left acceptedLabels islandCount
   counts-is k =
       let e = accepted-of k in
       ap (λ z. z .islands) e
-      ∙ own-same (length (x .sizes)) (islandOf (meshFrom (x .places) (x .normals) (x .texture) 0 (x .sizes))) (numberOf m) (λ f h. sym (ap (λ z. getD (z .labels) f 0) e ∙ label-at (x .sizes) (x .places) (x .normals) (x .texture) l f h))
+      ∙ own-same (length (x .sizes)) (islandOf (meshOf x)) (numberOf m) (λ f h. sym (ap (λ z. getD (z .labels) f 0) e ∙ label-at x l f h))
 
   refused-is : (m .returned .number ≡ 0 → ⊥) → (m .returned .islands ≡ 0) × (m .labels ≡ l) × (m .work ≡ w)
   unfolding left answered acceptedLabels

@@ -25,3 +25,4 @@ pub mod Labels
 pub mod Examiner
 pub mod OwnGiven
 pub mod ThreeSides
+pub mod All

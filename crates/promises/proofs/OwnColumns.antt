@@ -6,7 +6,6 @@ use mathlib.Core.Bool.{Bool, true, false, not, _&&_, true≢false}
 use mathlib.Core.List.{List, [], _++_, _∷_, List·Memᴰ, List·Memᴰ·head, List·Memᴰ·tail}
 use mathlib.Core.Option.{Option, none, some, Option·some-injective, Option·none-ne-some}
 use lib.ListN.{length, getD, take, drop, length-append, List·getD-append}
-use lib.Ieee.{Float}
 use lib.Seq.{split-at}
 use borrow.Author.Tests.{eq-eqb, eqb-true}
 use Rattle.tangent.specs.Slot.{flag}
@@ -14,24 +13,22 @@ use Rattle.table.specs.Table.{cell}
 use Rattle.table.specs.Columns.{rowsOf, orientationColumn, anyColumn, vertexColumn, linkColumn, groupColumn, metColumn, beginColumn}
 use Rattle.definition.specs.declared.Corner.{Corner}
 use Rattle.definition.specs.declared.Triangle.{Triangle}
-use Rattle.definition.specs.Handed.{meshFrom}
-use Rattle.definition.specs.Triangles.{triangles}
-use Rattle.definition.specs.Frames.{numbered}
+use Rattle.definition.specs.Handed.{Handed}
+use Rattle.definition.specs.Frames.{trianglesOf}
 use Rattle.definition.specs.Mesh.{Third, one, two, three, kept, Spot, after, before, next, prior, cornerOf, sameSpot, sameTriangle}
 use Rattle.definition.specs.Step4Order.{sound, broken, spots, welded}
 use Rattle.definition.specs.Step5Links.{endOf, opposite, links, beyond}
 use Rattle.definition.specs.Step6Groups.{Mark, marks, cornerIn, overTo, over}
-use Rattle.laws.proofs.Closed.{links-sound}
+use Rattle.laws.proofs.Closed.{links-sound, first-found, each-map}
 use Rattle.laws.proofs.Laws as laws
 use Rattle.laws.proofs.Laws.{mark, tri-refl}
 use Rattle.laws.proofs.Reached.{facing-own}
-use Rattle.laws.proofs.Part.{Every, every-nil, every-cons}
+use Rattle.lists.specs.Every.{Every, every-nil, every-cons}
 use Rattle.laws.proofs.Sharp as one-triangle
 use Rattle.laws.proofs.Bridge.{index-same}
 use Rattle.laws.proofs.Weld.{welded-refl, found-at}
-use Rattle.laws.proofs.Mutual.{Names}
+use Rattle.definition.specs.Names.{Names}
 use Rattle.bits.proofs.Bools.{and-left, and-right}
-use Rattle.laws.proofs.Closed.{first-found, each-map}
 use Rattle.laws.proofs.Enough.{spot-refl}
 use Rattle.view.specs.Rows.{row, third, spotAt}
 use Rattle.view.specs.Weld.{Welds, Sharp}
@@ -42,7 +39,7 @@ use Rattle.view.proofs.Frame.{cell-kept}
 use Rattle.view.proofs.Weld.{welds, sound-welds, vertices-kept}
 use Rattle.view.proofs.Lists.{every-index, index-every}
 use Rattle.view.proofs.Rows.{row-inj, at-inj, row-is, tri-lt, row-lt, row-div, spot-row, spot-in}
-use Rattle.grouped.specs.declared.Counts.{Counts}
+use Rattle.grouped.specs.declared.MeshCounts.{MeshCounts}
 use Rattle.grouped.specs.Grouped.{groupedColumns, Six}
 use Rattle.members.proofs.Ordering.{member-of}
 use Rattle.asked.specs.Meaning.{wayOf}
@@ -289,7 +286,7 @@ module _ (rows : ℕ) (ss : List Triangle) (d : Triangle) (groups : ℕ) (w : Li
 
 -- ---- what steps 1 to 6 leave
 
-module _ (rows : ℕ) (sizes : List ℕ) (ps ns ts : List Float) (xs : List Triangle) (d : Triangle) (c : Counts) (u : List ℕ) (six : Six rows sizes ps ns ts xs d c u) (room : 3 * length (sound xs ++ broken xs) ≤ rows) where
+module _ (rows : ℕ) (mesh : Handed) (xs : List Triangle) (d : Triangle) (c : MeshCounts) (u : List ℕ) (six : Six rows mesh xs d c u) (room : 3 * length (sound xs ++ broken xs) ≤ rows) where
   abbrev ss : List Triangle
   ss = sound xs
 
@@ -394,4 +391,4 @@ module _ (rows : ℕ) (sizes : List ℕ) (ps ns ts : List Float) (xs : List Tria
 
 pub own-columns : Promised
 unfolding Promised
-own-columns sizes ps ns ts c w u l good d = own-words (rowsOf (length sizes)) sizes ps ns ts (triangles (numbered 0 (meshFrom ps ns ts 0 sizes))) d c u (l .stands good d) (l .fits) (l .sound-count)
+own-columns mesh c w u l good d = own-words (rowsOf (length (mesh .sizes))) mesh (trianglesOf mesh) d c u (l .stands good d) (l .fits) (l .sound-count)

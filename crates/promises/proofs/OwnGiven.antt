@@ -9,38 +9,37 @@ use mathlib.Core.Option.{Option, none, some, Option·some-injective, Option·non
 use lib.Dec.{eqb}
 use lib.ListN.{length, getD, take, drop, length-append}
 use lib.Seq.{sets, sets-eq, drop-append-seam}
-use lib.Ieee.{Float}
 use borrow.Author.Tests.{eq-eqb, eqb-true, eqb-false}
+use Rattle.definition.specs.Frames.{trianglesOf}
 use Rattle.tangent.specs.Slot.{flag}
 use Rattle.table.specs.Table.{cell}
-use Rattle.table.specs.Loop.{listOf}
+use Rattle.lists.specs.Loops.{listOf}
 use Rattle.table.specs.Columns.{rowsOf, orientationColumn, linkColumn, groupColumn, metColumn, beginColumn}
-use Rattle.table.proofs.Loops.{length-listOf, getD-listOf}
+use Rattle.lists.proofs.Loops.{length-listOf, getD-listOf}
 use Rattle.definition.specs.declared.Triangle.{Triangle}
-use Rattle.definition.specs.Handed.{cornerAt, meshFrom}
-use Rattle.definition.specs.Desk.{badCorner}
+use Rattle.definition.specs.Handed.{Handed, cornerAt}
+use Rattle.definition.specs.Desk.{notFinite}
 use Rattle.definition.specs.Mesh.{Third, one, Spot, sameSpot}
 use Rattle.definition.specs.Step4Order.{sound, broken}
 use Rattle.definition.specs.Step5Links.{links, beyond}
 use Rattle.definition.specs.Step6Groups.{Mark, marks, grouped, facing}
 use Rattle.laws.proofs.Closed.{links-sound}
 use Rattle.laws.proofs.Laws.{mark, some-triangle}
-use Rattle.laws.proofs.Mutual.{Names}
+use Rattle.definition.specs.Names.{Names}
 use Rattle.view.specs.Rows.{row, third, spotAt}
 use Rattle.view.specs.Links.{LinkWord, nowhere, towards}
 use Rattle.view.specs.Groups.{numberOf, Grouping}
 use Rattle.view.proofs.Lists.{listOf-same}
 use Rattle.view.proofs.Rows.{row-is, tri-lt, row-lt, row-inj, at-inj}
 use Rattle.members.proofs.Ordering.{member-of}
-use Rattle.grouped.specs.declared.Counts.{Counts}
-use Rattle.grouped.specs.Grouped.{Six, Left}
+use Rattle.grouped.specs.declared.MeshCounts.{MeshCounts}
+use Rattle.grouped.specs.Grouped.{Six, LeftBySix}
 use Rattle.asked.proofs.Fits.{ordered}
-use Rattle.examine.specs.declared.Handed as outcome
-use Rattle.examine.specs.Contract.{refusal, trianglesOf, soundOf, tooShort, front, Withheld, HandedOut}
+use Rattle.examine.specs.declared.Owned as outcome
+use Rattle.examine.specs.Contract.{refusal, soundOf, tooShort, front, Withheld, HandedOut}
 use Rattle.examine.proofs.Columns.{grouped-fit}
 use Rattle.examine.proofs.Fronts.{front-take}
 use Rattle.examine.proofs.Results.{long-enough}
-use Rattle.promises.specs.Calls.{Handed}
 use Rattle.promises.specs.Examiner.{Asking, Fetched, soundIn, groupNumber, Own, OwnGiven, OwnLists}
 use Rattle.promises.proofs.OwnColumns.{same-row, linked-words}
 use Rattle.promises.proofs.Examiner.{either, given-out, good-mesh, long-lists, place-is}
@@ -146,17 +145,17 @@ module _ (x : Asking) (f : Fetched x) (z : f .returned .number ≡ 0) (d : Trian
   abbrev rows : ℕ
   rows = rowsOf (length (m .sizes))
 
-  abbrev D : HandedOut (m .sizes) (m .places) (m .normals) (m .texture) (x .links) (x .groups) (x .ways) (x .work) (f .returned .sound) (f .links) (f .groups) (f .ways) (f .work)
+  abbrev D : HandedOut m (x .links) (x .groups) (x .ways) (x .work) (f .returned .sound) (f .links) (f .groups) (f .ways) (f .work)
   D = given-out x f z
 
   abbrev n : ℕ
   n = D .counts .sound
 
-  abbrev six : Six rows (m .sizes) (m .places) (m .normals) (m .texture) (trianglesOf (m .sizes) (m .places) (m .normals) (m .texture)) d (D .counts) (D .v)
+  abbrev six : Six rows m (trianglesOf m) d (D .counts) (D .v)
   six = D .left .stands (good-mesh x f z) d
 
   fits : 3 * n ≤ rows
-  fits = grouped-fit (m .sizes) (m .places) (m .normals) (m .texture) _ (D .counts) (x .work) (D .v) (D .left)
+  fits = grouped-fit m (D .counts) (x .work) (D .v) (D .left)
 
   room : (6 * length (m .sizes) ≤ length (x .links)) × (6 * length (m .sizes) ≤ length (x .groups)) × (2 * length (m .sizes) ≤ length (x .ways))
   room = long-lists x f z
@@ -191,7 +190,7 @@ module _ (x : Asking) (f : Fetched x) (z : f .returned .number ≡ 0) (d : Trian
           long-links = ap length front-links ∙ (length-listOf (3 * n) (λ r. cell rows linkColumn r (D .v)) ∙ ap (λ (k : ℕ). 3 * k) count);
           long-groups = ap length front-groups ∙ (length-listOf (3 * n) (λ r. cell rows groupColumn r (D .v)) ∙ ap (λ (k : ℕ). 3 * k) count);
           long-ways = ap length front-ways ∙ (length-listOf n (λ t. cell rows orientationColumn t (D .v)) ∙ count);
-          link = λ t i h. subst (LinkWord ss d (beyond (links ss) (spotAt ss d t i))) (sym (link-at t i h)) (linked-words rows (m .sizes) (m .places) (m .normals) (m .texture) _ d (D .counts) (D .v) six (D .left .fits) t i h);
+          link = λ t i h. subst (LinkWord ss d (beyond (links ss) (spotAt ss d t i))) (sym (link-at t i h)) (linked-words rows m _ d (D .counts) (D .v) six (D .left .fits) t i h);
           group = λ j t i h k s. group-at t i k ∙ group-is rows ss d (D .counts .groups) (D .v) e (six .grouping) (six .five .names) j t i h k s;
           free = λ t i h g. group-at t i h ∙ free-is rows ss d (D .counts .groups) (D .v) e (six .grouping) (six .five .names) t i h g;
           way = λ t h. ap (λ (l : List ℕ). getD l t 0) front-ways ∙ (getD-listOf n (λ t. cell rows orientationColumn t (D .v)) 0 t (subst (λ (k : ℕ). t < k) (sym count) h) ∙ six .grouping .way t h);
@@ -203,23 +202,23 @@ module _ (x : Asking) (f : Fetched x) (z : f .returned .number ≡ 0) (d : Trian
       }
 
 -- two outcomes of one call
-module _ (sizes : List ℕ) (ps ns ts : List Float) (L G O w : List ℕ) (good : badCorner 0 (meshFrom ps ns ts 0 sizes) ≡ none) (p q : ℕ) (L₁ G₁ O₁ u₁ L₂ G₂ O₂ u₂ : List ℕ) (A : HandedOut sizes ps ns ts L G O w p L₁ G₁ O₁ u₁) (B : HandedOut sizes ps ns ts L G O w q L₂ G₂ O₂ u₂) where
+module _ (mesh : Handed) (L G O w : List ℕ) (good : notFinite mesh ≡ none) (p q : ℕ) (L₁ G₁ O₁ u₁ L₂ G₂ O₂ u₂ : List ℕ) (A : HandedOut mesh L G O w p L₁ G₁ O₁ u₁) (B : HandedOut mesh L G O w q L₂ G₂ O₂ u₂) where
   abbrev os : List Triangle
-  os = soundOf sizes ps ns ts
+  os = soundOf mesh
 
   abbrev rs : ℕ
-  rs = rowsOf (length sizes)
+  rs = rowsOf (length (mesh .sizes))
 
   dᵒ : Triangle
-  dᵒ = some-triangle (cornerAt ps ns ts 0)
+  dᵒ = some-triangle (cornerAt (mesh .positions) (mesh .normals) (mesh .texture) 0)
 
   eᵒ : Mark
   eᵒ = mark (spotAt os dᵒ 0 one) (spotAt os dᵒ 0 one)
 
-  abbrev six-a : Six rs sizes ps ns ts (trianglesOf sizes ps ns ts) dᵒ (A .counts) (A .v)
+  abbrev six-a : Six rs mesh (trianglesOf mesh) dᵒ (A .counts) (A .v)
   six-a = A .left .stands good dᵒ
 
-  abbrev six-b : Six rs sizes ps ns ts (trianglesOf sizes ps ns ts) dᵒ (B .counts) (B .v)
+  abbrev six-b : Six rs mesh (trianglesOf mesh) dᵒ (B .counts) (B .v)
   six-b = B .left .stands good dᵒ
 
   rows-same : (j : ℕ) (X : List ℕ) → ((t : ℕ) (i : Third) → t < length os → cell rs j (row t i) (A .v) ≡ cell rs j (row t i) (B .v)) → front rs j (3 * A .counts .sound) (A .v) X ≡ front rs j (3 * B .counts .sound) (B .v) X
@@ -234,7 +233,7 @@ module _ (sizes : List ℕ) (ps ns ts : List Float) (L G O w : List ℕ) (good :
   one-links =
       A .links
       ∙ (rows-same linkColumn L
-      (λ t i h. one-link os dᵒ (six-a .five .names) _ _ _ _ (linked-words rs sizes ps ns ts _ dᵒ (A .counts) (A .v) six-a (A .left .fits) t i h) (linked-words rs sizes ps ns ts _ dᵒ (B .counts) (B .v) six-b (B .left .fits) t i h) refl)
+      (λ t i h. one-link os dᵒ (six-a .five .names) _ _ _ _ (linked-words rs mesh _ dᵒ (A .counts) (A .v) six-a (A .left .fits) t i h) (linked-words rs mesh _ dᵒ (B .counts) (B .v) six-b (B .left .fits) t i h) refl)
       ∙ sym (B .links))
 
   pub one-groups : G₁ ≡ G₂
@@ -250,14 +249,14 @@ module _ (sizes : List ℕ) (ps ns ts : List Float) (L G O w : List ℕ) (good :
 pub one-outcome : (x : Asking) (f g : Fetched x) → (f .returned ≡ g .returned) × (f .links ≡ g .links) × (f .groups ≡ g .groups) × (f .ways ≡ g .ways) × (f .work ≡ g .work)
 one-outcome x f g =
     let m = x .mesh in
-    either (m .sizes) (m .places) (m .normals) (m .texture) (length (x .work))
+    either m (length (x .work))
     (λ r s. same-withheld (r .number) (r .place) (f .meets .refused r s) (g .meets .refused r s))
     (λ n. go n (tooShort (length (m .sizes)) (length (x .links)) (length (x .groups)) (length (x .ways))) refl)
   where
     same-withheld : (a b : ℕ) → Withheld a b (x .links) (x .groups) (x .ways) (x .work) (f .returned) (f .links) (f .groups) (f .ways) (f .work) → Withheld a b (x .links) (x .groups) (x .ways) (x .work) (g .returned) (g .links) (g .groups) (g .ways) (g .work) → (f .returned ≡ g .returned) × (f .links ≡ g .links) × (f .groups ≡ g .groups) × (f .ways ≡ g .ways) × (f .work ≡ g .work)
     same-withheld a b A B = (A .is ∙ sym (B .is), A .links ∙ sym (B .links), A .groups ∙ sym (B .groups), A .ways ∙ sym (B .ways), A .work ∙ sym (B .work))
 
-    go : refusal (x .mesh .sizes) (x .mesh .places) (x .mesh .normals) (x .mesh .texture) (length (x .work)) ≡ none → (b : Bool) → tooShort (length (x .mesh .sizes)) (length (x .links)) (length (x .groups)) (length (x .ways)) ≡ b → (f .returned ≡ g .returned) × (f .links ≡ g .links) × (f .groups ≡ g .groups) × (f .ways ≡ g .ways) × (f .work ≡ g .work)
+    go : refusal (x .mesh) (length (x .work)) ≡ none → (b : Bool) → tooShort (length (x .mesh .sizes)) (length (x .links)) (length (x .groups)) (length (x .ways)) ≡ b → (f .returned ≡ g .returned) × (f .links ≡ g .links) × (f .groups ≡ g .groups) × (f .ways ≡ g .ways) × (f .work ≡ g .work)
     go n true e = same-withheld 9 0 (f .meets .short n e) (g .meets .short n e)
     go n false e =
         let m = x .mesh in
@@ -266,11 +265,11 @@ one-outcome x f g =
         let good = good-mesh x f (A .number) in
         let p = A .number ∙ sym (B .number) in
         let q = A .place ∙ sym (B .place) in
-        let s = one-sound (m .sizes) (m .places) (m .normals) (m .texture) (x .links) (x .groups) (x .ways) (x .work) good _ _ _ _ _ _ _ _ _ _ (A .handed) (B .handed) in (
+        let s = one-sound m (x .links) (x .groups) (x .ways) (x .work) good _ _ _ _ _ _ _ _ _ _ (A .handed) (B .handed) in (
           (λ i. record { number = p i; place = q i; sound = s i }),
-          one-links (m .sizes) (m .places) (m .normals) (m .texture) (x .links) (x .groups) (x .ways) (x .work) good _ _ _ _ _ _ _ _ _ _ (A .handed) (B .handed),
-          one-groups (m .sizes) (m .places) (m .normals) (m .texture) (x .links) (x .groups) (x .ways) (x .work) good _ _ _ _ _ _ _ _ _ _ (A .handed) (B .handed),
-          one-ways (m .sizes) (m .places) (m .normals) (m .texture) (x .links) (x .groups) (x .ways) (x .work) good _ _ _ _ _ _ _ _ _ _ (A .handed) (B .handed),
+          one-links m (x .links) (x .groups) (x .ways) (x .work) good _ _ _ _ _ _ _ _ _ _ (A .handed) (B .handed),
+          one-groups m (x .links) (x .groups) (x .ways) (x .work) good _ _ _ _ _ _ _ _ _ _ (A .handed) (B .handed),
+          one-ways m (x .links) (x .groups) (x .ways) (x .work) good _ _ _ _ _ _ _ _ _ _ (A .handed) (B .handed),
           A .handed .work ∙ sym (B .handed .work),
         )
 

@@ -3,27 +3,27 @@ use mathlib.Core.Path.{_≡_, ap, _∙_}
 use mathlib.Core.Bool.{false}
 use mathlib.Core.List.{List}
 use lib.ListN.{length}
+use Rattle.definition.specs.Desk.{shown}
 use Rattle.definition.specs.declared.Corner.{Corner}
 use Rattle.definition.specs.declared.Triangle.{Triangle}
 use Rattle.definition.specs.Mesh.{Spot, next, cornerOf}
 use Rattle.definition.specs.Frames.{numbered}
-use Rattle.definition.specs.Handed.{meshFrom}
+use Rattle.definition.specs.Handed.{handed, meshFrom}
 use Rattle.definition.specs.Triangles.{triangles}
 use Rattle.definition.specs.Step4Order.{isSound, sound, welded}
 use Rattle.definition.specs.Step5Links.{endOf, links}
 use Rattle.definition.specs.Step6Groups.{Mark, facing}
-use Rattle.laws.proofs.Closed.{links-sound}
-use Rattle.laws.proofs.Part.{Every}
-use Rattle.laws.proofs.Mutual.{Names, every-at, mutual′}
+use Rattle.laws.proofs.Closed.{links-sound, spots-every}
+use Rattle.lists.specs.Every.{Every}
+use Rattle.definition.specs.Names.{Names}
+use Rattle.laws.proofs.Mutual.{every-at, mutual′}
 use Rattle.laws.proofs.Numbers.{names-keep, triangles-names}
 use Rattle.laws.proofs.Sharp.{Sharp, sharp-ends, mesh-sharp, accepted-real}
-use Rattle.laws.proofs.Closed.{spots-every}
 use Rattle.laws.proofs.Laws as laws
 use Rattle.laws.proofs.Leftover as left
 use Rattle.laws.proofs.Reached as reach
 use Rattle.laws.proofs.OneGroup as group
 use Rattle.laws.proofs.Verdict.{fine}
-use Rattle.promises.specs.Calls.{meshOf}
 use Rattle.promises.specs.OwnLinks.{Of, OfLinks, Joined, MetFrom, OfGroups, soundOf, Promised, after, before, start, member}
 use Rattle.promises.proofs.Acceptance.{no-row}
 
@@ -65,13 +65,13 @@ module _ (ss : List Triangle) (N : Names ss) (S : Every Sharp ss) where
       }
 
 pub own-links : Promised
-unfolding Promised soundOf meshOf
+unfolding Promised soundOf
 own-links x fit e =
     let sizes = x .mesh .sizes in
-    let ps = x .mesh .places in
+    let ps = x .mesh .positions in
     let ns = x .mesh .normals in
     let ts = x .mesh .texture in
-    let good = fine sizes ps ns ts (x .threshold) (length (x .answer)) (length (x .work)) (no-row x e) .good in
+    let good = fine (shown (handed sizes ps ns ts) (x .threshold) (length (x .answer)) (length (x .work))) (no-row x e) .good in
     let m = meshFrom ps ns ts 0 sizes in
     let S = mesh-sharp m (accepted-real ps ns ts fit 0 sizes good) in
     let N = own-names m in

@@ -6,9 +6,9 @@ use mathlib.Core.Bool.{Bool, true, false}
 use mathlib.Core.List.{List}
 use lib.ListN.{getD}
 use Rattle.table.specs.Table.{cell}
-use Rattle.table.specs.Loop.{listOf}
+use Rattle.lists.specs.Loops.{listOf}
 use Rattle.table.specs.Columns.{orientationColumn, anyColumn, vertexColumn, linkColumn, groupColumn, metColumn, beginColumn}
-use Rattle.table.proofs.Loops.{getD-listOf}
+use Rattle.lists.proofs.Loops.{getD-listOf}
 use Rattle.definition.specs.Mesh.{Third, one, two, three, after as next-third, before as prior-third}
 use Rattle.neighbors.specs.Sides.{endRow}
 use Rattle.neighbors.proofs.Sided.{end-lt, end-is}

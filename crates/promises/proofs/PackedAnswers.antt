@@ -11,16 +11,17 @@ use lib.Ieee.{Float, nan, inf, binary32, ofFields}
 use Rattle.bits.specs.Word.{number, isFinite}
 use Rattle.tangent.specs.declared.Reading.{Reading}
 use Rattle.tangent.specs.declared.Reading.the-variants.{Absent, Single, Combined}
-use Rattle.tangent.specs.Slot.{flag, present, words}
+use Rattle.tangent.specs.Slot.{slotWords, flag, present, words}
 use Rattle.view.specs.Answer.{HasSlot}
-use Rattle.packed.specs.Component.{size, negative}
-use Rattle.packed.specs.Packer.{nothing, packedSlot}
+use Rattle.packed.specs.Component.{nothing, furthest, leading, size, negative}
+use Rattle.packed.specs.Packer.{packedWords, packedSlot}
 use Rattle.packed.proofs.Rounding.{below-or-not}
 use Rattle.mikktspace.specs.Contract.{left}
-use Rattle.promises.specs.Calls.{Call, readingAt}
+use Rattle.definition.specs.Handed.{Call}
+use Rattle.promises.specs.Calls.{readingAt}
 use Rattle.promises.specs.Directions.{slotIn, FiniteWords, Promised}
 use Rattle.promises.specs.PublicCall.{Made, remains}
-use Rattle.promises.specs.Packed.{Lacks, marked, turned, beyond, Holds, PackedAnswer, absent, too-far, there}
+use Rattle.promises.specs.Packed.{infinityBits, Lacks, unmarked, turned, beyond, Holds, PackedAnswer, absent, too-far, there}
 use Rattle.promises.proofs.Directions.{taken-slot, directions}
 use Rattle.promises.proofs.PackedSlots.{told}
 use Rattle.promises.proofs.PackedValue.{fields}
@@ -36,10 +37,10 @@ not-finite s t h = go (eqb t 0) h
     go false h = h
 
 -- the bits of a finite number are below those of the infinity, sign apart
-finite-size : (w : ℕ) → T (isFinite (number w)) → size w < 0x7f80_0000
-finite-size w h = below-or-not (size w) 0x7f80_0000 (λ l. l) (λ l. absurd (not-finite (negative w) (w % 8388608) (subst (λ (x : Float). T (isFinite x)) (fields w ∙ ap (λ (e : ℕ). ofFields binary32 (negative w) e (w % 8388608)) (all l)) h)))
+finite-size : (w : ℕ) → T (isFinite (number w)) → size w < infinityBits
+finite-size w h = below-or-not (size w) infinityBits (λ l. l) (λ l. absurd (not-finite (negative w) (w % leading) (subst (λ (x : Float). T (isFinite x)) (fields w ∙ ap (λ (e : ℕ). ofFields binary32 (negative w) e (w % leading)) (all l)) h)))
   where
-    all : 0x7f80_0000 ≤ size w → size w / 8388608 ≡ 255
+    all : infinityBits ≤ size w → size w / leading ≡ 255
     all l = omega arith
 
 -- a slot that is there is marked, and its orientation word is 0 or 1
@@ -52,7 +53,7 @@ unfolding flag
 flag-low true = omega arith
 flag-low false = omega arith
 
-marked-or-not : (r : Reading) → (words r ≡ replicate 10 0) ⊎ Marked (words r)
+marked-or-not : (r : Reading) → (words r ≡ replicate slotWords 0) ⊎ Marked (words r)
 unfolding words present
 marked-or-not Absent = inl refl
 marked-or-not (Single u o) = inr (record { first = refl; last = flag-low o })
@@ -63,25 +64,25 @@ packed-there : (slot : List ℕ) → Marked slot → FiniteWords slot → Packed
 unfolding FiniteWords
 packed-there slot M F = go (told slot)
   where
-    lacking : Lacks slot → packedSlot slot ≡ replicate 7 nothing → PackedAnswer slot
-    lacking (marked h) p = absurd (h (M .first))
+    lacking : Lacks slot → packedSlot slot ≡ replicate packedWords nothing → PackedAnswer slot
+    lacking (unmarked h) p = absurd (h (M .first))
     lacking (turned h) p = absurd (let l = M .last in omega (arith, h, l))
     lacking (beyond i l h) p = too-far (M .first) i l h (finite-size (getD slot (1 + i) 0) (F i l)) p
 
-    go : (Lacks slot × (packedSlot slot ≡ replicate 7 nothing)) ⊎ ((Lacks slot → ⊥) × Holds slot (packedSlot slot)) → PackedAnswer slot
+    go : (Lacks slot × (packedSlot slot ≡ replicate packedWords nothing)) ⊎ ((Lacks slot → ⊥) × Holds slot (packedSlot slot)) → PackedAnswer slot
     go (inl (L, p)) = lacking L p
-    go (inr (n, H)) = there (M .first) (λ i l. below-or-not 0x3f80_0008 (size (getD slot (1 + i) 0)) (λ h. absurd (n (beyond i l h))) (λ h. h)) H
+    go (inr (n, H)) = there (M .first) (λ i l. below-or-not furthest (size (getD slot (1 + i) 0)) (λ h. absurd (n (beyond i l h))) (λ h. h)) H
 
 -- an absent slot, packed
-packed-absent : (slot : List ℕ) → slot ≡ replicate 10 0 → PackedAnswer slot
+packed-absent : (slot : List ℕ) → slot ≡ replicate slotWords 0 → PackedAnswer slot
 packed-absent slot e = go (told slot)
   where
     zero-mark : getD slot 0 0 ≡ 1 → ⊥
     zero-mark h = let z : getD slot 0 0 ≡ 0 = ap (λ (l : List ℕ). getD l 0 0) e in omega (arith, h, z)
 
-    go : (Lacks slot × (packedSlot slot ≡ replicate 7 nothing)) ⊎ ((Lacks slot → ⊥) × Holds slot (packedSlot slot)) → PackedAnswer slot
+    go : (Lacks slot × (packedSlot slot ≡ replicate packedWords nothing)) ⊎ ((Lacks slot → ⊥) × Holds slot (packedSlot slot)) → PackedAnswer slot
     go (inl (L, p)) = absent e p
-    go (inr (n, H)) = absurd (n (marked zero-mark))
+    go (inr (n, H)) = absurd (n (unmarked zero-mark))
 
 pub packed-answers : (x : Call) (m : Made x) → m .returned .number ≡ 0 → (f i : ℕ) → HasSlot (x .mesh .sizes) f i → PackedAnswer (slotIn (x .mesh .sizes) f i (m .answer))
 unfolding left Promised
@@ -93,6 +94,6 @@ packed-answers x m n f i h = go (marked-or-not (readingAt x f i))
     is : slot ≡ words (readingAt x f i)
     is = taken-slot x (remains m) (answers x m) n f i h
 
-    go : (words (readingAt x f i) ≡ replicate 10 0) ⊎ Marked (words (readingAt x f i)) → PackedAnswer slot
+    go : (words (readingAt x f i) ≡ replicate slotWords 0) ⊎ Marked (words (readingAt x f i)) → PackedAnswer slot
     go (inl e) = packed-absent slot (is ∙ e)
     go (inr M) = packed-there slot (subst Marked (sym is) M) (directions x (remains m) (answers x m) n f i h)

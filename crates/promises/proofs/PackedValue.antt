@@ -9,7 +9,7 @@ use lib.Pow.{pow-pos, pow-add}
 use lib.Ieee.{Float, nan, inf, fin, binary32, odd, ofFields, ofBits, up, down}
 use lib.Ieee.Exact.{HasValue, odd-sign}
 use borrow.Author.Tests.{leb-true, ne-eqb}
-use Rattle.packed.specs.Component.{size, negative, within, digits, places, parts}
+use Rattle.packed.specs.Component.{furthest, leading, size, negative, within, digits, binaryPlaces, parts}
 use Rattle.packed.proofs.Rounding.{below-or-not}
 use Rattle.packed.proofs.Range.{digits-low, digits-high, places-low, places-high}
 
@@ -28,55 +28,55 @@ no-exponent : (s : Bool) (t : ℕ) → HasValue (ofFields binary32 s 0 t) s t (2
 unfolding ofFields
 no-exponent s t = coarser (odd 24 s t 0 149) s t 0 149 (odd-sign 24 s t 0 149)
 
-some-exponent : (s : Bool) (x t : ℕ) → suc x ≤ 127 → HasValue (ofFields binary32 s (suc x) t) s (8388608 + t) (2 ^ (149 - x))
+some-exponent : (s : Bool) (x t : ℕ) → suc x ≤ 127 → HasValue (ofFields binary32 s (suc x) t) s (leading + t) (2 ^ (149 - x))
 unfolding ofFields
 some-exponent s x t h =
-    subst (λ (b : Bool). HasValue (cond b (cond (eqb t 0) (inf s) nan) (odd 24 s (8388608 + t) x 149)) s (8388608 + t) (2 ^ (149 - x)))
+    subst (λ (b : Bool). HasValue (cond b (cond (eqb t 0) (inf s) nan) (odd 24 s (leading + t) x 149)) s (leading + t) (2 ^ (149 - x)))
     (sym (ne-eqb (suc x) 255 (λ e. omega arith)))
-    (coarser (odd 24 s (8388608 + t) x 149) s (8388608 + t) x (149 - x) (subst (λ (k : ℕ). HasValue (odd 24 s (8388608 + t) x 149) s ((8388608 + t) * 2 ^ x) (2 ^ k)) whole (odd-sign 24 s (8388608 + t) x 149)))
+    (coarser (odd 24 s (leading + t) x 149) s (leading + t) x (149 - x) (subst (λ (k : ℕ). HasValue (odd 24 s (leading + t) x 149) s ((leading + t) * 2 ^ x) (2 ^ k)) whole (odd-sign 24 s (leading + t) x 149)))
   where
     whole : 149 ≡ 149 - x + x
     whole = omega arith
 
 -- from the bits
-pub fields : (w : ℕ) → ofBits binary32 w ≡ ofFields binary32 (negative w) (size w / 8388608) (w % 8388608)
+pub fields : (w : ℕ) → ofBits binary32 w ≡ ofFields binary32 (negative w) (size w / leading) (w % leading)
 unfolding ofBits
 fields w = refl
 
-module _ (w : ℕ) (least : size w ≤ 1065353224) where
-  value-low : size w < 8388608 → HasValue (ofBits binary32 w) (negative w) (digits (size w)) (parts (size w))
+module _ (w : ℕ) (least : size w ≤ furthest) where
+  value-low : size w < leading → HasValue (ofBits binary32 w) (negative w) (digits (size w)) (parts (size w))
   unfolding parts
   value-low h =
-      subst (λ (y : Float). HasValue y (negative w) (digits (size w)) (2 ^ places (size w)))
+      subst (λ (y : Float). HasValue y (negative w) (digits (size w)) (2 ^ binaryPlaces (size w)))
       (sym (fields w ∙ (λ z. ofFields binary32 (negative w) (none z) (all z))))
       (subst (λ (k : ℕ). HasValue (ofFields binary32 (negative w) 0 (digits (size w))) (negative w) (digits (size w)) (2 ^ k)) (sym (places-low (size w) h)) (no-exponent (negative w) (digits (size w))))
     where
-      none : size w / 8388608 ≡ 0
+      none : size w / leading ≡ 0
       none = omega arith
 
-      all : w % 8388608 ≡ digits (size w)
+      all : w % leading ≡ digits (size w)
       all = omega (arith, digits-low (size w) h)
 
-  value-high : 8388608 ≤ size w → HasValue (ofBits binary32 w) (negative w) (digits (size w)) (parts (size w))
+  value-high : leading ≤ size w → HasValue (ofBits binary32 w) (negative w) (digits (size w)) (parts (size w))
   unfolding parts
   value-high h =
-      subst (λ (y : Float). HasValue y (negative w) (digits (size w)) (2 ^ places (size w)))
-      (sym (fields w ∙ (λ z. ofFields binary32 (negative w) (some z) (w % 8388608))))
-      (subst (λ (k : ℕ). HasValue (ofFields binary32 (negative w) (suc x) (w % 8388608)) (negative w) (digits (size w)) (2 ^ k)) far
-      (subst (λ (d : ℕ). HasValue (ofFields binary32 (negative w) (suc x) (w % 8388608)) (negative w) d (2 ^ (149 - x))) all (some-exponent (negative w) x (w % 8388608) (omega arith))))
+      subst (λ (y : Float). HasValue y (negative w) (digits (size w)) (2 ^ binaryPlaces (size w)))
+      (sym (fields w ∙ (λ z. ofFields binary32 (negative w) (some z) (w % leading))))
+      (subst (λ (k : ℕ). HasValue (ofFields binary32 (negative w) (suc x) (w % leading)) (negative w) (digits (size w)) (2 ^ k)) far
+      (subst (λ (d : ℕ). HasValue (ofFields binary32 (negative w) (suc x) (w % leading)) (negative w) d (2 ^ (149 - x))) all (some-exponent (negative w) x (w % leading) (omega arith))))
     where
       x : ℕ
-      x = size w / 8388608 - 1
+      x = size w / leading - 1
 
-      some : size w / 8388608 ≡ suc x
+      some : size w / leading ≡ suc x
       some = omega arith
 
-      all : 8388608 + w % 8388608 ≡ digits (size w)
+      all : leading + w % leading ≡ digits (size w)
       all = omega (arith, digits-high (size w) h)
 
-      far : 149 - x ≡ places (size w)
+      far : 149 - x ≡ binaryPlaces (size w)
       far = omega (arith, places-high (size w) h)
 
 pub value : (w : ℕ) → within w ≡ true → HasValue (ofBits binary32 w) (negative w) (digits (size w)) (parts (size w))
 unfolding within
-value w e = let least = leb-true (size w) 1065353224 e in below-or-not (size w) 8388608 (λ h. value-low w least h) (λ h. value-high w least h)
+value w e = let least = leb-true (size w) furthest e in below-or-not (size w) leading (λ h. value-low w least h) (λ h. value-high w least h)

@@ -1,7 +1,8 @@
 -- The demands hold of the public call: each from its contract. Assumes nothing.
 use mathlib.Core.Path.{_≡_}
 use Rattle.mikktspace.specs.Contract.{left}
-use Rattle.promises.specs.Calls.{Call, leaves}
+use Rattle.definition.specs.Handed.{Call}
+use Rattle.promises.specs.Calls.{leaves}
 use Rattle.promises.specs.Determined as Determined
 use Rattle.promises.specs.Demand1 as Demand1
 use Rattle.promises.specs.Demand3 as Demand3

@@ -10,13 +10,13 @@ use lib.Ieee.{isNan, add, sub, mul, div, neg, lt, le, eq, toBits, ofBits, round,
 use borrow.Author.Tests.{eqb-true, eq-eqb, leb-true}
 use Rattle.bits.specs.Word.{number}
 use Rattle.bits.proofs.Bools.{and-left, and-right}
-use Rattle.words.specs.Lists.{everyBelow}
-use Rattle.words.proofs.Lists.{every-at}
+use Rattle.lists.specs.Parts.{everyBelow}
+use Rattle.lists.proofs.Parts.{every-at}
 use Rattle.root.specs.Root as Root′
 use Rattle.math.specs.Vector as Vector′
 use Rattle.tangent.specs.Space as Space′
 use Rattle.tangent.specs.Slot as Slot′
-use Rattle.definition.specs.Lists as Lists′
+use Rattle.lists.specs.Lists as Lists′
 use Rattle.definition.specs.Mesh as Mesh′
 use Rattle.definition.specs.Mesh.{cornerOf}
 use Rattle.definition.specs.Handed as Handed′

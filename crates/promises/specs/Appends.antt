@@ -5,16 +5,16 @@ use mathlib.Core.Bool.{true}
 use mathlib.Core.Logic.{_⊎_}
 use mathlib.Core.List.{List, []}
 use lib.ListN.{length, take, drop}
-use Rattle.words.specs.Lists.{joined, part}
+use Rattle.lists.specs.Parts.{joined, part}
 use Rattle.words.specs.Words.{Fit}
-use Rattle.blocks.specs.Format.{blockBytes, roomWords, blocksFor, used, recordsIn}
+use Rattle.blocks.specs.Format.{blockBytes, roomWords, blocksFor, recordsUsed, recordsIn}
 use Rattle.blocks.specs.Judged.{lost}
 use Rattle.cards.specs.Writer.{recordsOf, writable, cardOf}
 use Rattle.appends.specs.declared.Next.{Next}
 use Rattle.appends.specs.declared.Appended.{Appended}
 use Rattle.appends.specs.File.{patched}
 use Rattle.appends.specs.Contract.{Follows, Appends}
-use Rattle.promises.specs.Cards.{Reading}
+use Rattle.promises.specs.Cards.{CardRead}
 
 -- a call of `append` that was made: of a card of so many bytes, the total n, the records rs and the lent list c
 pub record Appending (long n : ℕ) (rs c : List ℕ) : Type 0 where
@@ -23,7 +23,7 @@ pub record Appending (long n : ℕ) (rs c : List ℕ) : Type 0 where
   pub meets : Appends long n rs c returned lent
 
 -- a call of `next_block`
-pub record Asking (long n : ℕ) : Type 0 where
+pub record AskingNext (long n : ℕ) : Type 0 where
   pub returned : Next
   pub meets : Follows long n returned
 
@@ -32,22 +32,22 @@ abbrev pub NextOf : List ℕ → ℕ → List ℕ → Type 0
 NextOf l long rs = rs ≡ part (roomWords * (long / blockBytes)) (length rs) l
 
 -- What the file may hold in a walk round the tank whose records are l, 'block by block', where 'the power may go after any byte'
-pub data Walk (l : List ℕ) : List ℕ → Type 0 where
+pub data TankWalk (l : List ℕ) : List ℕ → Type 0 where
   -- nothing yet
-  start : Walk l []
+  start : TankWalk l []
   -- the next records were appended, and the power went after j of the bytes, or not at all
-  more : (f rs c : List ℕ) (a : Appending (length f) (recordsOf l) rs c) (j : ℕ) → Walk l f → NextOf l (length f) rs → a .returned .number ≡ 0 → j ≤ blockBytes * a .returned .blocks → Walk l (patched f (a .returned .at) (take j (a .lent)))
+  more : (f rs c : List ℕ) (a : Appending (length f) (recordsOf l) rs c) (j : ℕ) → TankWalk l f → NextOf l (length f) rs → a .returned .number ≡ 0 → j ≤ blockBytes * a .returned .blocks → TankWalk l (patched f (a .returned .at) (take j (a .lent)))
   -- bytes at the end were lost
-  cut : (f : List ℕ) (m : ℕ) → Walk l f → Walk l (take m f)
+  cut : (f : List ℕ) (m : ℕ) → TankWalk l f → TankWalk l (take m f)
 
 -- what the reader finds on a card of so many bytes, of the records l, in the answer list
-pub record Finds (l : List ℕ) (long past : ℕ) (answer : List ℕ) : Type 0 where
+pub record CardFinds (l : List ℕ) (long past : ℕ) (answer : List ℕ) : Type 0 where
   -- 'exactly the first n / 512 blocks, rounded down, as they were written'
   pub whole : (b : ℕ) → b < long / blockBytes → recordsIn (recordsOf l) b answer ≡ recordsIn (recordsOf l) b l
   -- 'reports the torn rest by its length'
   pub torn : past ≡ long % blockBytes
   -- 'and shows every record outside those blocks as lost'
-  pub others : (b : ℕ) → long / blockBytes ≤ b → b < blocksFor (recordsOf l) → recordsIn (recordsOf l) b answer ≡ joined (used (recordsOf l) b) (λ _. lost)
+  pub others : (b : ℕ) → long / blockBytes ≤ b → b < blocksFor (recordsOf l) → recordsIn (recordsOf l) b answer ≡ joined (recordsUsed (recordsOf l) b) (λ _. lost)
 
 -- a refusal of `append`, 1 to 4: nothing altered
 pub record Unmade (long n : ℕ) (rs c : List ℕ) (a : Appending long n rs c) : Type 0 where
@@ -55,7 +55,7 @@ pub record Unmade (long n : ℕ) (rs c : List ℕ) (a : Appending long n rs c) :
   pub lent : a .lent ≡ c
 
 -- blocks made, for the torn block's place, and nothing altered past them
-pub record Made (long n : ℕ) (rs c : List ℕ) (a : Appending long n rs c) : Type 0 where
+pub record BlocksMade (long n : ℕ) (rs c : List ℕ) (a : Appending long n rs c) : Type 0 where
   pub number : a .returned .number ≡ 0
   pub at : a .returned .at ≡ blockBytes * (long / blockBytes)
   pub blocks : a .returned .blocks ≡ blocksFor (recordsOf rs)
@@ -63,19 +63,19 @@ pub record Made (long n : ℕ) (rs c : List ℕ) (a : Appending long n rs c) : T
 
 pub record AppendsPromised : Type 0 where
   -- 'For every cut length n': each beginning of the card, and the whole card, is what some walk leaves
-  pub reaches : (l : List ℕ) (m : ℕ) → writable l ≡ true → Walk l (take m (cardOf l))
+  pub reaches : (l : List ℕ) (m : ℕ) → writable l ≡ true → TankWalk l (take m (cardOf l))
   -- whatever the cuts, one after another, the file holds the beginning of the card that a run without them writes
-  pub same : (l f : List ℕ) → writable l ≡ true → Walk l f → f ≡ take (length f) (cardOf l)
+  pub same : (l f : List ℕ) → writable l ≡ true → TankWalk l f → f ≡ take (length f) (cardOf l)
   -- so it 'ends in the same bytes as a run without the cut'
-  pub end : (l f : List ℕ) → writable l ≡ true → Walk l f → length f ≡ length (cardOf l) → f ≡ cardOf l
+  pub end : (l f : List ℕ) → writable l ≡ true → TankWalk l f → length f ≡ length (cardOf l) → f ≡ cardOf l
   -- 'For every cut length n, the reader finds ..'
-  pub finds : (l f a : List ℕ) (r : Reading f (recordsOf l) a) → writable l ≡ true → Fit l → Walk l f → r .returned .number ≡ 0 → Finds l (length f) (r .returned .past) (r .answer)
+  pub finds : (l f a : List ℕ) (r : CardRead f (recordsOf l) a) → writable l ≡ true → Fit l → TankWalk l f → r .returned .number ≡ 0 → CardFinds l (length f) (r .returned .past) (r .answer)
   -- 'Appending after that starts at the torn block': while a block is missing, its records are accepted, and go there
-  pub goes-on : (l f c : List ℕ) (a : Appending (length f) (recordsOf l) (recordsIn (recordsOf l) (length f / blockBytes) l) c) → writable l ≡ true → Walk l f → length f < length (cardOf l) → blockBytes ≤ length c → (a .returned .number ≡ 0) × (a .returned .at ≡ blockBytes * (length f / blockBytes)) × (a .returned .blocks ≡ 1)
+  pub goes-on : (l f c : List ℕ) (a : Appending (length f) (recordsOf l) (recordsIn (recordsOf l) (length f / blockBytes) l) c) → writable l ≡ true → TankWalk l f → length f < length (cardOf l) → blockBytes ≤ length c → (a .returned .number ≡ 0) × (a .returned .at ≡ blockBytes * (length f / blockBytes)) × (a .returned .blocks ≡ 1)
   -- and `next_block` says so
-  pub asks : (l f : List ℕ) (q : Asking (length f) (recordsOf l)) → writable l ≡ true → Walk l f → (q .returned .number ≡ 0) × (q .returned .at ≡ blockBytes * (length f / blockBytes)) × (q .returned .records ≡ used (recordsOf l) (length f / blockBytes))
+  pub asks : (l f : List ℕ) (q : AskingNext (length f) (recordsOf l)) → writable l ≡ true → TankWalk l f → (q .returned .number ≡ 0) × (q .returned .at ≡ blockBytes * (length f / blockBytes)) × (q .returned .records ≡ recordsUsed (recordsOf l) (length f / blockBytes))
   -- a refusal alters nothing, and nothing is altered past the blocks
-  pub made : (long n : ℕ) (rs c : List ℕ) (a : Appending long n rs c) → Unmade long n rs c a ⊎ Made long n rs c a
+  pub made : (long n : ℕ) (rs c : List ℕ) (a : Appending long n rs c) → Unmade long n rs c a ⊎ BlocksMade long n rs c a
   -- 'Any pair of outcomes satisfying it is shown identical'
   pub one-appending : (long n : ℕ) (rs c : List ℕ) (a b : Appending long n rs c) → (a .returned ≡ b .returned) × (a .lent ≡ b .lent)
-  pub one-asking : (long n : ℕ) (a b : Asking long n) → a .returned ≡ b .returned
+  pub one-asking : (long n : ℕ) (a b : AskingNext long n) → a .returned ≡ b .returned

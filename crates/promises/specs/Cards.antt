@@ -5,12 +5,12 @@ use mathlib.Core.Bool.{true, false}
 use mathlib.Core.Logic.{_≢_, _⊎_}
 use mathlib.Core.List.{List, [], _∷_, _++_}
 use lib.ListN.{length, getD, set, take, drop, replicate}
-use Rattle.words.specs.Lists.{joined, part}
+use Rattle.lists.specs.Parts.{joined, part}
 use Rattle.words.specs.Words.{wordAt, wordsAt, Fit}
-use Rattle.blocks.specs.Format.{blockBytes, blockWords, headerWords, recordWords, recordsHeld, blocksFor, used, recordsIn, blockOf}
+use Rattle.blocks.specs.Format.{blockBytes, blockWords, headerWords, recordWords, recordsHeld, blocksFor, recordsUsed, recordsIn, blockOf}
 use Rattle.blocks.specs.Judged.{blockAt, good, lost}
 use Rattle.cards.specs.declared.Written.{Written}
-use Rattle.cards.specs.declared.Found.{Found}
+use Rattle.cards.specs.declared.CardFound.{CardFound}
 use Rattle.tangent.specs.Slot.{slotWords}
 use Rattle.cards.specs.Writer.{recordsOf, writable, cardBytes, cardOf}
 use Rattle.cards.specs.Reader.{bytesPast}
@@ -23,8 +23,8 @@ pub record Writing (l c : List ℕ) : Type 0 where
   pub meets : Writes l c returned card
 
 -- a call of the reader that was made, of the bytes bs, the total n and the lent list a
-pub record Reading (bs : List ℕ) (n : ℕ) (a : List ℕ) : Type 0 where
-  pub returned : Found
+pub record CardRead (bs : List ℕ) (n : ℕ) (a : List ℕ) : Type 0 where
+  pub returned : CardFound
   pub answer : List ℕ
   pub meets : Reads bs n a returned answer
 
@@ -43,13 +43,13 @@ pub record OneWord (b i : ℕ) (bs cs : List ℕ) : Type 0 where
   pub rest : blockAt b cs ≡ set (blockAt b bs) i (wordAt cs (blockWords * b + i))
 
 -- record k as it stands in its block, absent (word 0 is 0) or present (1)
-pub record Kept (bs : List ℕ) (n k : ℕ) (ws : List ℕ) : Type 0 where
+pub record RecordKept (bs : List ℕ) (n k : ℕ) (ws : List ℕ) : Type 0 where
   pub sound : good n (k / recordsHeld) bs ≡ true
   pub words : ws ≡ wordsAt bs (blockWords * (k / recordsHeld) + headerWords + recordWords * (k % recordsHeld)) recordWords
   pub mark : getD ws 0 0 ≤ 1
 
 -- record k lost (word 0 is 2), because its block is not what its place calls for, or is not there
-pub record Lost (bs : List ℕ) (n k : ℕ) (ws : List ℕ) : Type 0 where
+pub record RecordLost (bs : List ℕ) (n k : ℕ) (ws : List ℕ) : Type 0 where
   pub unsound : good n (k / recordsHeld) bs ≡ false
   pub words : ws ≡ lost
   pub mark : getD ws 0 0 ≡ 2
@@ -61,7 +61,7 @@ pub record Unwritten (l c : List ℕ) (w : Writing l c) : Type 0 where
   pub card : w .card ≡ c
 
 -- the card's bytes, and nothing else altered
-pub record Done (l c : List ℕ) (w : Writing l c) : Type 0 where
+pub record CardDone (l c : List ℕ) (w : Writing l c) : Type 0 where
   pub can : writable l ≡ true
   pub room : cardBytes (recordsOf l) ≤ length c
   pub number : w .returned .number ≡ 0
@@ -69,14 +69,14 @@ pub record Done (l c : List ℕ) (w : Writing l c) : Type 0 where
   pub card : w .card ≡ cardOf l ++ drop (cardBytes (recordsOf l)) c
 
 -- refused with 2, and nothing altered
-pub record Unread (bs : List ℕ) (n : ℕ) (a : List ℕ) (r : Reading bs n a) : Type 0 where
+pub record Unread (bs : List ℕ) (n : ℕ) (a : List ℕ) (r : CardRead bs n a) : Type 0 where
   pub short : length a < recordWords * n
   pub number : r .returned .number ≡ 2
   pub past : r .returned .past ≡ 0
   pub answer : r .answer ≡ a
 
 -- n records read, the bytes past the last whole block reported, and nothing else altered
-pub record Got (bs : List ℕ) (n : ℕ) (a : List ℕ) (r : Reading bs n a) : Type 0 where
+pub record CardGot (bs : List ℕ) (n : ℕ) (a : List ℕ) (r : CardRead bs n a) : Type 0 where
   pub room : recordWords * n ≤ length a
   pub number : r .returned .number ≡ 0
   pub past : r .returned .past ≡ bytesPast n bs
@@ -93,18 +93,18 @@ pub record CardsPromised : Type 0 where
   -- block 1 of 14 records, the first of its two present: words 1, 2, 14, four zeros, 1, 119 zeros, FFFFFFED
   pub sample : blockOf 14 1 (1 ∷ replicate 19 0) ≡ sampleBytes
   -- 'What was written reads back the same', whatever bytes t stand past it
-  pub back : (l c t a : List ℕ) (w : Writing l c) (r : Reading (take (w .returned .bytes) (w .card) ++ t) (recordsOf l) a) → Fit l → w .returned .number ≡ 0 → r .returned .number ≡ 0 → (r .answer ≡ l ++ drop (length l) a) × (r .returned .past ≡ length t)
+  pub back : (l c t a : List ℕ) (w : Writing l c) (r : CardRead (take (w .returned .bytes) (w .card) ++ t) (recordsOf l) a) → Fit l → w .returned .number ≡ 0 → r .returned .number ≡ 0 → (r .answer ≡ l ++ drop (length l) a) × (r .returned .past ≡ length t)
   -- 'a block in which exactly one word was changed is always noticed': its records read as lost
-  pub noticed : (n b i : ℕ) (bs cs a : List ℕ) (r : Reading cs n a) → b < blocksFor n → Bytes bs → Bytes cs → good n b bs ≡ true → OneWord b i bs cs → r .returned .number ≡ 0 → recordsIn n b (r .answer) ≡ joined (used n b) (λ _. lost)
+  pub noticed : (n b i : ℕ) (bs cs a : List ℕ) (r : CardRead cs n a) → b < blocksFor n → Bytes bs → Bytes cs → good n b bs ≡ true → OneWord b i bs cs → r .returned .number ≡ 0 → recordsIn n b (r .answer) ≡ joined (recordsUsed n b) (λ _. lost)
   -- 'The other blocks read as if nothing had happened': a block whose bytes are the same reads the same
-  pub others : (n b : ℕ) (bs cs a d : List ℕ) (r : Reading bs n a) (q : Reading cs n d) → b < blocksFor n → part (blockBytes * b) blockBytes bs ≡ part (blockBytes * b) blockBytes cs → r .returned .number ≡ 0 → q .returned .number ≡ 0 → recordsIn n b (r .answer) ≡ recordsIn n b (q .answer)
+  pub others : (n b : ℕ) (bs cs a d : List ℕ) (r : CardRead bs n a) (q : CardRead cs n d) → b < blocksFor n → part (blockBytes * b) blockBytes bs ≡ part (blockBytes * b) blockBytes cs → r .returned .number ≡ 0 → q .returned .number ≡ 0 → recordsIn n b (r .answer) ≡ recordsIn n b (q .answer)
   -- so a block that is as it was written reads as it was written, whatever happened to the card
-  pub stands : (l c bs a : List ℕ) (b : ℕ) (w : Writing l c) (r : Reading bs (recordsOf l) a) → b < blocksFor (recordsOf l) → Fit l → w .returned .number ≡ 0 → part (blockBytes * b) blockBytes bs ≡ part (blockBytes * b) blockBytes (w .card) → r .returned .number ≡ 0 → recordsIn (recordsOf l) b (r .answer) ≡ recordsIn (recordsOf l) b l
+  pub stands : (l c bs a : List ℕ) (b : ℕ) (w : Writing l c) (r : CardRead bs (recordsOf l) a) → b < blocksFor (recordsOf l) → Fit l → w .returned .number ≡ 0 → part (blockBytes * b) blockBytes bs ≡ part (blockBytes * b) blockBytes (w .card) → r .returned .number ≡ 0 → recordsIn (recordsOf l) b (r .answer) ≡ recordsIn (recordsOf l) b l
   -- absent, present and lost are told apart for every record
-  pub told : (n k : ℕ) (bs a : List ℕ) (r : Reading bs n a) → k < n → r .returned .number ≡ 0 → Kept bs n k (recordAt k (r .answer)) ⊎ Lost bs n k (recordAt k (r .answer))
+  pub told : (n k : ℕ) (bs a : List ℕ) (r : CardRead bs n a) → k < n → r .returned .number ≡ 0 → RecordKept bs n k (recordAt k (r .answer)) ⊎ RecordLost bs n k (recordAt k (r .answer))
   -- the refusals, and what they leave
-  pub written : (l c : List ℕ) (w : Writing l c) → Unwritten l c w ⊎ Done l c w
-  pub read : (bs : List ℕ) (n : ℕ) (a : List ℕ) (r : Reading bs n a) → Unread bs n a r ⊎ Got bs n a r
+  pub written : (l c : List ℕ) (w : Writing l c) → Unwritten l c w ⊎ CardDone l c w
+  pub read : (bs : List ℕ) (n : ℕ) (a : List ℕ) (r : CardRead bs n a) → Unread bs n a r ⊎ CardGot bs n a r
   -- 'Any pair of outcomes satisfying it is shown identical'
   pub one-writing : (l c : List ℕ) (w v : Writing l c) → (w .returned ≡ v .returned) × (w .card ≡ v .card)
-  pub one-reading : (bs : List ℕ) (n : ℕ) (a : List ℕ) (r q : Reading bs n a) → (r .returned ≡ q .returned) × (r .answer ≡ q .answer)
+  pub one-reading : (bs : List ℕ) (n : ℕ) (a : List ℕ) (r q : CardRead bs n a) → (r .returned ≡ q .returned) × (r .answer ≡ q .answer)

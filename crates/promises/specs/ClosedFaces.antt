@@ -9,7 +9,8 @@ use Rattle.definition.specs.declared.Corner.{Corner}
 use Rattle.definition.specs.Frames.{frames}
 use Rattle.islands.specs.Islands.{islandOf}
 use Rattle.islands.specs.Together.{picked, rank, Closed}
-use Rattle.promises.specs.Calls.{Call, meshOf, faceAnswer}
+use Rattle.definition.specs.Handed.{Call, meshOf}
+use Rattle.promises.specs.Calls.{faceAnswer}
 use Rattle.promises.specs.PublicCall.{Made}
 
 pub record Promised : Type 0 where

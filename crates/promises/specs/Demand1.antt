@@ -8,16 +8,16 @@ use lib.ListN.{length, take, drop, replicate}
 use Rattle.tangent.specs.declared.Reading.{Reading}
 use Rattle.tangent.specs.declared.Reading.the-variants.{Absent}
 use Rattle.tangent.specs.Slot.{slotWords, words}
-use Rattle.definition.specs.Limits.{workWords}
-use Rattle.definition.specs.Handed.{slotCount}
+use Rattle.definition.specs.Limits.{workWords, highestRefusal}
+use Rattle.definition.specs.Handed.{Call, slotCount}
 use Rattle.definition.specs.Outcome.{Result}
 use Rattle.view.specs.Answer.{slotNumber, HasSlot}
-use Rattle.promises.specs.Calls.{Call, Answers, readingAt}
+use Rattle.promises.specs.Calls.{Answers, readingAt}
 
 -- the call is refused with one of the numbers 1 to 6, no slot is counted, and both lists are as they were
 pub record Refused (x : Call) (z : Result) : Type 0 where
   pub low : 0 < z .number
-  pub high : z .number ≤ 6
+  pub high : z .number ≤ highestRefusal
   pub no-slots : z .slots ≡ 0
   pub same-answer : z .answer ≡ x .answer
   pub same-work : z .work ≡ x .work

@@ -6,7 +6,8 @@ use mathlib.Core.List.{List, [], _∷_}
 use lib.ListN.{length}
 use Rattle.definition.specs.Shuffle.{Shuffle, shares}
 use Rattle.definition.specs.Outcome.{Result}
-use Rattle.promises.specs.Calls.{Call, meshOf, Answers, faceAnswer}
+use Rattle.definition.specs.Handed.{Call, meshOf}
+use Rattle.promises.specs.Calls.{Answers, faceAnswer}
 
 -- where face number n of the first mesh stands in a shuffle by the pattern: true takes the next face of the first mesh, false the next of the second
 unfoldable pub leftAt : List Bool → ℕ → ℕ

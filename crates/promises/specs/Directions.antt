@@ -8,7 +8,8 @@ use Rattle.bits.specs.Word.{number, isFinite}
 use Rattle.tangent.specs.Slot.{slotWords}
 use Rattle.definition.specs.Outcome.{Result}
 use Rattle.view.specs.Answer.{slotNumber, HasSlot}
-use Rattle.promises.specs.Calls.{Call, Answers}
+use Rattle.definition.specs.Handed.{Call}
+use Rattle.promises.specs.Calls.{Answers}
 
 -- the ten words of slot i of face f in an answer list
 abbrev pub slotIn : List ℕ → ℕ → ℕ → List ℕ → List ℕ

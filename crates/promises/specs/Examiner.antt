@@ -4,6 +4,7 @@ use mathlib.Core.Path.{_≡_}
 use mathlib.Core.Bool.{cond, false}
 use mathlib.Core.List.{List}
 use lib.ListN.{length, getD, take, drop}
+use Rattle.definition.specs.Limits.{highestRefusal}
 use Rattle.tangent.specs.Slot.{flag}
 use Rattle.definition.specs.declared.Triangle.{Triangle}
 use Rattle.definition.specs.Mesh.{Third, sameSpot}
@@ -14,9 +15,9 @@ use Rattle.view.specs.Links.{LinkWord}
 use Rattle.asked.specs.Meaning.{LinksAccepted, GroupsAccepted}
 use Rattle.asked.specs.Meaning as meaning
 use Rattle.examine.specs.declared.Examined.{Examined}
-use Rattle.examine.specs.declared.Handed as outcome
+use Rattle.examine.specs.declared.Owned as outcome
 use Rattle.examine.specs.Contract.{soundOf, clearedFor, Examines, Hands}
-use Rattle.promises.specs.Calls.{Handed}
+use Rattle.definition.specs.Handed.{Handed}
 
 -- a call: a mesh; links, groups and orientations, handed in or lent; the work list, which is lent
 pub record Asking : Type 0 where
@@ -30,20 +31,20 @@ pub record Asking : Type 0 where
 pub record Asked (x : Asking) : Type 0 where
   pub returned : Examined
   pub work : List ℕ
-  pub meets : Examines (x .mesh .sizes) (x .mesh .places) (x .mesh .normals) (x .mesh .texture) (x .links) (x .groups) (x .ways) (x .work) returned work
+  pub meets : Examines (x .mesh) (x .links) (x .groups) (x .ways) (x .work) returned work
 
 -- a call for our own lists that was made
 pub record Fetched (x : Asking) : Type 0 where
-  pub returned : outcome.Handed
+  pub returned : outcome.Owned
   pub links : List ℕ
   pub groups : List ℕ
   pub ways : List ℕ
   pub work : List ℕ
-  pub meets : Hands (x .mesh .sizes) (x .mesh .places) (x .mesh .normals) (x .mesh .texture) (x .links) (x .groups) (x .ways) (x .work) returned links groups ways work
+  pub meets : Hands (x .mesh) (x .links) (x .groups) (x .ways) (x .work) returned links groups ways work
 
 -- the sound triangles of a mesh
 abbrev pub soundIn : Handed → List Triangle
-soundIn m = soundOf (m .sizes) (m .places) (m .normals) (m .texture)
+soundIn m = soundOf m
 
 -- the two sentences of request E10, of the lists of a call; d is any triangle, and stands for numbers past the last
 pub record Sound (x : Asking) (d : Triangle) : Type 0 where
@@ -57,7 +58,7 @@ Objects x d k p = meaning.Examines (soundIn (x .mesh)) d (x .links) (x .groups) 
 -- a refusal: 1, 2, 4 or 6; no objection is made, and the work list is as it was
 pub record Refused (x : Asking) (r : Examined) (u : List ℕ) : Type 0 where
   pub low : 0 < r .refusal
-  pub high : r .refusal ≤ 6
+  pub high : r .refusal ≤ highestRefusal
   pub not-3 : r .refusal ≡ 3 → ⊥
   pub not-5 : r .refusal ≡ 5 → ⊥
   pub objection-0 : r .objection ≡ 0

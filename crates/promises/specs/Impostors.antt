@@ -3,16 +3,16 @@ use mathlib.Core.Path.{_≡_}
 use mathlib.Core.Bool.{false}
 use mathlib.Core.List.{List, [], _∷_, _++_}
 use lib.ListN.{length, take}
-use Rattle.definition.specs.Lists.{has}
-use Rattle.definition.specs.Desk.{Row, table}
-use Rattle.definition.specs.Handed.{slotCount}
+use Rattle.lists.specs.Lists.{has}
+use Rattle.definition.specs.Desk.{atDesk, Row, table}
+use Rattle.definition.specs.Handed.{Call, slotCount}
 use Rattle.tangent.specs.Slot.{slotWords}
-use Rattle.promises.specs.Calls.{Call, leaves, Accepted}
+use Rattle.promises.specs.Calls.{leaves, Accepted}
 use Rattle.promises.specs.Small.{one, minusOne, sample1, sample2, fan, fanFirst, mirror, there, thrice, takenWith}
 
 -- the rows of the table for a call
 unfoldable pub rowsOf : Call → List Row
-rowsOf x = table (x .mesh .sizes) (x .mesh .places) (x .mesh .normals) (x .mesh .texture) (x .threshold) (length (x .answer)) (length (x .work))
+rowsOf x = table (atDesk x)
 
 pub record Promised : Type 1 where
   -- 'refusing always (sample 1 and the table's "none otherwise")': a call is accepted where no row of the table applies, and only there

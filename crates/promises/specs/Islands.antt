@@ -9,7 +9,8 @@ use Rattle.mikktspace.specs.declared.Outcome.{Outcome}
 use Rattle.mikktspace.specs.Contract.{left}
 use Rattle.islands.specs.Islands.{Given}
 use Rattle.apart.specs.Call.{Own, short, ownAfter, Contract}
-use Rattle.promises.specs.Calls.{Call, meshOf, leaves}
+use Rattle.definition.specs.Handed.{Call, meshOf}
+use Rattle.promises.specs.Calls.{leaves}
 
 -- a call by islands that was made, with lists of its own, o: what it returned, and the lists after it, as its contract allows
 pub record Made (x : Call) (o : Own) : Type 0 where
@@ -17,7 +18,7 @@ pub record Made (x : Call) (o : Own) : Type 0 where
   pub answer : List ℕ
   pub work : List ℕ
   pub own : Own
-  pub meets : Contract (x .mesh .sizes) (x .mesh .places) (x .mesh .normals) (x .mesh .texture) (x .threshold) (x .answer) (x .work) o returned answer work own
+  pub meets : Contract x o returned answer work own
 
 -- all that it left behind, its own lists apart
 abbrev pub remains : {x : Call} {o : Own} → Made x o → Result
@@ -51,6 +52,6 @@ pub record Promised : Type 0 where
   -- 'which for each such list is at most 128 entries a face of the whole mesh'
   pub enough : (x : Call) (o : Own) → Entries (128 * facesOf x) o → short (facesOf x) o ≡ false
   -- after acceptance its own lists hold the faces' numbers, zeros wherever it worked, and what they held past that
-  pub cleared : (x : Call) (o : Own) (m : Made x o) → m .returned .number ≡ 0 → m .own ≡ ownAfter (x .mesh .sizes) (x .mesh .places) (x .mesh .normals) (x .mesh .texture) o
+  pub cleared : (x : Call) (o : Own) (m : Made x o) → m .returned .number ≡ 0 → m .own ≡ ownAfter (x .mesh) o
   -- 'Any pair of outcomes satisfying it is shown identical'
   pub determined : (x : Call) (o : Own) (m n : Made x o) → (m .returned ≡ n .returned) × (m .answer ≡ n .answer) × (m .work ≡ n .work) × (m .own ≡ n .own)

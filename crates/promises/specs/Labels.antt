@@ -7,14 +7,14 @@ use lib.ListN.{length, getD}
 use Rattle.islands.specs.Islands.{counted, Given}
 use Rattle.labels.specs.declared.Labelled.{Labelled}
 use Rattle.labels.specs.Labels.{ownNumbers, Labels}
-use Rattle.promises.specs.Calls.{Handed, meshOf}
+use Rattle.definition.specs.Handed.{Handed, meshOf}
 
 -- a call that was made, with the list for the numbers l and the work list w: what it returned, and both lists after it, as its contract allows
 pub record Made (x : Handed) (l w : List ℕ) : Type 0 where
   pub returned : Labelled
   pub labels : List ℕ
   pub work : List ℕ
-  pub meets : Labels (x .sizes) (x .places) (x .normals) (x .texture) l w returned labels work
+  pub meets : Labels x l w returned labels work
 
 -- the number that face f is given
 abbrev pub numberOf : {x : Handed} {l w : List ℕ} → Made x l w → ℕ → ℕ

@@ -19,3 +19,4 @@ pub mod Islands
 pub mod Labels
 pub mod Examiner
 pub mod ThreeSides
+pub mod All

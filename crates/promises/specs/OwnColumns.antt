@@ -4,20 +4,18 @@ use mathlib.Core.Path.{_≡_}
 use mathlib.Core.Option.{none}
 use mathlib.Core.List.{List}
 use lib.ListN.{length}
-use lib.Ieee.{Float}
 use Rattle.table.specs.Table.{cell}
 use Rattle.table.specs.Columns.{rowsOf, orientationColumn, anyColumn, vertexColumn, linkColumn, groupColumn, metColumn, beginColumn}
 use Rattle.definition.specs.declared.Triangle.{Triangle}
-use Rattle.definition.specs.Handed.{meshFrom}
-use Rattle.definition.specs.Desk.{badCorner}
-use Rattle.definition.specs.Frames.{numbered}
-use Rattle.definition.specs.Triangles.{triangles}
+use Rattle.definition.specs.Handed.{Handed}
+use Rattle.definition.specs.Desk.{notFinite}
+use Rattle.definition.specs.Frames.{trianglesOf}
 use Rattle.definition.specs.Mesh.{Third, after, before}
 use Rattle.definition.specs.Step4Order.{sound}
 use Rattle.view.specs.Rows.{row}
 use Rattle.view.specs.Groups.{numberOf}
-use Rattle.grouped.specs.declared.Counts.{Counts}
-use Rattle.grouped.specs.Grouped.{Left}
+use Rattle.grouped.specs.declared.MeshCounts.{MeshCounts}
+use Rattle.grouped.specs.Grouped.{LeftBySix}
 use Rattle.asked.specs.Meaning.{wayOf}
 
 -- the side at row r is linked with the side at row q
@@ -85,4 +83,4 @@ pub record OwnWords (rows n count : ℕ) (way : ℕ → ℕ) (w : List ℕ) : Ty
 
 -- the promise: of whatever steps 1 to 6 leave (the contract of `grouped::group_mesh`), where refusal 4 does not catch the lists; d is any triangle, for numbers past the last
 unfoldable pub Promised : Type 0
-Promised = (sizes : List ℕ) (ps ns ts : List Float) (c : Counts) (w u : List ℕ) → Left sizes ps ns ts (triangles (numbered 0 (meshFrom ps ns ts 0 sizes))) c w u → badCorner 0 (meshFrom ps ns ts 0 sizes) ≡ none → (d : Triangle) → OwnWords (rowsOf (length sizes)) (c .sound) (c .members) (wayOf (sound (triangles (numbered 0 (meshFrom ps ns ts 0 sizes)))) d) u
+Promised = (mesh : Handed) (c : MeshCounts) (w u : List ℕ) → LeftBySix mesh c w u → notFinite mesh ≡ none → (d : Triangle) → OwnWords (rowsOf (length (mesh .sizes))) (c .sound) (c .members) (wayOf (sound (trianglesOf mesh)) d) u

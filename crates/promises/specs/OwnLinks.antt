@@ -9,12 +9,12 @@ use lib.ListN.{getD}
 use lib.Ieee.{nan, binary32, fits}
 use Rattle.definition.specs.declared.Triangle.{Triangle}
 use Rattle.definition.specs.Mesh.{Spot, next, prior, cornerOf}
-use Rattle.definition.specs.Frames.{numbered}
-use Rattle.definition.specs.Triangles.{triangles}
+use Rattle.definition.specs.Frames.{trianglesOf}
 use Rattle.definition.specs.Step4Order.{sound, spots, welded}
 use Rattle.definition.specs.Step5Links.{opposite, links, beyond}
 use Rattle.definition.specs.Step6Groups.{Mark, grouped, touched, facing, over, marks}
-use Rattle.promises.specs.Calls.{Call, meshOf, Accepted}
+use Rattle.definition.specs.Handed.{Call}
+use Rattle.promises.specs.Calls.{Accepted}
 
 -- s is a corner of the triangles, or the side that runs from it
 abbrev pub Of : List Triangle → Spot → Type 0
@@ -68,8 +68,8 @@ pub record OfGroups (ss : List Triangle) : Type 0 where
 
 -- the sound triangles of a call's mesh
 unfoldable pub soundOf : Call → List Triangle
-soundOf x = sound (triangles (numbered 0 (meshOf (x .mesh))))
+soundOf x = sound (trianglesOf (x .mesh))
 
 -- the promise: of every accepted call whose positions are numbers of single precision, as every list of them in code is
 unfoldable pub Promised : Type 0
-Promised = (x : Call) → ((i : ℕ) → T (fits binary32 (getD (x .mesh .places) i nan))) → Accepted x → OfLinks (soundOf x) × OfGroups (soundOf x)
+Promised = (x : Call) → ((i : ℕ) → T (fits binary32 (getD (x .mesh .positions) i nan))) → Accepted x → OfLinks (soundOf x) × OfGroups (soundOf x)

@@ -9,7 +9,8 @@ use Rattle.definition.specs.Shuffle.{Shuffle, shares}
 use Rattle.view.specs.Answer.{HasSlot}
 use Rattle.mikktspace.specs.declared.Outcome.{Outcome}
 use Rattle.mikktspace.specs.Contract.{left, Contract}
-use Rattle.promises.specs.Calls.{Call, meshOf, leaves}
+use Rattle.definition.specs.Handed.{Call, meshOf}
+use Rattle.promises.specs.Calls.{leaves}
 use Rattle.promises.specs.Demand1.{Refused, Taken}
 use Rattle.promises.specs.Demand3.{Demand3}
 use Rattle.promises.specs.Directions.{slotIn, FiniteWords}
@@ -19,7 +20,7 @@ pub record Made (x : Call) : Type 0 where
   pub returned : Outcome
   pub answer : List ℕ
   pub work : List ℕ
-  pub meets : Contract (x .mesh .sizes) (x .mesh .places) (x .mesh .normals) (x .mesh .texture) (x .threshold) (x .answer) (x .work) returned answer work
+  pub meets : Contract x returned answer work
 
 -- all that it left behind
 abbrev pub remains : {x : Call} → Made x → Result

@@ -5,9 +5,8 @@ use lib.ListN.{length, replicate}
 use Rattle.bits.specs.Word.{number}
 use Rattle.tangent.specs.Slot.{slotWords}
 use Rattle.definition.specs.Limits.{workWords}
-use Rattle.definition.specs.Handed.{cornerCount, slotCount}
+use Rattle.definition.specs.Handed.{Call, cornerCount, slotCount}
 use Rattle.definition.specs.Outcome.{Result}
-use Rattle.promises.specs.Calls.{Call}
 
 -- the bits of 1 and of -1
 abbrev pub one : ℕ
@@ -25,7 +24,7 @@ up (suc n) = 0 ∷ 0 ∷ one ∷ up n
 unfoldable pub lying : List ℕ → List ℕ → List ℕ → Call
 lying sizes places texture =
     record {
-      mesh = record { sizes = sizes; places = map number places; normals = map number (up (cornerCount sizes)); texture = map number texture };
+      mesh = record { sizes = sizes; positions = map number places; normals = map number (up (cornerCount sizes)); texture = map number texture };
       threshold = number minusOne;
       answer = replicate (slotWords * slotCount sizes) 7;
       work = replicate (workWords * length sizes) 9;

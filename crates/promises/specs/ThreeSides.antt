@@ -5,7 +5,7 @@ use mathlib.Core.List.{List, [], _∷_, map}
 use lib.ListN.{replicate}
 use Rattle.bits.specs.Word.{number}
 use Rattle.definition.specs.declared.Triangle.{Triangle}
-use Rattle.promises.specs.Calls.{Handed}
+use Rattle.definition.specs.Handed.{Handed}
 use Rattle.promises.specs.Small.{one, up}
 use Rattle.promises.specs.Examiner.{Asking, Sound}
 
@@ -14,7 +14,7 @@ unfoldable pub threeSides : Handed
 threeSides =
     record {
       sizes = 3 ∷ 3 ∷ 3 ∷ [];
-      places = map number (0 ∷ 0 ∷ 0 ∷ one ∷ 0 ∷ 0 ∷ 0 ∷ one ∷ 0 ∷ 0 ∷ 0 ∷ 0 ∷ one ∷ 0 ∷ 0 ∷ 0 ∷ 0 ∷ one ∷ one ∷ 0 ∷ 0 ∷ 0 ∷ 0 ∷ 0 ∷ one ∷ one ∷ one ∷ []);
+      positions = map number (0 ∷ 0 ∷ 0 ∷ one ∷ 0 ∷ 0 ∷ 0 ∷ one ∷ 0 ∷ 0 ∷ 0 ∷ 0 ∷ one ∷ 0 ∷ 0 ∷ 0 ∷ 0 ∷ one ∷ one ∷ 0 ∷ 0 ∷ 0 ∷ 0 ∷ 0 ∷ one ∷ one ∷ one ∷ []);
       normals = map number (up 9);
       texture = map number (replicate 18 0);
     }

@@ -4,20 +4,17 @@ use mathlib.Core.Path.{_≡_}
 use mathlib.Core.Option.{none}
 use mathlib.Core.List.{List}
 use lib.ListN.{length}
-use lib.Ieee.{Float}
 use Rattle.table.specs.Table.{cell}
 use Rattle.table.specs.Columns.{rowsOf, columns, linkColumn, metColumn}
-use Rattle.table.specs.Loop.{upTo}
+use Rattle.lists.specs.Loops.{upTo}
 use Rattle.definition.specs.declared.Triangle.{Triangle}
-use Rattle.definition.specs.Handed.{meshFrom}
-use Rattle.definition.specs.Desk.{badCorner}
-use Rattle.definition.specs.Frames.{numbered}
-use Rattle.definition.specs.Triangles.{triangles}
+use Rattle.definition.specs.Handed.{Handed}
+use Rattle.definition.specs.Desk.{notFinite}
 use Rattle.definition.specs.Step5Links.{Link}
 use Rattle.laws.proofs.Closed.{Between}
-use Rattle.laws.proofs.Mutual.{Names}
+use Rattle.definition.specs.Names.{Names}
 use Rattle.view.specs.Weld.{Sharp}
-use Rattle.linked.specs.Links.{Left}
+use Rattle.grouped.specs.Links.{LeftByFive}
 use Rattle.groups.specs.Marks.{Asked, Walked}
 use Rattle.groups.specs.Walk.{State, turn, cleared}
 use Rattle.flat.specs.Places.{blank}
@@ -31,10 +28,10 @@ pub record SameMembers (rows : ℕ) (u v : List ℕ) (members others : ℕ) : Ty
   pub count : members ≡ others
   pub member : (j : ℕ) → j < members → cell rows metColumn j u ≡ cell rows metColumn j v
 
--- the promise: on every mesh that refusal 4 does not catch, over the list l that steps 1 to 5 leave (the contract of `linked::link_mesh`), whatever one walk leaves and whatever the other
+-- the promise: on every mesh that refusal 4 does not catch, over the list l that steps 1 to 5 leave (the contract of `grouped::link_mesh`), whatever one walk leaves and whatever the other
 unfoldable pub Promised : Type 0
-Promised = (sizes : List ℕ) (ps ns ts : List Float) (n m : ℕ) (w l : List ℕ) → Left sizes ps ns ts (triangles (numbered 0 (meshFrom ps ns ts 0 sizes))) n m w l → badCorner 0 (meshFrom ps ns ts 0 sizes) ≡ none
-    → (u v : List ℕ) (groups members groups' members' : ℕ) → Walks (rowsOf (length sizes)) n l u groups members → Walks (rowsOf (length sizes)) n l v groups' members' → SameMembers (rowsOf (length sizes)) u v members members'
+Promised = (mesh : Handed) (n m : ℕ) (w l : List ℕ) → LeftByFive mesh n m w l → notFinite mesh ≡ none
+    → (u v : List ℕ) (groups members groups' members' : ℕ) → Walks (rowsOf (length (mesh .sizes))) n l u groups members → Walks (rowsOf (length (mesh .sizes))) n l v groups' members' → SameMembers (rowsOf (length (mesh .sizes))) u v members members'
 
 -- a state of step 6 with zeros for the places of the flat walk
 abbrev pub withoutPlaces : ℕ → State → State

@@ -30,6 +30,21 @@ const SLOTS: usize = 9;
 
 const HEAD: usize = 10;
 
+// What the two lists that are lent hold at their first places before the call.
+const IN_ANSWER: u32 = 0xA5A50000;
+
+const IN_WORK: u32 = 0x5A5A0000;
+
+// The most faces, numbers and words of a lent list that a mesh of the text has.
+const MOST_FACES: usize = definition::FACE_LIMIT + 128;
+
+const MOST_NUMBERS: usize = 4096;
+
+const MOST_WORDS: usize = 8192;
+
+// The most bytes of the text.
+const MOST_TEXT: usize = 1048576;
+
 // What was compared, and the place in the text that comes next.
 struct Compared {
     tally: Tally,
@@ -55,41 +70,36 @@ fn fill(list: &mut [u32], base: u32) {
     }
 }
 
-// One word of the answer list: the text has the first so many, and the others are as they were lent.
-fn answer_word(text: &[u8], so_far: Compared, listed: usize, i: usize, got: u32) -> Compared {
+// What a list is to hold after the call: the text has the first so many words, zeros come up to `cleared`, and the others are as they were lent.
+struct Expected {
+    listed: usize,
+    cleared: usize,
+    base: u32,
+}
+
+// One word of a list, compared.
+fn compare_word(text: &[u8], so_far: Compared, e: Expected, i: usize, got: u32) -> Compared {
     let tally = so_far.tally;
-    if i < listed {
+    if i < e.listed {
         let w = text::next_word(text, so_far.next);
         return Compared {
             tally: tally.with(got, w.value),
             next: w.next,
         };
     }
+    let expected = if i < e.cleared { 0 } else { lent(e.base, i) };
     Compared {
-        tally: tally.with(got, lent(0xA5A50000, i)),
+        tally: tally.with(got, expected),
         next: so_far.next,
     }
 }
 
-fn compare_answer(text: &[u8], from: Compared, listed: usize, answer: &[u32]) -> Compared {
+fn compare(text: &[u8], from: Compared, e: Expected, list: &[u32]) -> Compared {
     let mut so_far = from;
-    for i in 0..answer.len() {
-        so_far = answer_word(text, so_far, listed, i, answer[i]);
+    for i in 0..list.len() {
+        so_far = compare_word(text, so_far, e, i, list[i]);
     }
     so_far
-}
-
-// What the work list holds at a place after the call: zero in the words that are cleared, and what was lent past them.
-fn left_in_work(cleared: usize, i: usize) -> u32 {
-    if i < cleared { 0 } else { lent(0x5A5A0000, i) }
-}
-
-fn compare_work(from: Tally, cleared: usize, work: &[u32]) -> Tally {
-    let mut tally = from;
-    for i in 0..work.len() {
-        tally = tally.with(work[i], left_in_work(cleared, i));
-    }
-    tally
 }
 
 // The three words that the call returns, compared.
@@ -102,13 +112,13 @@ fn compare_returned(text: &[u8], head: usize, got: Outcome) -> Tally {
 
 // How many words of the answer list the call writes.
 fn listed(text: &[u8], head: usize) -> usize {
-    10 * (text::nth(text, head, SLOTS) as usize)
+    tangent::SLOT_WORDS * (text::nth(text, head, SLOTS) as usize)
 }
 
 // How many words of the work list the call clears: none where it refuses.
 fn cleared(text: &[u8], head: usize) -> usize {
     if text::nth(text, head, NUMBER) == 0 {
-        return 128 * (text::nth(text, head, FACES) as usize);
+        return definition::WORK_WORDS * (text::nth(text, head, FACES) as usize);
     }
     0
 }
@@ -140,12 +150,22 @@ fn compare_lists(
     answer: &[u32],
     work: &[u32],
 ) -> Compared {
-    let read = compare_answer(text, so_far, listed(text, head), answer);
-    let tally = compare_work(read.tally, cleared(text, head), work);
-    Compared {
-        tally,
-        next: read.next,
-    }
+    let in_answer = Expected {
+        listed: listed(text, head),
+        cleared: 0,
+        base: IN_ANSWER,
+    };
+    let in_work = Expected {
+        listed: 0,
+        cleared: cleared(text, head),
+        base: IN_WORK,
+    };
+    compare(
+        text,
+        compare(text, so_far, in_answer, answer),
+        in_work,
+        work,
+    )
 }
 
 // Fills the two lists, makes the call and compares.
@@ -158,8 +178,8 @@ fn ask(
     sizes: &[u8],
     numbers: &[f32],
 ) -> Compared {
-    fill(answer, 0xA5A50000);
-    fill(work, 0x5A5A0000);
+    fill(answer, IN_ANSWER);
+    fill(work, IN_WORK);
     let got = call(text, head, sizes, numbers, answer, work);
     let tally = compare_returned(text, head, got);
     compare_lists(text, head, Compared { tally, next }, answer, work)
@@ -213,20 +233,20 @@ fn read_mesh(
 fn with_arrays(
     text: &[u8],
     head: usize,
-    sizes: &mut [u8; 65664],
-    numbers: &mut [f32; 4096],
-    answer: &mut [u32; 8192],
-    work: &mut [u32; 8192],
+    sizes: &mut [u8; MOST_FACES],
+    numbers: &mut [f32; MOST_NUMBERS],
+    answer: &mut [u32; MOST_WORDS],
+    work: &mut [u32; MOST_WORDS],
 ) -> Compared {
     read_mesh(text, head, sizes, numbers, answer, work)
 }
 
 // The mesh whose head stands here, read and compared.
 fn mesh(text: &[u8], head: usize) -> Compared {
-    let mut sizes = [0u8; 65664];
-    let mut numbers = [0.0f32; 4096];
-    let mut answer = [0u32; 8192];
-    let mut work = [0u32; 8192];
+    let mut sizes = [0u8; MOST_FACES];
+    let mut numbers = [0.0f32; MOST_NUMBERS];
+    let mut answer = [0u32; MOST_WORDS];
+    let mut work = [0u32; MOST_WORDS];
     with_arrays(text, head, &mut sizes, &mut numbers, &mut answer, &mut work)
 }
 
@@ -302,11 +322,11 @@ fn read_all(room: &mut [u8]) {
     print(sum);
 }
 
-fn replay(room: &mut [u8; 1048576]) {
+fn replay(room: &mut [u8; MOST_TEXT]) {
     read_all(room);
 }
 
 fn main() {
-    let mut room = [0u8; 1048576];
+    let mut room = [0u8; MOST_TEXT];
     replay(&mut room);
 }

@@ -2,6 +2,9 @@
 // A line of standard input is 27 bytes: a number, its root and its angle, each as the eight digits of its word, with a blank or a line end behind.
 ghost use Prim.Native.Nat.{_+_, _<_, _≤_};
 ghost use lib.ListN.{length};
+use definition::FACE_LIMIT;
+use definition::WORK_WORDS;
+use tangent::SLOT_WORDS;
 
 // How many values were compared, and how many of them were not as expected.
 struct Tally {
@@ -152,11 +155,11 @@ fn sample_9() -> Tally {
         .with(angle::raised_whole(bits::number(0x80000000)), 1073741824)
 }
 
-// Words that are each expected to be one of ten, in turn.
-fn words(so_far: Tally, got: &[u32], expected: &[u32; 10]) -> Tally {
+// Words that are each expected to be one of a slot's, in turn.
+fn words(so_far: Tally, got: &[u32], expected: &[u32; SLOT_WORDS]) -> Tally {
     let mut t = so_far;
     for i in 0..got.len() {
-        t = t.with(got[i], expected[i % 10]);
+        t = t.with(got[i], expected[i % SLOT_WORDS]);
     }
     t
 }
@@ -170,12 +173,12 @@ fn outcome(r: mikktspace::Outcome, number: u32, place: u32, slots: u32) -> Tally
 }
 
 // Sample 1 with some texture: the outcome, the whole answer, and that the work list is cleared.
-fn triangle(texture: &[f32; 6], slot: &[u32; 10]) -> Tally {
+fn triangle(texture: &[f32; 6], slot: &[u32; SLOT_WORDS]) -> Tally {
     let sizes: [u8; 1] = [3];
     let positions: [f32; 9] = [0.0, 0.0, 0.0, 1.0, 0.0, 0.0, 0.0, 1.0, 0.0];
     let normals: [f32; 9] = [0.0, 0.0, 1.0, 0.0, 0.0, 1.0, 0.0, 0.0, 1.0];
-    let mut answer: [u32; 30] = [7; 30];
-    let mut work: [u32; 128] = [7; 128];
+    let mut answer = [7u32; 3 * SLOT_WORDS];
+    let mut work = [7u32; WORK_WORDS];
     let r = mikktspace::generate_tangent_space(
         &sizes,
         &positions,
@@ -185,13 +188,13 @@ fn triangle(texture: &[f32; 6], slot: &[u32; 10]) -> Tally {
         &mut answer,
         &mut work,
     );
-    let cleared: [u32; 10] = [0; 10];
+    let cleared: [u32; SLOT_WORDS] = [0; SLOT_WORDS];
     words(words(outcome(r, 0, 0, 3), &answer, slot), &work, &cleared)
 }
 
 fn sample_1() -> Tally {
     let texture: [f32; 6] = [0.0, 0.0, 1.0, 0.0, 0.0, 1.0];
-    let slot: [u32; 10] = [
+    let slot: [u32; SLOT_WORDS] = [
         1,
         0x3f800000,
         0,
@@ -208,7 +211,7 @@ fn sample_1() -> Tally {
 
 fn sample_2() -> Tally {
     let texture: [f32; 6] = [0.0, 0.0, -1.0, 0.0, 0.0, 1.0];
-    let slot: [u32; 10] = [
+    let slot: [u32; SLOT_WORDS] = [
         1,
         0xbf800000,
         0,
@@ -225,15 +228,19 @@ fn sample_2() -> Tally {
 
 fn sample_3() -> Tally {
     let texture: [f32; 6] = [0.0; 6];
-    let slot: [u32; 10] = [0; 10];
+    let slot: [u32; SLOT_WORDS] = [0; SLOT_WORDS];
     triangle(&texture, &slot)
 }
 
 // Words of slots that all have one frame, but for one that is absent.
-fn all_but(so_far: Tally, got: &[u32], frame: &[u32; 10], absent: usize) -> Tally {
+fn all_but(so_far: Tally, got: &[u32], frame: &[u32; SLOT_WORDS], absent: usize) -> Tally {
     let mut t = so_far;
     for i in 0..got.len() {
-        let expected = if i / 10 == absent { 0 } else { frame[i % 10] };
+        let expected = if i / SLOT_WORDS == absent {
+            0
+        } else {
+            frame[i % SLOT_WORDS]
+        };
         t = t.with(got[i], expected);
     }
     t
@@ -248,7 +255,7 @@ fn all_alike(
     answer: &mut [u32],
     absent: usize,
 ) -> Tally {
-    let frame: [u32; 10] = [
+    let frame: [u32; SLOT_WORDS] = [
         1,
         0x3f800000,
         0,
@@ -260,7 +267,7 @@ fn all_alike(
         0x3f800000,
         1,
     ];
-    let mut work: [u32; 256] = [7; 256];
+    let mut work = [7u32; 2 * WORK_WORDS];
     let r = mikktspace::generate_tangent_space(
         sizes,
         positions,
@@ -316,7 +323,7 @@ fn sample_4() -> Tally {
         1.0,
     ];
     let texture: [f32; 12] = [0.0, 0.0, 1.0, 0.0, 0.0, 1.0, 0.0, 0.0, 0.0, 0.0, 0.0, 1.0];
-    let mut answer: [u32; 60] = [7; 60];
+    let mut answer = [7u32; 6 * SLOT_WORDS];
     all_alike(&[3, 3], &positions, &normals, &texture, &mut answer, 4)
 }
 
@@ -384,7 +391,7 @@ fn sample_5() -> Tally {
         0.0,
         1.0,
     ];
-    let mut answer: [u32; 70] = [7; 70];
+    let mut answer = [7u32; 7 * SLOT_WORDS];
     all_alike(&[3, 4], &positions, &normals, &texture, &mut answer, 2)
 }
 
@@ -397,9 +404,9 @@ fn asked(sizes: &[u8], three: &[f32], two: &[f32]) -> mikktspace::Outcome {
 
 // 65,537 faces are refused with 1; 65,536 aren't, but with 6, since no work list is lent.
 fn sample_10() -> Tally {
-    let sizes: [u8; 65537] = [0; 65537];
+    let sizes = [0u8; FACE_LIMIT + 1];
     let r = asked(&sizes, &[], &[]);
-    let s = asked(&sizes[..65536], &[], &[]);
+    let s = asked(&sizes[..FACE_LIMIT], &[], &[]);
     outcome(r, 1, 0, 0).with(s.number, 6)
 }
 
@@ -409,7 +416,7 @@ fn sample_11() -> Tally {
     let three: [f32; 21] = [0.0; 21];
     let two: [f32; 14] = [0.0; 14];
     let mut answer: [u32; 0] = [];
-    let mut work: [u32; 384] = [7; 384];
+    let mut work = [7u32; 3 * WORK_WORDS];
     let r = mikktspace::generate_tangent_space(
         &sizes,
         &three,
@@ -419,7 +426,7 @@ fn sample_11() -> Tally {
         &mut answer,
         &mut work,
     );
-    let cleared: [u32; 10] = [0; 10];
+    let cleared: [u32; SLOT_WORDS] = [0; SLOT_WORDS];
     words(outcome(r, 0, 0, 0), &work, &cleared)
 }
 

@@ -10,8 +10,8 @@ use lib.Seq.{getD-set-same, getD-set-other}
 use Rattle.table.specs.Table.{cell, put, column, filledTo}
 use Rattle.table.specs.Columns.{columns, nextColumn, headColumn}
 use Rattle.table.proofs.Laws.{column-set, getD-column, length-column, filled-column}
-use Rattle.table.proofs.Loops.{getD-listOf, length-listOf}
-use Rattle.table.specs.Loop.{listOf}
+use Rattle.lists.proofs.Loops.{getD-listOf, length-listOf}
+use Rattle.lists.specs.Loops.{listOf}
 use Rattle.view.specs.Frame.{Only}
 use Rattle.view.proofs.Frame.{cell-kept, only-run}
 use Rattle.neighbors.specs.Sides.{endRow}

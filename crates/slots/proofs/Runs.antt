@@ -8,8 +8,8 @@ use lib.ListN.{length, getD, take, drop, length-drop}
 use lib.Seq.{sets, length-take-le, getD-take, getD-drop, ext-getD}
 use borrow.Author.Tests.{lt-ltb, le-ltb}
 use Rattle.tangent.specs.Slot.{slotWords}
-use Rattle.table.specs.Loop.{listOf}
-use Rattle.table.proofs.Loops.{length-listOf, getD-listOf}
+use Rattle.lists.specs.Loops.{listOf}
+use Rattle.lists.proofs.Loops.{length-listOf, getD-listOf}
 use Rattle.slots.specs.Slots.{wordsAt, writtenAt, copiedAt}
 
 -- n words from place p on

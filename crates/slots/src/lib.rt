@@ -10,11 +10,11 @@ ghost use Rattle.slots.specs.Slots as spec;
 use tangent::RawTangentSpace;
 
 // The ten words of a slot.
-fn words_at(answer: &[u32], slot: usize) -> [u32; 10]
+fn words_at(answer: &[u32], slot: usize) -> [u32; tangent::SLOT_WORDS]
     requires { ⌜ slotWords * slot + slotWords ≤ length (now answer) ⌝ }
     ensures { λ r. ⌜ r ≡ spec.wordsAt slot (now (answer .entry)) ⌝ }
 {
-    let at = 10 * slot;
+    let at = tangent::SLOT_WORDS * slot;
     [
         answer[at],
         answer[at + 1],
@@ -30,12 +30,12 @@ fn words_at(answer: &[u32], slot: usize) -> [u32; 10]
 }
 
 // Ten words into a slot.
-fn put(answer: &mut [u32], slot: usize, words: [u32; 10])
+fn put(answer: &mut [u32], slot: usize, words: [u32; tangent::SLOT_WORDS])
     requires { ⌜ slotWords * slot + slotWords ≤ length (now answer) ⌝ }
     ensures { λ _. ⌜ now (answer .exit) ≡ sets (now (answer .entry)) (slotWords * slot) words ⌝ }
 {
-    for i in 0..10 {
-        answer[10 * slot + i] = words[i];
+    for i in 0..tangent::SLOT_WORDS {
+        answer[tangent::SLOT_WORDS * slot + i] = words[i];
     }
 }
 
@@ -43,7 +43,7 @@ fn put(answer: &mut [u32], slot: usize, words: [u32; 10])
 pub fn reach(answer: &mut [u32], slot: usize, v: RawTangentSpace, orientation: bool)
     ensures { λ _. ⌜ now (answer .exit) ≡ spec.reachedAt slot v orientation (now (answer .entry)) ⌝ }
 {
-    if answer.len() / 10 <= slot {
+    if answer.len() / tangent::SLOT_WORDS <= slot {
         return;
     }
     let before = tangent::reading_of(words_at(answer, slot));
@@ -55,10 +55,10 @@ pub fn reach(answer: &mut [u32], slot: usize, v: RawTangentSpace, orientation: b
 pub fn copy(answer: &mut [u32], from: usize, to: usize)
     ensures { λ _. ⌜ now (answer .exit) ≡ spec.copiedAt from to (now (answer .entry)) ⌝ }
 {
-    if answer.len() / 10 <= from {
+    if answer.len() / tangent::SLOT_WORDS <= from {
         return;
     }
-    if answer.len() / 10 <= to {
+    if answer.len() / tangent::SLOT_WORDS <= to {
         return;
     }
     let words = words_at(answer, from);
@@ -69,8 +69,8 @@ pub fn copy(answer: &mut [u32], from: usize, to: usize)
 pub fn clear(answer: &mut [u32], slot: usize)
     ensures { λ _. ⌜ now (answer .exit) ≡ spec.clearedAt slot (now (answer .entry)) ⌝ }
 {
-    if answer.len() / 10 <= slot {
+    if answer.len() / tangent::SLOT_WORDS <= slot {
         return;
     }
-    put(answer, slot, [0; 10]);
+    put(answer, slot, [0; tangent::SLOT_WORDS]);
 }

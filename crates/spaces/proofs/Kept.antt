@@ -8,10 +8,10 @@ use mathlib.Core.List.{List, [], _∷_}
 use lib.Dec.{eqb, ltb}
 use borrow.Author.Tests.{ltb-true, ltb-false}
 use lib.Ieee.{Float}
-use Rattle.table.specs.Loop.{upTo}
+use Rattle.lists.specs.Loops.{upTo}
 use Rattle.table.specs.Table.{cell}
 use Rattle.table.specs.Columns.{slotColumn, orientationColumn, metColumn, orderColumn, joinedColumn, beginColumn}
-use Rattle.table.proofs.Loops.{upTo-same}
+use Rattle.lists.proofs.Loops.{upTo-same}
 use Rattle.view.specs.Frame.{Only}
 use Rattle.view.proofs.Frame.{cell-kept}
 use Rattle.tangent.specs.declared.RawTangentSpace.{RawTangentSpace}

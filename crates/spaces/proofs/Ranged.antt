@@ -7,13 +7,14 @@ use lib.Dec.{eqb}
 use lib.ListN.{length, getD}
 use lib.Seq.{slice, length-slice}
 use Rattle.table.specs.Table.{cell, column}
-use Rattle.table.specs.Loop.{listOf}
+use Rattle.lists.specs.Loops.{listOf}
 use Rattle.table.specs.Columns.{columns, groupColumn, metColumn, orderColumn}
 use Rattle.table.proofs.Laws.{length-column, getD-column}
 use Rattle.definition.specs.declared.Triangle.{Triangle}
-use Rattle.definition.specs.Lists.{keep}
+use Rattle.lists.specs.Lists.{keep}
 use Rattle.definition.specs.Step6Groups.{Mark}
-use Rattle.laws.proofs.Part.{Every, every-keep}
+use Rattle.lists.specs.Every.{Every}
+use Rattle.laws.proofs.Part.{every-keep}
 use Rattle.view.specs.Groups.{numberOf, Grouping, beginAt, InOrder}
 use Rattle.view.proofs.Lists.{every-index}
 use Rattle.view.proofs.Rows.{row-lt}

@@ -14,23 +14,24 @@ use Rattle.laws.proofs.Closed.{Between}
 use Rattle.bits.specs.Word.{number}
 use Rattle.math.specs.Held.{HeldVec}
 use Rattle.math.specs.Vector.{dot}
-use Rattle.table.specs.Loop.{upTo, listOf}
+use Rattle.lists.specs.Loops.{upTo, listOf}
 use Rattle.table.specs.Table.{cell, column}
 use Rattle.table.specs.Columns.{columns, anyColumn, nameColumn, magnitudeColumn, groupColumn, metColumn, orderColumn}
-use Rattle.table.proofs.Loops.{length-listOf, getD-listOf}
+use Rattle.lists.proofs.Loops.{length-listOf, getD-listOf}
 use Rattle.table.proofs.Laws.{length-column, getD-column}
 use Rattle.definition.specs.declared.Corner.{Corner}
 use Rattle.definition.specs.declared.Triangle.{Triangle}
 use Rattle.definition.specs.declared.Sum.{Sum}
-use Rattle.definition.specs.Handed.{vectorAt, cornerAt}
-use Rattle.definition.specs.Lists.{keep, has, run}
+use Rattle.definition.specs.Handed.{Handed, vectorAt, cornerAt}
+use Rattle.lists.specs.Lists.{keep, has, run}
 use Rattle.definition.specs.Mesh.{Third, one, two, three, after, kept, cornerOf, sameTriangle}
 use Rattle.definition.specs.Step4Order.{welded}
 use Rattle.definition.specs.Step5Links.{Link}
 use Rattle.definition.specs.Step6Groups.{Mark, marks, members, cornerIn}
 use Rattle.definition.specs.Step7Sums.{projected, close, joins, subgroup, emptySum, weighed, addSpot, contribute, finish, evaluate}
-use Rattle.laws.proofs.Part.{Every, every-nil, every-cons, every-append, every-keep, every-pair, keep-passes}
-use Rattle.laws.proofs.Mutual.{Names}
+use Rattle.lists.specs.Every.{Every, every-nil, every-cons}
+use Rattle.laws.proofs.Part.{every-append, every-keep, every-pair, keep-passes}
+use Rattle.definition.specs.Names.{Names}
 use Rattle.laws.proofs.Weld.{welded-as, welded-normal, first-same}
 use Rattle.laws.proofs.Sharp as one-triangle
 use Rattle.sums.specs.Sums.{weighedBy}
@@ -95,8 +96,8 @@ stretch-list rows k from to w f g h =
 
 -- ---- a corner of the columns
 
-module _ (rows : ℕ) (sizes : List ℕ) (ps ns ts : List Float) (ss : List Triangle) (d : Triangle) (w : List ℕ) (fit : (i : ℕ) → T (fits binary32 (getD ns i nan)))
-    (tells : Tells rows sizes ps ns ts ss d w) (brings : Contributed rows ss d w) where
+module _ (rows : ℕ) (mesh : Handed) (ss : List Triangle) (d : Triangle) (w : List ℕ) (fit : (i : ℕ) → T (fits binary32 (getD (mesh .normals) i nan)))
+    (tells : Tells rows mesh ss d w) (brings : Contributed rows ss d w) where
   -- its normal is held
   normal-held : (t : ℕ) (i : Third) → t < length ss → HeldVec (cornerOf (spotAt ss d t i) .normal)
   unfolding cornerOf cornerAt vectorAt
@@ -150,8 +151,8 @@ module _ (rows : ℕ) (sizes : List ℕ) (ps ns ts : List Float) (ss : List Tria
 
 -- ---- a member of a group
 
-module _ (rows : ℕ) (sizes : List ℕ) (ps ns ts : List Float) (ss : List Triangle) (d : Triangle) (groups count : ℕ) (w : List ℕ) (fit : (i : ℕ) → T (fits binary32 (getD ns i nan)))
-    (tells : Tells rows sizes ps ns ts ss d w) (brings : Contributed rows ss d w) (ls : List Link) (B : Between ss ls) (N : Names ss) (S : Sharp ss d) (G : Grouping rows ss d (marks ss ls) groups w) (I : InOrder rows ss groups count w)
+module _ (rows : ℕ) (mesh : Handed) (ss : List Triangle) (d : Triangle) (groups count : ℕ) (w : List ℕ) (fit : (i : ℕ) → T (fits binary32 (getD (mesh .normals) i nan)))
+    (tells : Tells rows mesh ss d w) (brings : Contributed rows ss d w) (ls : List Link) (B : Between ss ls) (N : Names ss) (S : Sharp ss d) (G : Grouping rows ss d (marks ss ls) groups w) (I : InOrder rows ss groups count w)
     (h : Float) (q j : ℕ) (e : Mark) (l : j < length (marks ss ls)) (n : numberOf rows w j ≡ q + 1) where
   abbrev ms : List Mark
   ms = marks ss ls
@@ -177,7 +178,7 @@ module _ (rows : ℕ) (sizes : List ℕ) (ps ns ts : List Float) (ss : List Tria
   test-is t i b g =
       let s : welded (cornerOf (spotAt ss d (M .tri) (M .at))) (cornerOf (spotAt ss d t i)) ≡ true = ap (λ x. welded (cornerOf x) (cornerOf (spotAt ss d t i))) (sym (M .is)) ∙ (sym (M .vertex (cornerOf (spotAt ss d t i))) ∙ to-start t i b g) in
       ap (λ r. joinsBy h (peerAt rows r w) (peerAt rows (row t i) w)) (M .member)
-      ∙ (joins-is rows sizes ps ns ts ss d w fit tells brings h (M .tri) t (M .at) i (M .inside) b s ∙ ap (λ x. joins h (cornerOf x .normal) (x .tri) (getD ss t d)) (sym (M .is)))
+      ∙ (joins-is rows mesh ss d w fit tells brings h (M .tri) t (M .at) i (M .inside) b s ∙ ap (λ x. joins h (cornerOf x .normal) (x .tri) (getD ss t d)) (sym (M .is)))
 
   -- by its number
   test-at : (r : ℕ) → Of r → joinsBy h (peerAt rows r₀ w) (peerAt rows r w) ≡ joins h (cornerOf (m .spot) .normal) (m .spot .tri) (getD ss (r / 3) d)
@@ -191,7 +192,7 @@ module _ (rows : ℕ) (sizes : List ℕ) (ps ns ts : List Float) (ss : List Tria
       let t = r / 3 in
       let i = third (r % 3) in
       let k = tri-lt r (length ss) b in
-      ap (λ x. addRow rows w x y) (sym (row-is r)) ∙ row-is-triangle rows sizes ps ns ts ss d w fit tells brings S (cornerOf (m .start)) y t i k (to-start t i k (ap (λ x. eqb (cell rows groupColumn x w) (q + 1)) (row-is r) ∙ g))
+      ap (λ x. addRow rows w x y) (sym (row-is r)) ∙ row-is-triangle rows mesh ss d w fit tells brings S (cornerOf (m .start)) y t i k (to-start t i k (ap (λ x. eqb (cell rows groupColumn x w) (q + 1)) (row-is r) ∙ g))
 
   -- what the member brings
   pub value-is : q < groups → (from to : ℕ) → beginAt rows groups count w q ≡ from → beginAt rows groups count w (q + 1) ≡ to → from ≤ to → to ≤ rows → columns * rows ≤ length w → valueOf rows h r₀ from (to - from) w ≡ evaluate (cornerOf (m .start)) (subgroup h ss ms m)

@@ -3,7 +3,7 @@ use Prim.Native.Nat.{ℕ, suc, _+_, _-_, _/_}
 use mathlib.Core.List.{List}
 use lib.Dec.{eqb}
 use lib.Ieee.{Float}
-use Rattle.table.specs.Loop.{upTo}
+use Rattle.lists.specs.Loops.{upTo}
 use Rattle.table.specs.Table.{cell}
 use Rattle.table.specs.Columns.{slotColumn, orientationColumn, metColumn}
 use Rattle.slots.specs.Slots.{reachedAt}

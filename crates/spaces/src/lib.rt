@@ -9,7 +9,7 @@ ghost use Rattle.view.specs.Frame.{Only};
 ghost use Rattle.members.specs.Members.{beginOf};
 ghost use Rattle.subgroups.specs.Subgroups.{Ranged, evaluated};
 ghost use Rattle.spaces.specs.Spaces as spec;
-use groups::Counts;
+use groups::GroupCounts;
 use tangent::RawTangentSpace;
 
 // The slot of the member at row r is reached by g.
@@ -91,7 +91,7 @@ fn reach_group(
 }
 
 // Group number q + 1.
-fn reach_at(work: &mut [u32], rows: usize, threshold: f32, answer: &mut [u32], q: usize, s: Counts)
+fn reach_at(work: &mut [u32], rows: usize, threshold: f32, answer: &mut [u32], q: usize, s: GroupCounts)
     requires { ⌜ (q < s .groups) × (s .groups ≤ rows) × (s .members ≤ rows) × (columns * rows ≤ length (now work)) × Ranged rows (s .members) (now work) ⌝ }
     ensures { λ _. ⌜ (now (answer .exit) ≡ spec.reachGroup rows threshold (beginOf rows (s .groups) (s .members) (now (work .entry)) q) (beginOf rows (s .groups) (s .members) (now (work .entry)) (q + 1)) (now (work .entry)) (now (answer .entry))) × Only (joinedColumn ∷ []) rows (now (work .entry)) (now (work .exit)) ⌝ }
 {
@@ -109,7 +109,7 @@ pub fn generate_tangent_spaces(
     rows: usize,
     threshold: f32,
     answer: &mut [u32],
-    s: Counts,
+    s: GroupCounts,
 )
     requires { ⌜ (s .groups ≤ rows) × (s .members ≤ rows) × (columns * rows ≤ length (now work)) × Ranged rows (s .members) (now work) ⌝ }
     ensures { λ _. ⌜ (now (answer .exit) ≡ spec.reachAll rows threshold (s .groups) (s .members) (now (work .entry)) (now (answer .entry))) × Only (joinedColumn ∷ []) rows (now (work .entry)) (now (work .exit)) ⌝ }

@@ -14,10 +14,10 @@ use lib.Ieee.{Float}
 use Rattle.math.specs.Vector.{dot}
 use Rattle.tangent.specs.Slot.{flag, vectorOf}
 use Rattle.bits.specs.Word.{number}
-use Rattle.table.specs.Loop.{listOf}
+use Rattle.lists.specs.Loops.{listOf}
 use Rattle.table.specs.Table.{cell, put}
 use Rattle.table.specs.Columns.{columns, nameColumn, magnitudeColumn, anyColumn, metColumn, orderColumn, openingColumn, joinedColumn, sxColumn, syColumn, szColumn, txColumn, tyColumn, tzColumn}
-use Rattle.table.proofs.Loops.{upTo-same, length-listOf, getD-listOf}
+use Rattle.lists.proofs.Loops.{upTo-same, length-listOf, getD-listOf}
 use Rattle.table.proofs.Laws.{run-more}
 use Rattle.definition.specs.declared.Sum.{Sum}
 use Rattle.definition.specs.Step7Sums.{emptySum, finish}

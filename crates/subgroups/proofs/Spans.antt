@@ -10,10 +10,10 @@ use lib.Dec.{eqb}
 use lib.Ieee as Ieee
 use lib.Ieee.{Float}
 use Rattle.math.specs.Vector.{dot}
-use Rattle.table.specs.Loop.{upTo}
+use Rattle.lists.specs.Loops.{upTo}
 use Rattle.table.specs.Table.{cell}
 use Rattle.table.specs.Columns.{anyColumn, nameColumn, metColumn, orderColumn}
-use Rattle.table.proofs.Loops.{upTo-same}
+use Rattle.lists.proofs.Loops.{upTo-same}
 use Rattle.definition.specs.Step7Sums.{emptySum, finish}
 use Rattle.view.specs.Contributions.{sAt, tAt}
 use Rattle.hulls.specs.Hull.{nothing, widened, above}

@@ -6,7 +6,7 @@ use mathlib.Core.List.{List}
 use lib.Dec.{eqb}
 use lib.Ieee.{Float}
 use Rattle.tangent.specs.declared.RawTangentSpace.{RawTangentSpace}
-use Rattle.table.specs.Loop.{upTo}
+use Rattle.lists.specs.Loops.{upTo}
 use Rattle.table.specs.Table.{cell}
 use Rattle.table.specs.Columns.{anyColumn, metColumn, orderColumn}
 use Rattle.definition.specs.Step7Sums.{emptySum, finish}

@@ -11,7 +11,7 @@ use Rattle.bits.specs.Word.{number}
 use Rattle.math.specs.Vector.{dot}
 use Rattle.tangent.specs.declared.RawTangentSpace.{RawTangentSpace}
 use Rattle.tangent.specs.Slot.{flag}
-use Rattle.table.specs.Loop.{upTo, listOf}
+use Rattle.lists.specs.Loops.{upTo, listOf}
 use Rattle.table.specs.Table.{cell}
 use Rattle.table.specs.Columns.{nameColumn, magnitudeColumn, anyColumn, metColumn, orderColumn, openingColumn, joinedColumn}
 use Rattle.definition.specs.declared.Sum.{Sum}

@@ -1,21 +1,13 @@
 -- The columns of the work list, by name. Definitions only.
 use Prim.Native.Nat.{ℕ, _*_}
 
--- how many there are
+-- how many there are; the first two are free
 abbrev pub columns : ℕ
 columns = 21
 
 -- how many rows each of them has, for so many faces
 abbrev pub rowsOf : ℕ → ℕ
 rowsOf faces = 6 * faces
-
--- where each face's corners start
-abbrev pub cornerStarts : ℕ
-cornerStarts = 0
-
--- where each face's slots start
-abbrev pub slotStarts : ℕ
-slotStarts = 1
 
 -- the numbers of a triangle's three corners in the lists handed in, rows 3t, 3t + 1 and 3t + 2
 abbrev pub cornerColumn : ℕ

@@ -3,7 +3,7 @@ use Prim.Native.Nat.{ℕ, _+_, _*_}
 use mathlib.Core.List.{List}
 use lib.ListN.{getD, set, take, drop}
 use lib.Seq.{sets}
-use Rattle.table.specs.Loop.{listOf}
+use Rattle.lists.specs.Loops.{listOf}
 
 -- the word at row i of column k
 abbrev pub cell : ℕ → ℕ → ℕ → List ℕ → ℕ

@@ -7,13 +7,8 @@ ghost use lib.ListN.{length, drop, replicate};
 ghost use Rattle.table.specs.Columns.{columns};
 ghost use Rattle.table.specs.Table.{filledTo};
 
-// How many columns there are: 21 times 6F words are 126F of the 128F that are lent.
+// How many columns there are: 21 times 6F words are 126F of the 128F that are lent. Columns 0 and 1 are free.
 pub const COLUMNS: usize = 21;
-
-// Where each face's corners start, and where its slots start.
-pub const CORNER_STARTS: usize = 0;
-
-pub const SLOT_STARTS: usize = 1;
 
 // The numbers of a triangle's three corners in the lists handed in.
 pub const CORNER: usize = 2;

@@ -77,12 +77,15 @@ pub fn reached(r: Reading, v: RawTangentSpace, orientation: bool) -> Reading
     }
 }
 
+// The words of a slot, and of a card's record.
+pub const SLOT_WORDS: usize = 10;
+
 // The ten words of a slot.
-pub fn words(r: Reading) -> [u32; 10]
+pub fn words(r: Reading) -> [u32; SLOT_WORDS]
     ensures { λ out. ⌜ out ≡ slot.words r ⌝ }
 {
     match r {
-        Reading::Absent => [0; 10],
+        Reading::Absent => [0; SLOT_WORDS],
         Reading::Single(u, o) => present(u, o),
         Reading::Combined(u, o) => present(u, o),
     }
@@ -96,7 +99,7 @@ pub fn flag(b: bool) -> u32
 }
 
 // The ten words of a slot that is there.
-fn present(u: RawTangentSpace, orientation: bool) -> [u32; 10]
+fn present(u: RawTangentSpace, orientation: bool) -> [u32; SLOT_WORDS]
     ensures { λ out. ⌜ out ≡ slot.present u orientation ⌝ }
 {
     let s = u.s;
@@ -123,7 +126,7 @@ fn vector_of(x: u32, y: u32, z: u32) -> Vec3
 }
 
 // The numbers of a slot that is there.
-fn space_of(words: [u32; 10]) -> RawTangentSpace
+fn space_of(words: [u32; SLOT_WORDS]) -> RawTangentSpace
     ensures { λ out. ⌜ out ≡ slot.spaceOf words ⌝ }
 {
     let s = vector_of(words[1], words[2], words[3]);
@@ -137,7 +140,7 @@ fn space_of(words: [u32; 10]) -> RawTangentSpace
 }
 
 // The reading that ten words tell of. That it was combined is not in them.
-pub fn reading_of(words: [u32; 10]) -> Reading
+pub fn reading_of(words: [u32; SLOT_WORDS]) -> Reading
     ensures { λ out. ⌜ out ≡ slot.readingOf words ⌝ }
 {
     if words[0] == 0 {

@@ -4,10 +4,25 @@ use libc::STDOUT_FILENO;
 // Three blocks, the last of them part full.
 const RECORDS: u32 = 29;
 
+const BLOCKS: usize = 3;
+
+// The words of the records, and the bytes of the card.
+const LIST_WORDS: usize = RECORDS as usize * blocks::RECORD_WORDS;
+
+const CARD_BYTES: usize = BLOCKS * blocks::BLOCK_BYTES;
+
+// The place of the last block.
+const LAST_PLACE: usize = CARD_BYTES - blocks::BLOCK_BYTES;
+
+// One more than a place and than a block's records can be.
+const PLACES: usize = CARD_BYTES + 1;
+
+const COUNTS: u32 = blocks::RECORDS_HELD as u32 + 1;
+
 // Words of a record: 0 or 1 first, the others different from place to place.
 fn word(i: usize) -> u32 {
-    if i % 10 == 0 {
-        return (i / 10 % 2) as u32;
+    if i % blocks::RECORD_WORDS == 0 {
+        return (i / blocks::RECORD_WORDS % 2) as u32;
     }
     (i % 1000) as u32 * 4000003
 }
@@ -24,15 +39,15 @@ fn read_file(fd: i32, bytes: &mut [u8]) -> usize {
     io::count(got, bytes)
 }
 
-// 512 bytes into the file.
+// A block's bytes into the file.
 fn put(fd: i32, bytes: &[u8], at: usize) {
-    if bytes.len() < 512 {
+    if bytes.len() < blocks::BLOCK_BYTES {
         return;
     }
-    if 1024 < at {
+    if LAST_PLACE < at {
         return;
     }
-    let end = 512;
+    let end = blocks::BLOCK_BYTES;
     libc::pwrite(fd, &bytes[..end], at as i64);
 }
 
@@ -41,8 +56,8 @@ fn append_one(fd: i32, list: &[u32], bytes: &mut [u8]) {
     let long = read_file(fd, bytes);
     let next = appends::next_block(long, RECORDS);
     // the remainders change nothing on a card of three blocks; they bound what is cut out of the list
-    let from = next.at % 1537 / 512 * 120;
-    let to = from + 10 * (next.records % 13) as usize;
+    let from = next.at % PLACES / blocks::BLOCK_BYTES * blocks::ROOM_WORDS;
+    let to = from + blocks::RECORD_WORDS * (next.records % COUNTS) as usize;
     if list.len() < to {
         return;
     }
@@ -70,8 +85,8 @@ fn letter(mark: u32) -> u8 {
 
 fn print_letters(answer: &[u32]) {
     for r in 0..RECORDS as usize {
-        if 10 * r < answer.len() {
-            io::write_all(STDOUT_FILENO, &[letter(answer[10 * r])]);
+        if blocks::RECORD_WORDS * r < answer.len() {
+            io::write_all(STDOUT_FILENO, &[letter(answer[blocks::RECORD_WORDS * r])]);
         }
     }
 }
@@ -166,10 +181,10 @@ fn all_cuts(fd: i32, list: &[u32], whole: &[u8], bytes: &mut [u8], answer: &mut 
 
 // A run without a cut, and then the cuts.
 fn walk(fd: i32) {
-    let mut list = [0u32; 290];
-    let mut answer = [0u32; 290];
-    let mut bytes = [0u8; 2048];
-    let mut whole = [0u8; 1536];
+    let mut list = [0u32; LIST_WORDS];
+    let mut answer = [0u32; LIST_WORDS];
+    let mut bytes = [0u8; CARD_BYTES + blocks::BLOCK_BYTES];
+    let mut whole = [0u8; CARD_BYTES];
     fill(&mut list);
     append_all(fd, &list, &mut bytes);
     cards::write(&list, &mut whole);

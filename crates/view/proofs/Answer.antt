@@ -14,8 +14,8 @@ use Rattle.tangent.specs.declared.Reading.{Reading}
 use Rattle.tangent.specs.declared.Reading.the-variants.{Absent}
 use Rattle.tangent.specs.Slot.{slotWords, words}
 use Rattle.tangent.proofs.Slots.{words-length}
-use Rattle.table.specs.Loop.{listOf}
-use Rattle.table.proofs.Loops.{length-listOf, getD-listOf}
+use Rattle.lists.specs.Loops.{listOf}
+use Rattle.lists.proofs.Loops.{length-listOf, getD-listOf}
 use Rattle.definition.specs.declared.Corner.{Corner}
 use Rattle.definition.specs.declared.Triangle.{Triangle}
 use Rattle.definition.specs.Frames.{numbered, framesFrom}
@@ -27,7 +27,8 @@ use Rattle.definition.specs.Step4Order.{isSound, sound, broken}
 use Rattle.definition.specs.Step7Sums.{Brought}
 use Rattle.definition.specs.Step9Copies.{faceReadings}
 use Rattle.definition.specs.Triangles.{make, settled, pair, nook, quad, usable, pieces, triangles}
-use Rattle.laws.proofs.Part.{Every, every-nil, every-cons, every-append, every-map, every-cond, every-keep}
+use Rattle.lists.specs.Every.{Every, every-nil, every-cons}
+use Rattle.laws.proofs.Part.{every-append, every-map, every-cond, every-keep}
 use Rattle.laws.proofs.Bridge.{all-words, readings-length, face-slots}
 use Rattle.view.specs.Answer.{slotNumber, HasSlot, slotsFrom, Shows, changed, Slotted, finalAt}
 use Rattle.view.proofs.Lists.{every-index, flatMap-append, sets-after, sets-front, listOf-same, listOf-set, listOf-getD, listOf-one}

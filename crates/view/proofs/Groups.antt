@@ -10,8 +10,8 @@ use lib.Seq.{slice}
 use borrow.Author.Tests.{ltb-true}
 use Rattle.table.specs.Table.{cell}
 use Rattle.table.specs.Columns.{orientationColumn, groupColumn, metColumn, orderColumn, beginColumn}
-use Rattle.table.specs.Loop.{listOf}
-use Rattle.table.proofs.Loops.{length-listOf, getD-listOf}
+use Rattle.lists.specs.Loops.{listOf}
+use Rattle.lists.proofs.Loops.{length-listOf, getD-listOf}
 use Rattle.definition.specs.declared.Triangle.{Triangle}
 use Rattle.definition.specs.Mesh.{Third, one, two, three}
 use Rattle.definition.specs.Step6Groups.{Mark}

@@ -7,7 +7,6 @@ use mathlib.Core.List.{List, [], _∷_}
 use lib.Dec.{eqb}
 use lib.ListN.{length, getD, take, drop}
 use lib.Seq.{getD-take, getD-drop}
-use lib.Ieee.{Float}
 use Rattle.bits.specs.Word.{word, number}
 use Rattle.bits.proofs.Back.{number-word}
 use Rattle.math.specs.declared.Vec3.{Vec3}
@@ -18,7 +17,7 @@ use Rattle.table.specs.Columns.{cornerColumn, slotColumn, nameColumn, sColumn, 
 use Rattle.table.proofs.Laws.{getD-column}
 use Rattle.definition.specs.declared.Triangle.{Triangle}
 use Rattle.definition.specs.Mesh.{Third, one, two, three, kept, cornerOf}
-use Rattle.definition.specs.Handed.{cornerAt, cornerCount, slotCount}
+use Rattle.definition.specs.Handed.{Handed, cornerAt, slotCount}
 use Rattle.view.specs.Frame.{outside, Only, disjoint}
 use Rattle.view.specs.Rows.{num, row, spotAt}
 use Rattle.view.specs.Records.{part, numbers, threeOf, lengths, names, Stored, Held, recordColumns, Told, Tells, toldColumns}
@@ -50,22 +49,22 @@ number-at rows k t base w x room e one = part-cell rows k t 0 w (omega arith) ro
 number-at rows k t base w x room e two = part-cell rows k t 1 w (omega arith) room ∙ ap (λ (l : List ℕ). getD l 1 0) e
 number-at rows k t base w x room e three = part-cell rows k t 2 w (omega arith) room ∙ ap (λ (l : List ℕ). getD l 2 0) e
 
-module _ (rows : ℕ) (sizes : List ℕ) (ps ns ts : List Float) (xs : List Triangle) (d : Triangle) (w : List ℕ) (H : Held rows sizes ps ns ts xs d w) where
+module _ (rows : ℕ) (mesh : Handed) (xs : List Triangle) (d : Triangle) (w : List ℕ) (H : Held rows mesh xs d w) where
   -- the values of a corner, by its number
-  pub corner-is : 3 * length xs ≤ rows → (t : ℕ) (i : Third) → t < length xs → cornerAt ps ns ts (cell rows cornerColumn (row t i) w) ≡ cornerOf (spotAt xs d t i)
+  pub corner-is : 3 * length xs ≤ rows → (t : ℕ) (i : Third) → t < length xs → cornerAt (mesh .positions) (mesh .normals) (mesh .texture) (cell rows cornerColumn (row t i) w) ≡ cornerOf (spotAt xs d t i)
   unfolding cornerOf
   corner-is fits t i h =
-      ap (cornerAt ps ns ts) (number-at rows cornerColumn t _ w (getD xs t d) (omega arith) (H t h .corner) i) ∙ sym (H t h .from .corner i)
+      ap (cornerAt (mesh .positions) (mesh .normals) (mesh .texture)) (number-at rows cornerColumn t _ w (getD xs t d) (omega arith) (H t h .corner) i) ∙ sym (H t h .from .corner i)
 
   -- the number of its slot
-  pub slot-is : 3 * length xs ≤ rows → (t : ℕ) (i : Third) → t < length xs → cell rows slotColumn (row t i) w ≡ slotCount (take (getD xs t d .face) sizes) + kept (getD xs t d) i .which
+  pub slot-is : 3 * length xs ≤ rows → (t : ℕ) (i : Third) → t < length xs → cell rows slotColumn (row t i) w ≡ slotCount (take (getD xs t d .face) (mesh .sizes)) + kept (getD xs t d) i .which
   slot-is fits t i h = number-at rows slotColumn t _ w (getD xs t d) (omega arith) (H t h .slot) i
 
   pub any-is : (t : ℕ) → t < length xs → eqb (cell rows anyColumn t w) 0 ≡ not (getD xs t d .any)
   any-is t h = ap (λ (k : ℕ). eqb k 0) (H t h .loose) ∙ flag-zero (getD xs t d .any)
 
   -- stores in other columns leave the triangles
-  pub held-kept : 3 * length xs ≤ rows → (ks : List ℕ) (u : List ℕ) → disjoint recordColumns ks ≡ true → Only ks rows w u → Held rows sizes ps ns ts xs d u
+  pub held-kept : 3 * length xs ≤ rows → (ks : List ℕ) (u : List ℕ) → disjoint recordColumns ks ≡ true → Only ks rows w u → Held rows mesh xs d u
   unfolding part
   held-kept fits ks u c O t h =
       let S = H t h in
@@ -104,10 +103,10 @@ three-back rows k t w v room e h =
     zero-more t = omega arith
 
 -- the columns that hold a triangle tell of it
-pub told-stored : (rows : ℕ) (sizes : List ℕ) (ps ns ts : List Float) (w : List ℕ) (t : ℕ) (x : Triangle) → 3 * t + 3 ≤ rows → Stored rows sizes ps ns ts w t x → Told rows sizes ps ns ts w t x
-told-stored rows sizes ps ns ts w t x room S = record {
+pub told-stored : (rows : ℕ) (mesh : Handed) (w : List ℕ) (t : ℕ) (x : Triangle) → 3 * t + 3 ≤ rows → Stored rows mesh w t x → Told rows mesh w t x
+told-stored rows mesh w t x room S = record {
   number = number-at rows cornerColumn t _ w x room (S .corner);
-  corner = λ i. S .from .corner i ∙ ap (cornerAt ps ns ts) (sym (number-at rows cornerColumn t _ w x room (S .corner) i));
+  corner = λ i. S .from .corner i ∙ ap (cornerAt (mesh .positions) (mesh .normals) (mesh .texture)) (sym (number-at rows cornerColumn t _ w x room (S .corner) i));
   slot = number-at rows slotColumn t _ w x room (S .slot);
   face = first nameColumn ∙ ap (λ (l : List ℕ). getD l 0 0) (S .name);
   missing = part-cell rows nameColumn t 2 w (omega arith) room ∙ ap (λ (l : List ℕ). getD l 2 0) (S .name);
@@ -123,10 +122,10 @@ told-stored rows sizes ps ns ts w t x room S = record {
     first k = let e : 3 * t ≡ 3 * t + 0 = omega arith in ap (λ (n : ℕ). cell rows k n w) e ∙ part-cell rows k t 0 w (omega arith) room
 
 -- stores in other columns leave what is told
-pub told-kept : (rows : ℕ) (sizes : List ℕ) (ps ns ts : List Float) (ks w u : List ℕ) (t : ℕ) (x : Triangle) → 3 * t + 3 ≤ rows → disjoint toldColumns ks ≡ true → Only ks rows w u → Told rows sizes ps ns ts w t x → Told rows sizes ps ns ts u t x
-told-kept rows sizes ps ns ts ks w u t x room c O S = record {
+pub told-kept : (rows : ℕ) (mesh : Handed) (ks w u : List ℕ) (t : ℕ) (x : Triangle) → 3 * t + 3 ≤ rows → disjoint toldColumns ks ≡ true → Only ks rows w u → Told rows mesh w t x → Told rows mesh u t x
+told-kept rows mesh ks w u t x room c O S = record {
   number = λ i. at cornerColumn refl i ∙ S .number i;
-  corner = λ i. S .corner i ∙ ap (cornerAt ps ns ts) (sym (at cornerColumn refl i));
+  corner = λ i. S .corner i ∙ ap (cornerAt (mesh .positions) (mesh .normals) (mesh .texture)) (sym (at cornerColumn refl i));
   slot = λ i. at slotColumn refl i ∙ S .slot i;
   face = same nameColumn refl (3 * t) (omega arith) ∙ S .face;
   missing = same nameColumn refl (3 * t + 2) (omega arith) ∙ S .missing;

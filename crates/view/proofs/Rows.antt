@@ -9,12 +9,12 @@ use lib.Dec.{eqb}
 use lib.ListN.{length, getD, length-map, List·getD-map}
 use lib.Seq.{ext-getD}
 use borrow.Author.Tests.{eq-eqb, ne-eqb, eqb-true, eqb-false}
-use Rattle.table.specs.Loop.{listOf}
-use Rattle.table.proofs.Loops.{length-listOf, getD-listOf}
+use Rattle.lists.specs.Loops.{listOf}
+use Rattle.lists.proofs.Loops.{length-listOf, getD-listOf}
 use Rattle.definition.specs.declared.Triangle.{Triangle}
 use Rattle.definition.specs.Mesh.{Third, one, two, three, Spot, after, sameThird, sameSpot}
 use Rattle.definition.specs.Step4Order.{spots}
-use Rattle.laws.proofs.Mutual.{Names}
+use Rattle.definition.specs.Names.{Names}
 use Rattle.laws.proofs.Bridge.{index-same}
 use Rattle.view.specs.Rows.{num, third, row, spotAt, spotRow}
 

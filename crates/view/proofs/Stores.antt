@@ -9,7 +9,7 @@ use lib.Seq.{sets}
 use Rattle.table.specs.Table.{column}
 use Rattle.table.specs.Columns.{columns}
 use Rattle.table.proofs.Laws.{column-sets}
-use Rattle.laws.proofs.Part.{Every, every-nil, every-cons}
+use Rattle.lists.specs.Every.{Every, every-nil, every-cons}
 use Rattle.view.specs.Frame.{outside, Only}
 use Rattle.view.specs.Stores.{Entry, storing}
 use Rattle.view.proofs.Frame.{only-sets}

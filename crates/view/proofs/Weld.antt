@@ -13,11 +13,11 @@ use Rattle.table.specs.Table.{cell}
 use Rattle.table.specs.Columns.{vertexColumn}
 use Rattle.definition.specs.declared.Corner.{Corner}
 use Rattle.definition.specs.declared.Triangle.{Triangle}
-use Rattle.definition.specs.Lists.{first}
+use Rattle.lists.specs.Lists.{first}
 use Rattle.definition.specs.Mesh.{Third, one, two, three, Spot, after, cornerOf}
 use Rattle.definition.specs.Step4Order.{sound, broken, spots, ordered, welded, weldedTo}
 use Rattle.definition.specs.Handed.{meshFrom}
-use Rattle.definition.specs.Desk.{badCorner}
+use Rattle.definition.specs.Desk.{finiteCorner, badCorner}
 use Rattle.definition.specs.Triangles.{triangles}
 use Rattle.definition.specs.Frames.{numbered}
 use Rattle.laws.proofs.Sharp.{sharp-ends, accepted-real, mesh-sharp as every-sharp}
@@ -111,7 +111,7 @@ sound-welds rows ss bs d w W t u i j h k =
     ∙ (λ z. welded (cornerOf (record { tri = List·getD-append ss bs d t h z; at = i })) (cornerOf (record { tri = List·getD-append ss bs d u k z; at = j })))
 
 -- the sound triangles of an accepted mesh are sharp
-pub mesh-sharp : (ps ns ts : List Float) (sizes : List ℕ) (d : Triangle) → ((i : ℕ) → T (fits binary32 (getD ps i nan))) → badCorner 0 (meshFrom ps ns ts 0 sizes) ≡ none → Sharp (sound (triangles (numbered 0 (meshFrom ps ns ts 0 sizes)))) d
+pub mesh-sharp : (ps ns ts : List Float) (sizes : List ℕ) (d : Triangle) → ((i : ℕ) → T (fits binary32 (getD ps i nan))) → badCorner finiteCorner 0 (meshFrom ps ns ts 0 sizes) ≡ none → Sharp (sound (triangles (numbered 0 (meshFrom ps ns ts 0 sizes)))) d
 mesh-sharp ps ns ts sizes d held none-bad = record {
   apart = λ t i h. sharp-ends _ (every-index (every-sharp (meshFrom ps ns ts 0 sizes) (accepted-real ps ns ts held 0 sizes none-bad)) t d h) i;
 }

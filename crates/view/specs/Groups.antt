@@ -8,11 +8,11 @@ use lib.ListN.{length, getD}
 use lib.Seq.{slice}
 use Rattle.tangent.specs.Slot.{flag}
 use Rattle.table.specs.Table.{cell, column}
-use Rattle.table.specs.Loop.{listOf}
+use Rattle.lists.specs.Loops.{listOf}
 use Rattle.table.specs.Columns.{orientationColumn, groupColumn, metColumn, orderColumn, beginColumn}
 use Rattle.definition.specs.declared.Corner.{Corner}
 use Rattle.definition.specs.declared.Triangle.{Triangle}
-use Rattle.definition.specs.Lists.{keep, has}
+use Rattle.lists.specs.Lists.{keep, has}
 use Rattle.definition.specs.Mesh.{Third, one, two, three, cornerOf, sameTriangle, sameSpot}
 use Rattle.definition.specs.Step4Order.{welded}
 use Rattle.definition.specs.Step6Groups.{Mark, grouped, facing, members}

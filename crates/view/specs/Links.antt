@@ -3,14 +3,14 @@ use Prim.Native.Nat.{ℕ, suc, _<_}
 use mathlib.Core.List.{List, _++_}
 use mathlib.Core.Option.{Option, none, some}
 use lib.ListN.{length}
-use lib.Ieee.{Float}
 use Rattle.table.specs.Table.{cell}
 use Rattle.table.specs.Columns.{linkColumn}
+use Rattle.definition.specs.Handed.{Handed}
 use Rattle.definition.specs.declared.Triangle.{Triangle}
 use Rattle.definition.specs.Mesh.{Third, Spot}
 use Rattle.definition.specs.Step4Order.{sound, broken}
 use Rattle.definition.specs.Step5Links.{Link, beyond, links}
-use Rattle.laws.proofs.Mutual.{Names}
+use Rattle.definition.specs.Names.{Names}
 use Rattle.view.specs.Rows.{row, spotAt}
 use Rattle.view.specs.Records.{Held}
 use Rattle.view.specs.Weld.{Vertices, Sharp}
@@ -25,8 +25,8 @@ abbrev pub Linked : ℕ → List Triangle → Triangle → List Link → List �
 Linked rows ss d ls w = (t : ℕ) (i : Third) → t < length ss → LinkWord ss d (beyond ls (spotAt ss d t i)) (cell rows linkColumn (row t i) w)
 
 -- what steps 1 to 5 leave of the triangles xs of all faces, for the lists handed in: sound ones first, then degenerate ones; their vertices; the links of the sound ones
-pub record Five (rows : ℕ) (sizes : List ℕ) (ps ns ts : List Float) (xs : List Triangle) (d : Triangle) (w : List ℕ) : Type 0 where
-  pub held : Held rows sizes ps ns ts (sound xs ++ broken xs) d w
+pub record Five (rows : ℕ) (mesh : Handed) (xs : List Triangle) (d : Triangle) (w : List ℕ) : Type 0 where
+  pub held : Held rows mesh (sound xs ++ broken xs) d w
   pub vertices : Vertices rows (sound xs ++ broken xs) d w
   pub names : Names (sound xs)
   pub sharp : Sharp (sound xs) d

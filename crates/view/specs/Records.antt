@@ -14,7 +14,7 @@ use Rattle.table.specs.Table.{cell, column}
 use Rattle.table.specs.Columns.{cornerColumn, slotColumn, nameColumn, sColumn, tColumn, magnitudeColumn, orientationColumn, anyColumn}
 use Rattle.definition.specs.declared.Triangle.{Triangle}
 use Rattle.definition.specs.Mesh.{Third, kept}
-use Rattle.definition.specs.Handed.{cornerAt, cornerCount, slotCount}
+use Rattle.definition.specs.Handed.{Handed, cornerAt, cornerCount, slotCount}
 use Rattle.view.specs.Rows.{row}
 
 -- the three words of triangle t in column k
@@ -43,31 +43,31 @@ pub record From (ps ns ts : List Float) (base : ℕ) (x : Triangle) : Type 0 whe
   pub corner : (i : Third) → kept x i .corner ≡ cornerAt ps ns ts (base + kept x i .which)
 
 -- the columns hold x as triangle number t, for the lists handed in
-pub record Stored (rows : ℕ) (sizes : List ℕ) (ps ns ts : List Float) (w : List ℕ) (t : ℕ) (x : Triangle) : Type 0 where
-  pub corner : part rows cornerColumn t w ≡ numbers (cornerCount (take (x .face) sizes)) x
-  pub slot : part rows slotColumn t w ≡ numbers (slotCount (take (x .face) sizes)) x
+pub record Stored (rows : ℕ) (mesh : Handed) (w : List ℕ) (t : ℕ) (x : Triangle) : Type 0 where
+  pub corner : part rows cornerColumn t w ≡ numbers (cornerCount (take (x .face) (mesh .sizes))) x
+  pub slot : part rows slotColumn t w ≡ numbers (slotCount (take (x .face) (mesh .sizes))) x
   pub name : part rows nameColumn t w ≡ names x
   pub along : part rows sColumn t w ≡ threeOf (x .tangent .s)
   pub up : part rows tColumn t w ≡ threeOf (x .tangent .t)
   pub long : part rows magnitudeColumn t w ≡ lengths (x .tangent) (x .marked)
   pub way : cell rows orientationColumn t w ≡ flag (x .orientation)
   pub loose : cell rows anyColumn t w ≡ flag (x .any)
-  pub from : From ps ns ts (cornerCount (take (x .face) sizes)) x
+  pub from : From (mesh .positions) (mesh .normals) (mesh .texture) (cornerCount (take (x .face) (mesh .sizes))) x
   pub held : HeldSpace (x .tangent)
 
 -- the columns hold the triangles xs, in their order; d is any triangle
-abbrev pub Held : ℕ → List ℕ → List Float → List Float → List Float → List Triangle → Triangle → List ℕ → Type 0
-Held rows sizes ps ns ts xs d w = (t : ℕ) → t < length xs → Stored rows sizes ps ns ts w t (getD xs t d)
+abbrev pub Held : ℕ → Handed → List Triangle → Triangle → List ℕ → Type 0
+Held rows mesh xs d w = (t : ℕ) → t < length xs → Stored rows mesh w t (getD xs t d)
 
 -- the columns of a triangle
 abbrev pub recordColumns : List ℕ
 recordColumns = cornerColumn ∷ slotColumn ∷ nameColumn ∷ sColumn ∷ tColumn ∷ magnitudeColumn ∷ orientationColumn ∷ anyColumn ∷ []
 
 -- What the columns tell of x as triangle number t, for the lists handed in: all that steps 7 to 9 read of it. Its orientation, which step 6 alters, is not among it.
-pub record Told (rows : ℕ) (sizes : List ℕ) (ps ns ts : List Float) (w : List ℕ) (t : ℕ) (x : Triangle) : Type 0 where
-  pub number : (i : Third) → cell rows cornerColumn (row t i) w ≡ cornerCount (take (x .face) sizes) + kept x i .which
-  pub corner : (i : Third) → kept x i .corner ≡ cornerAt ps ns ts (cell rows cornerColumn (row t i) w)
-  pub slot : (i : Third) → cell rows slotColumn (row t i) w ≡ slotCount (take (x .face) sizes) + kept x i .which
+pub record Told (rows : ℕ) (mesh : Handed) (w : List ℕ) (t : ℕ) (x : Triangle) : Type 0 where
+  pub number : (i : Third) → cell rows cornerColumn (row t i) w ≡ cornerCount (take (x .face) (mesh .sizes)) + kept x i .which
+  pub corner : (i : Third) → kept x i .corner ≡ cornerAt (mesh .positions) (mesh .normals) (mesh .texture) (cell rows cornerColumn (row t i) w)
+  pub slot : (i : Third) → cell rows slotColumn (row t i) w ≡ slotCount (take (x .face) (mesh .sizes)) + kept x i .which
   pub face : cell rows nameColumn (3 * t) w ≡ x .face
   pub missing : cell rows nameColumn (3 * t + 2) w ≡ x .missing
   pub along : vectorOf (cell rows sColumn (3 * t) w) (cell rows sColumn (3 * t + 1) w) (cell rows sColumn (3 * t + 2) w) ≡ x .tangent .s
@@ -78,8 +78,8 @@ pub record Told (rows : ℕ) (sizes : List ℕ) (ps ns ts : List Float) (w : Lis
   pub loose : cell rows anyColumn t w ≡ flag (x .any)
 
 -- of the triangles xs, in their order
-abbrev pub Tells : ℕ → List ℕ → List Float → List Float → List Float → List Triangle → Triangle → List ℕ → Type 0
-Tells rows sizes ps ns ts xs d w = (t : ℕ) → t < length xs → Told rows sizes ps ns ts w t (getD xs t d)
+abbrev pub Tells : ℕ → Handed → List Triangle → Triangle → List ℕ → Type 0
+Tells rows mesh xs d w = (t : ℕ) → t < length xs → Told rows mesh w t (getD xs t d)
 
 -- the columns of a triangle but for its orientation
 abbrev pub toldColumns : List ℕ

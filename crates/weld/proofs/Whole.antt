@@ -6,15 +6,15 @@ use mathlib.Core.Bool.{Bool}
 use mathlib.Core.List.{List}
 use lib.Ieee.{Float}
 use lib.ListN.{length, getD}
-use Rattle.table.specs.Loop.{listOf}
+use Rattle.lists.specs.Loops.{listOf}
 use Rattle.table.specs.Table.{cell, column, filledTo}
 use Rattle.table.specs.Columns.{columns, cornerColumn, vertexColumn, headColumn}
-use Rattle.table.proofs.Loops.{length-listOf, getD-listOf}
+use Rattle.lists.proofs.Loops.{length-listOf, getD-listOf}
 use Rattle.table.proofs.Laws.{getD-column, filled-column}
 use Rattle.definition.specs.declared.Corner.{Corner}
 use Rattle.definition.specs.declared.Triangle.{Triangle}
 use Rattle.definition.specs.Mesh.{cornerOf}
-use Rattle.definition.specs.Handed.{cornerAt}
+use Rattle.definition.specs.Handed.{handed, cornerAt}
 use Rattle.definition.specs.Step4Order.{welded}
 use Rattle.laws.proofs.Weld.{welded-refl}
 use Rattle.view.specs.Frame.{Only}
@@ -68,7 +68,7 @@ module _ (rows n : ℕ) (ps ns ts : List Float) (w u : List ℕ) where
       same k h = ap (λ (l : List ℕ). cornerIn ps ns ts l k) (O .others cornerColumn refl) ∙ ap (cornerAt ps ns ts) (getD-column rows w cornerColumn k (omega arith))
 
   -- in the words of the definition: the column stands for the vertices of the triangles whose corners the rows are
-  pub vertices-are : Welded rows n ps ns ts w u → n ≤ rows → (sizes : List ℕ) (xs : List Triangle) (d : Triangle) → 3 * length xs ≡ n → Held rows sizes ps ns ts xs d w → Vertices rows xs d u
+  pub vertices-are : Welded rows n ps ns ts w u → n ≤ rows → (sizes : List ℕ) (xs : List Triangle) (d : Triangle) → 3 * length xs ≡ n → Held rows (handed sizes ps ns ts) xs d w → Vertices rows xs d u
   vertices-are W small sizes xs d e H t i h =
       subst (λ s. First (λ k. welded (cornerOf s) (cornerOf (spotRow xs d k))) (cell rows vertexColumn (row t i) u)) (spot-is xs d t i)
       (corner-kept (cornerRow ps ns ts rows w) (λ k. cornerOf (spotRow xs d k)) n (row t i) _ corners at (W .first (row t i) at))
@@ -77,4 +77,4 @@ module _ (rows n : ℕ) (ps ns ts : List Float) (w u : List ℕ) where
       at = omega (arith, e, row-lt t (length xs) i h)
 
       corners : (k : ℕ) → k < n → cornerRow ps ns ts rows w k ≡ cornerOf (spotRow xs d k)
-      corners k l = ap (cornerRow ps ns ts rows w) (sym (row-is k)) ∙ corner-is rows sizes ps ns ts xs d w H (omega arith) (k / 3) (third (k % 3)) (tri-lt k (length xs) (omega arith))
+      corners k l = ap (cornerRow ps ns ts rows w) (sym (row-is k)) ∙ corner-is rows (handed sizes ps ns ts) xs d w H (omega arith) (k / 3) (third (k % 3)) (tri-lt k (length xs) (omega arith))

@@ -8,6 +8,7 @@ ghost use lib.ListN.{length};
 ghost use Rattle.bits.specs.Word.{word};
 ghost use Rattle.table.specs.Columns.{columns, cornerColumn, nextColumn};
 ghost use Rattle.table.specs.Table.{column};
+ghost use Rattle.definition.specs.Handed.{handed};
 ghost use Rattle.definition.specs.declared.Triangle.{Triangle};
 ghost use Rattle.definition.specs.Step4Order.{sameBits, sameVector, welded};
 ghost use Rattle.view.specs.Frame.{Only};
@@ -163,7 +164,7 @@ pub fn weld(
     texture: &[f32],
 )
     requires { ⌜ (n ≤ rows) × (columns * rows ≤ length (now work)) × (rows < 4294967295) ⌝ }
-    ensures { λ _. ⌜ spec.Welded rows n (now (positions .entry)) (now (normals .entry)) (now (texture .entry)) (now (work .entry)) (now (work .exit)) × ((sizes : List ℕ) (xs : List Triangle) (d : Triangle) → 3 * length xs ≡ n → Held rows sizes (now (positions .entry)) (now (normals .entry)) (now (texture .entry)) xs d (now (work .entry)) → Vertices rows xs d (now (work .exit))) ⌝ }
+    ensures { λ _. ⌜ spec.Welded rows n (now (positions .entry)) (now (normals .entry)) (now (texture .entry)) (now (work .entry)) (now (work .exit)) × ((sizes : List ℕ) (xs : List Triangle) (d : Triangle) → 3 * length xs ≡ n → Held rows (handed sizes (now (positions .entry)) (now (normals .entry)) (now (texture .entry))) xs d (now (work .entry)) → Vertices rows xs d (now (work .exit))) ⌝ }
 {
     table::clear(work, rows, table::HEAD);
     for r in 0..n {

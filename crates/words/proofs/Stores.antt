@@ -8,8 +8,8 @@ use mathlib.Core.List.{List, [], _∷_, _++_}
 use lib.ListN.{length, getD, set, take, drop}
 use lib.Seq.{sets, sets-eq, take-suc, length-take-le}
 use Rattle.table.proofs.Laws.{sets-snoc}
-use Rattle.words.specs.Lists.{joined}
-use Rattle.words.proofs.Lists.{joined-more}
+use Rattle.lists.specs.Parts.{joined}
+use Rattle.lists.proofs.Parts.{joined-more}
 
 -- a run that begins where another ends
 pub sets-join : (l : List ℕ) (p q : ℕ) (xs ys : List ℕ) → q ≡ p + length xs → sets (sets l p xs) q ys ≡ sets l p (xs ++ ys)

@@ -7,12 +7,12 @@ use mathlib.Core.Path.{_≡_, refl, sym, ap, _∙_, subst}
 use mathlib.Core.List.{List, [], _∷_, _++_, flatMap, append-assoc}
 use lib.ListN.{length, getD, set, take, drop, replicate, List·getD-append}
 use lib.Seq.{sets, getD-append-add, getD-take, getD-drop, ext-getD}
-use Rattle.table.specs.Loop.{listOf}
-use Rattle.table.proofs.Loops.{length-listOf, getD-listOf}
+use Rattle.lists.specs.Loops.{listOf}
+use Rattle.lists.proofs.Loops.{length-listOf, getD-listOf}
 use Rattle.table.proofs.Laws.{sets-snoc}
-use Rattle.words.specs.Lists.{sumOf, part}
-use Rattle.words.specs.Words.{wordBytes, bytesOf, wordAt, wordsAt, Fit}
-use Rattle.words.proofs.Lists.{length-zeros, sum-snoc, part-more, length-part}
+use Rattle.lists.specs.Parts.{sumOf, part}
+use Rattle.words.specs.Words.{wordValues, wordBytes, bytesOf, wordAt, wordsAt, Fit}
+use Rattle.lists.proofs.Parts.{length-zeros, sum-snoc, part-more, length-part}
 use Rattle.words.proofs.Stores.{sets-join}
 
 -- the bytes of two lists of words
@@ -141,7 +141,7 @@ byte-of (w ∷ ws) (suc i) k h l =
     past = omega (arith, four w)
 
 -- a word below 2^32 is its four bytes
-whole : (w : ℕ) → w < 4294967296 → w % 256 + 256 * (w / 256 % 256) + 65536 * (w / 65536 % 256) + 16777216 * (w / 16777216 % 256) ≡ w
+whole : (w : ℕ) → w < wordValues → w % 256 + 256 * (w / 256 % 256) + 65536 * (w / 65536 % 256) + 16777216 * (w / 16777216 % 256) ≡ w
 whole w h =
     parts w (w / 256) (w / 65536) (w / 16777216 % 256) (w % 256) (w / 256 % 256) (w / 65536 % 256) (mod-add-div w 256)
     (ap (λ (q : ℕ). w / 256 % 256 + 256 * q) twice ∙ mod-add-div (w / 256) 256) (ap (λ (q : ℕ). w / 65536 % 256 + 256 * q) (last ∙ thrice) ∙ mod-add-div (w / 65536) 256)
@@ -159,7 +159,7 @@ whole w h =
     last = omega arith
 
 -- word i of the bytes of words
-word-back : (ws : List ℕ) (i : ℕ) → i < length ws → getD ws i 0 < 4294967296 → wordAt (bytesOf ws) i ≡ getD ws i 0
+word-back : (ws : List ℕ) (i : ℕ) → i < length ws → getD ws i 0 < wordValues → wordAt (bytesOf ws) i ≡ getD ws i 0
 unfolding wordAt wordBytes
 word-back ws i h k =
     (λ z. first z + 256 * byte-of ws i 1 h (omega arith) z + 65536 * byte-of ws i 2 h (omega arith) z + 16777216 * byte-of ws i 3 h (omega arith) z) ∙ whole (getD ws i 0) k
@@ -198,7 +198,7 @@ fit-zeros zero i h = absurd (omega arith)
 fit-zeros (suc n) zero h = omega arith
 fit-zeros (suc n) (suc i) h = fit-zeros n i (le-of-suc-le-suc h)
 
-pub fit-one : (w : ℕ) → w < 4294967296 → Fit (w ∷ [])
+pub fit-one : (w : ℕ) → w < wordValues → Fit (w ∷ [])
 fit-one w k zero h = k
 fit-one w k (suc i) h = absurd (omega arith)
 
@@ -206,4 +206,4 @@ pub fit-part : (p n : ℕ) (l : List ℕ) → p + n ≤ length l → Fit l → F
 unfolding part
 fit-part p n l h f i k =
     let b : i < n = omega (arith, k, length-part p n l h) in
-    subst (λ (x : ℕ). x < 4294967296) (sym (getD-take n (drop p l) i 0 b ∙ getD-drop p l i 0)) (f (p + i) (omega (arith, b, h)))
+    subst (λ (x : ℕ). x < wordValues) (sym (getD-take n (drop p l) i 0 b ∙ getD-drop p l i 0)) (f (p + i) (omega (arith, b, h)))

@@ -2,7 +2,11 @@
 use Prim.Native.Nat.{ℕ, _+_, _*_, _/_, _%_, _<_}
 use mathlib.Core.List.{List, [], _∷_, flatMap}
 use lib.ListN.{length, getD}
-use Rattle.table.specs.Loop.{listOf}
+use Rattle.lists.specs.Loops.{listOf}
+
+-- how many numbers a word of 32 bits can be
+abbrev pub wordValues : ℕ
+wordValues = 4294967296
 
 -- the four bytes of a word
 unfoldable pub wordBytes : ℕ → List ℕ
@@ -22,4 +26,4 @@ wordsAt bs i n = listOf n (λ k. wordAt bs (i + k))
 
 -- each number of a list is a word of 32 bits
 abbrev pub Fit : List ℕ → Type 0
-Fit l = (i : ℕ) → i < length l → getD l i 0 < 4294967296
+Fit l = (i : ℕ) → i < length l → getD l i 0 < wordValues

@@ -1,9 +1,9 @@
 // Words of 32 bits in a list of bytes, the least byte first.
 ghost use mathlib.Core.Path.{_≡_};
-ghost use Prim.Native.Nat.{_+_, _*_, _≤_, _<_};
+ghost use Prim.Native.Nat.{_+_, _-_, _*_, _≤_, _<_};
 ghost use lib.ListN.{length, getD, replicate};
 ghost use lib.Seq.{sets};
-ghost use Rattle.words.specs.Lists.{sumOf, part};
+ghost use Rattle.lists.specs.Parts.{sumOf, part};
 ghost use Rattle.words.specs.Words as spec;
 
 // A byte of a list.
@@ -40,8 +40,8 @@ pub fn put_word(bytes: &mut [u8], i: usize, w: u32)
 
 // The words of a list from `from` on, `count` of them, stored as bytes from word `to` on; their sum.
 pub fn put_words(bytes: &mut [u8], to: usize, words: &[u32], from: usize, count: usize) -> u64
-    requires { ⌜ (4 * (to + count) ≤ length (now bytes)) × (from + count ≤ length (now words)) × (count ≤ 4096) ⌝ }
-    ensures { λ r. ⌜ (now (bytes .exit) ≡ sets (now (bytes .entry)) (4 * to) (spec.bytesOf (part from count (now (words .entry))))) × (r ≡ sumOf (part from count (now (words .entry)))) × (r ≤ 4294967295 * count) ⌝ }
+    requires { ⌜ (4 * (to + count) ≤ length (now bytes)) × (from + count ≤ length (now words)) × (count ≤ spec.wordValues) ⌝ }
+    ensures { λ r. ⌜ (now (bytes .exit) ≡ sets (now (bytes .entry)) (4 * to) (spec.bytesOf (part from count (now (words .entry))))) × (r ≡ sumOf (part from count (now (words .entry)))) × (r ≤ (spec.wordValues - 1) * count) ⌝ }
 {
     let mut sum = 0;
     for i in 0..count {
@@ -74,7 +74,7 @@ pub fn get_words(bytes: &[u8], from: usize, words: &mut [u32], to: usize, count:
 
 // The sum of `count` words of a list of bytes, from word `from` on.
 pub fn sum_at(bytes: &[u8], from: usize, count: usize) -> u64
-    requires { ⌜ (4 * (from + count) ≤ length (now bytes)) × (count ≤ 4096) ⌝ }
+    requires { ⌜ (4 * (from + count) ≤ length (now bytes)) × (count ≤ spec.wordValues) ⌝ }
     ensures { λ r. ⌜ r ≡ sumOf (spec.wordsAt (now (bytes .entry)) from count) ⌝ }
 {
     let mut sum = 0;

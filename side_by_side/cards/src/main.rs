@@ -2,18 +2,14 @@
 mod bench;
 mod compare;
 mod damage;
-#[path = "../../src/lent.rs"]
-mod lent;
 mod ours;
 mod plain;
-#[path = "../../src/random.rs"]
-#[allow(dead_code)]
-mod random;
 mod runs;
 mod walks;
 mod writer;
 
-use random::Random;
+use models::random::Random;
+use models::{lent, random};
 use std::env::{args, temp_dir};
 use std::fs;
 use std::path::{Path, PathBuf};

@@ -1,17 +1,13 @@
 //! The proved packer of frames and its reader beside plain ones in Rust: every number, every word.
 mod bench;
 mod compare;
-#[path = "../../src/lent.rs"]
-mod lent;
 mod ours;
 mod patterns;
 mod plain;
-#[path = "../../src/random.rs"]
-#[allow(dead_code)]
-mod random;
 mod runs;
 
-use random::Random;
+use models::random::Random;
+use models::{lent, random};
 use std::env::args;
 use std::process::ExitCode;
 use std::time::Instant;

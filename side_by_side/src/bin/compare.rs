@@ -5,7 +5,7 @@ use side_by_side::mesh::Case;
 use side_by_side::runner::{Plan, run};
 use side_by_side::shrink::shrink;
 use side_by_side::spoil::{SPOILS, Spoil};
-use side_by_side::{ops, stack, text};
+use side_by_side::{stack, text};
 use std::process::exit;
 use std::time::Instant;
 
@@ -30,7 +30,6 @@ struct Options {
 
 fn main() {
     let options = options();
-    ops::samples();
     let right = match &options.file {
         Some(file) => compare_file(file, options.spoil),
         None => compare_kinds(&options),

@@ -1,12 +1,17 @@
 //! A partner's lists examined beside a plain examiner, and our own lists beside plain steps 5 and 6: what is said, and every word. See README.md.
-use side_by_side::examiner::{Left, Lists, expected, left};
-use side_by_side::kinds::KINDS;
+use models::{Faces, shapes};
+use side_by_side::examiner::{ENTRIES, Left, Lists, expected, left, own_expected, own_left};
+use side_by_side::kinds::named;
+use side_by_side::many::{
+    Spoil, differed, each, every_spoil_caught, flip, kind_of, lengths, numbers,
+};
 use side_by_side::mesh::Mesh;
-use side_by_side::partner::{lengths, lists};
+use side_by_side::partner::lists;
 use side_by_side::random::Random;
+use side_by_side::refusals::MOST_FACES;
+use side_by_side::stack::{MODEL, OURS, within};
 use std::process::exit;
 use std::sync::atomic::{AtomicU64, Ordering::Relaxed};
-use std::thread::{available_parallelism, scope};
 use std::time::Instant;
 
 const USAGE: &str = "usage: examine [--seed N] [--count N] [--case N] [--gate]";
@@ -26,33 +31,34 @@ const SHARES: [(&str, u64); 8] = [
 /// How many lists the gate examines.
 const GATE: u64 = 10_000;
 
+/// The kinds of meshes whose own lists are compared besides, and how many of each.
+const OWN: [&str; 4] = ["mesh", "zeros", "extreme", "needle"];
+const OWN_COUNT: u64 = 20_000;
+
+/// How many large meshes of the kind `big` are compared.
+const BIG: u64 = 60;
+
 /// From so many lists on each objection has to occur so often.
 const MANY: u64 = 1_000_000;
 const OFTEN: u64 = 1_000;
 
-/// A word that is altered on purpose, by name.
-type Spoil = (&'static str, fn(&mut Left));
-
 /// Each alters one word of what the calls left, to show that the comparison notices it.
-const SPOILS: [Spoil; 12] = [
+const SPOILS: [Spoil<Left>; 12] = [
     ("refusal", |left| left.examined.refusal ^= 1),
     ("objection", |left| left.examined.objection ^= 1),
     ("place", |left| left.examined.place += 1),
     ("work", |left| flip(&mut left.work)),
     ("a list handed in", |left| flip(&mut left.lists.groups)),
-    ("number", |left| left.handed.number ^= 1),
-    ("links' place", |left| left.handed.place += 1),
-    ("sound", |left| left.handed.sound += 1),
-    ("links", |left| flip(&mut left.own.links)),
-    ("groups", |left| flip(&mut left.own.groups)),
-    ("orientations", |left| flip(&mut left.own.orientations)),
-    ("links' work", |left| flip(&mut left.own_work)),
+    ("number", |left| left.own.handed.number ^= 1),
+    ("links' place", |left| left.own.handed.place += 1),
+    ("sound", |left| left.own.handed.sound += 1),
+    ("links", |left| flip(&mut left.own.lists.links)),
+    ("groups", |left| flip(&mut left.own.lists.groups)),
+    ("orientations", |left| {
+        flip(&mut left.own.lists.orientations)
+    }),
+    ("links' work", |left| flip(&mut left.own.work)),
 ];
-
-/// Turns the lowest bit of a list's last word.
-fn flip(list: &mut [u32]) {
-    list.iter_mut().rev().take(1).for_each(|word| *word ^= 1);
-}
 
 /// What was seen.
 #[derive(Default)]
@@ -76,52 +82,31 @@ struct Case {
 }
 
 fn main() {
-    let (mut seed, mut count, mut case, mut gate) = (1, 100_000, None, false);
-    let mut words = std::env::args().skip(1);
-    while let Some(word) = words.next() {
-        let mut number = || words.next().and_then(|word| word.parse().ok());
-        match word.as_str() {
-            "--seed" => seed = number().unwrap_or_else(usage),
-            "--count" => count = number().unwrap_or_else(usage),
-            "--case" => case = Some(number().unwrap_or_else(usage)),
-            "--gate" => gate = true,
-            _ => usage(),
-        }
-    }
-    if let Some(i) = case {
+    let Some(([seed, count, shown], gate)) = numbers(["--seed", "--count", "--case"]) else {
+        eprintln!("{USAGE}");
+        exit(2);
+    };
+    let (seed, count) = (seed.unwrap_or(1), count.unwrap_or(100_000));
+    if let Some(i) = shown {
         exit(show(seed, i));
     }
-    let right = compare_all(seed, if gate { GATE } else { count });
-    exit(i32::from(!(right & every_spoil_caught(seed))));
-}
-
-/// Says how the program is used, and ends.
-fn usage<T>() -> T {
-    eprintln!("{USAGE}");
-    exit(2);
+    let noticed = |i, spoil| differs(&case(seed, i), Some(spoil)).0.is_some();
+    let right = compare_all(seed, if gate { GATE } else { count })
+        & compare_own(seed)
+        & compare_large(seed)
+        & every_spoil_caught(&SPOILS, noticed);
+    exit(i32::from(!right));
 }
 
 /// The case of a number.
 fn case(seed: u64, i: u64) -> Case {
-    let mut share = i % SHARES.iter().map(|(_, share)| share).sum::<u64>();
-    let passed = |(_, wide): &&(&str, u64)| match share < *wide {
-        true => true,
-        false => {
-            share -= wide;
-            false
-        }
-    };
-    let (name, _) = SHARES.iter().find(passed).expect("a share");
-    let kind = KINDS
-        .iter()
-        .find(|kind| kind.name == *name)
-        .expect("a kind");
+    let kind = kind_of(&SHARES, i);
     let mesh = kind.case(seed, i).mesh;
     let r = &mut Random::of(seed, "partner", i);
     Case {
-        kind: name,
+        kind: kind.name,
         lists: lists(r, &mesh),
-        lengths: lengths(r, mesh.sizes.len()),
+        lengths: lengths(r, ENTRIES, mesh.sizes.len(), 8),
         mesh,
     }
 }
@@ -133,25 +118,23 @@ fn differs(case: &Case, spoil: Option<fn(&mut Left)>) -> (Option<String>, Left) 
     if let Some(spoil) = spoil {
         spoil(&mut ours);
     }
+    let (own, wanted) = (&ours.own, &expected.own);
     let parts = [
         ("what the examiner says", ours.examined == expected.examined),
         ("the work list", ours.work == expected.work),
         ("the lists handed in", ours.lists == expected.lists),
-        (
-            "what the call for links says",
-            ours.handed == expected.handed,
-        ),
-        ("links", ours.own.links == expected.own.links),
-        ("groups", ours.own.groups == expected.own.groups),
-        (
-            "orientations",
-            ours.own.orientations == expected.own.orientations,
-        ),
-        ("the work list of links", ours.own_work == expected.own_work),
+        ("what the call for links says", own.handed == wanted.handed),
+        ("links, groups or orientations", own.lists == wanted.lists),
+        ("the work list of links", own.work == wanted.work),
     ];
     let wrong = parts.iter().find(|(_, same)| !same);
     let what = wrong.map(|(what, _)| {
-        let said = |left: &Left| format!("{:?} {:?} {:?}", left.examined, left.handed, left.own);
+        let said = |left: &Left| {
+            format!(
+                "{:?} {:?} {:?}",
+                left.examined, left.own.handed, left.own.lists
+            )
+        };
         format!("{what}: {}, expected {}", said(&ours), said(&expected))
     });
     (what, expected)
@@ -170,21 +153,8 @@ fn show(seed: u64, i: u64) -> i32 {
 /// Compares so many cases on every processor; true if nothing differed, and each objection occurred often enough.
 fn compare_all(seed: u64, count: u64) -> bool {
     let start = Instant::now();
-    let (seen, next) = (Seen::default(), AtomicU64::new(0));
-    let work = || {
-        loop {
-            let i = next.fetch_add(1, Relaxed);
-            if i >= count {
-                break;
-            }
-            one(seed, i, &seen);
-        }
-    };
-    scope(|scope| {
-        for _ in 0..available_parallelism().map_or(1, usize::from) {
-            scope.spawn(work);
-        }
-    });
+    let seen = Seen::default();
+    each(count, |i| one(seed, i, &seen));
     report(&seen, start);
     let rare = seen.objections[1..].iter().any(|n| number(n) < OFTEN);
     if count >= MANY && rare {
@@ -220,43 +190,70 @@ fn one(seed: u64, i: u64, seen: &Seen) {
     let (what, expected) = differs(&case, None);
     seen.compared.fetch_add(1, Relaxed);
     if let Some(what) = what {
-        let before = seen.differed.fetch_add(1, Relaxed);
-        if before == 0 {
-            let short: String = what.chars().take(4000).collect();
-            println!("case {i} of seed {seed} ({}): {short}", case.kind);
-        }
+        differed(&seen.differed, seed, i, case.kind, &what);
     }
+    let own = &expected.own;
     seen.nine
-        .fetch_add(u64::from(expected.handed.number == 9), Relaxed);
+        .fetch_add(u64::from(own.handed.number == 9), Relaxed);
     if expected.examined.refusal != 0 {
         seen.refused.fetch_add(1, Relaxed);
         return;
     }
     let objection = expected.examined.objection as usize;
     seen.objections[objection].fetch_add(1, Relaxed);
-    if objection == 0 && expected.handed.number == 0 {
-        let sound = expected.handed.sound as usize;
-        let (own, lists) = (&expected.own, &case.lists);
-        let same = own.links[..3 * sound] == lists.links
-            && own.groups[..3 * sound] == lists.groups
-            && own.orientations[..sound] == lists.orientations;
+    if objection == 0 && own.handed.number == 0 {
+        let mut handed_out = own.lists.clone();
+        handed_out.cut(own.handed.sound as usize);
+        let same = handed_out == case.lists;
         seen.others.fetch_add(u64::from(!same), Relaxed);
     }
 }
 
-/// True if each spoiled word is noticed in one of some cases.
-fn every_spoil_caught(seed: u64) -> bool {
-    let caught =
-        |spoil: &&Spoil| (0..200).any(|i| differs(&case(seed, i), Some(spoil.1)).0.is_some());
-    let missed: Vec<&str> = SPOILS
-        .iter()
-        .filter(|spoil| !caught(spoil))
-        .map(|(name, _)| *name)
-        .collect();
-    println!(
-        "spoiled words: {} of {} caught; missed: {missed:?}",
-        SPOILS.len() - missed.len(),
-        SPOILS.len()
-    );
-    missed.is_empty()
+/// Our own lists of meshes of four kinds beside the plain steps 5 and 6; true if nothing differed.
+fn compare_own(seed: u64) -> bool {
+    let (wrong, kinds) = (AtomicU64::new(0), OWN.map(named));
+    each(OWN_COUNT * OWN.len() as u64, |i| {
+        let (kind, i) = (kinds[i as usize % OWN.len()], i / OWN.len() as u64);
+        let mesh = kind.case(seed, i).mesh;
+        let lengths = ENTRIES.map(|entries| entries * mesh.sizes.len());
+        if own_left(&mesh, lengths) != own_expected(&mesh, lengths) {
+            differed(&wrong, seed, i, kind.name, "our own lists");
+        }
+    });
+    let wrong = number(&wrong);
+    println!("our own lists of {OWN:?}: {OWN_COUNT} of each compared, {wrong} differed");
+    wrong == 0
+}
+
+/// The largest meshes of some shapes, and large random ones.
+fn large(seed: u64) -> impl Iterator<Item = (&'static str, Mesh)> {
+    let shapes: [(&str, Faces); 6] = [
+        ("tube", shapes::tube(MOST_FACES)),
+        ("sheet", shapes::sheet(MOST_FACES)),
+        ("fan", shapes::fan(MOST_FACES)),
+        ("quad fan", shapes::quad_fan(MOST_FACES)),
+        ("book", shapes::book(MOST_FACES, true)),
+        ("deepest walk", shapes::deepest(MOST_FACES)),
+    ];
+    let shapes = shapes.map(|(name, faces)| (name, Mesh::from_faces(&faces, 0)));
+    let random = (0..BIG).map(move |i| ("big", named("big").case(seed, i).mesh));
+    shapes.into_iter().chain(random)
+}
+
+/// The same of large meshes: ours has little stack, and the model much, since its walk calls itself.
+fn compare_large(seed: u64) -> bool {
+    let (mut compared, mut rows, mut wrong) = (0, 0, 0);
+    for (name, mesh) in large(seed) {
+        let lengths = ENTRIES.map(|entries| entries * mesh.sizes.len());
+        let ours = within(OURS, || own_left(&mesh, lengths));
+        let expected = within(MODEL, || own_expected(&mesh, lengths));
+        compared += 1;
+        rows += 3 * u64::from(expected.handed.sound);
+        if ours != expected {
+            println!("large mesh {compared} of seed {seed} ({name}) differs");
+            wrong += 1;
+        }
+    }
+    println!("our own lists of large meshes: {compared} compared, {wrong} differed; {rows} rows");
+    wrong == 0
 }

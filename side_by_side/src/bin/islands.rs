@@ -1,11 +1,12 @@
 //! Frames by islands beside one call for frames, and labels beside a plain model: every word of every list. See README.md.
-use side_by_side::islands::{Left, expected, left, lengths};
-use side_by_side::kinds::KINDS;
+use side_by_side::islands::{ENTRIES, Left, expected, left};
+use side_by_side::many::{
+    Spoil, differed, each, every_spoil_caught, flip, kind_of, lengths, numbers,
+};
 use side_by_side::mesh::Mesh;
 use side_by_side::random::Random;
 use std::process::exit;
 use std::sync::atomic::{AtomicU64, Ordering::Relaxed};
-use std::thread::{available_parallelism, scope};
 use std::time::Instant;
 
 const USAGE: &str = "usage: islands [--seed N] [--count N] [--gate]";
@@ -25,11 +26,8 @@ const SHARES: [(&str, u64); 8] = [
 /// How many meshes the gate compares.
 const GATE: u64 = 20_000;
 
-/// A word that is altered on purpose, by name.
-type Spoil = (&'static str, fn(&mut Left));
-
 /// Each alters one word of what the calls left, to show that the comparison notices it.
-const SPOILS: [Spoil; 12] = [
+const SPOILS: [Spoil<Left>; 12] = [
     ("number", |left| left.outcome.number ^= 1),
     ("answer", |left| flip(&mut left.answer)),
     ("work", |left| flip(&mut left.work)),
@@ -50,11 +48,6 @@ const SPOILS: [Spoil; 12] = [
     ("labels' work", |left| flip(&mut left.labels_work)),
 ];
 
-/// Turns the lowest bit of a list's last word.
-fn flip(list: &mut [u32]) {
-    list.iter_mut().rev().take(1).for_each(|word| *word ^= 1);
-}
-
 /// What was seen.
 #[derive(Default)]
 struct Seen {
@@ -66,45 +59,26 @@ struct Seen {
 }
 
 fn main() {
-    let (mut seed, mut count, mut gate) = (1, 100_000, false);
-    let mut words = std::env::args().skip(1);
-    while let Some(word) = words.next() {
-        let mut number = || words.next().and_then(|word| word.parse().ok());
-        match word.as_str() {
-            "--seed" => seed = number().unwrap_or_else(usage),
-            "--count" => count = number().unwrap_or_else(usage),
-            "--gate" => gate = true,
-            _ => usage(),
-        }
-    }
+    let Some(([seed, count], gate)) = numbers(["--seed", "--count"]) else {
+        eprintln!("{USAGE}");
+        exit(2);
+    };
+    let (seed, count) = (seed.unwrap_or(1), count.unwrap_or(100_000));
     let right = compare_all(seed, if gate { GATE } else { count });
-    exit(i32::from(!(right & every_spoil_caught(seed))));
-}
-
-/// Says how the program is used, and ends.
-fn usage<T>() -> T {
-    eprintln!("{USAGE}");
-    exit(2);
+    let noticed = |i: u64, spoil| {
+        let (_, mesh, lengths) = case(seed, i);
+        differs(&mesh, lengths, Some(spoil)).0.is_some()
+    };
+    exit(i32::from(!(right & every_spoil_caught(&SPOILS, noticed))));
 }
 
 /// The mesh of a number, and the lengths of the lists that are lent besides.
 fn case(seed: u64, i: u64) -> (&'static str, Mesh, [usize; 5]) {
-    let mut share = i % SHARES.iter().map(|(_, share)| share).sum::<u64>();
-    let passed = |(_, wide): &&(&str, u64)| match share < *wide {
-        true => true,
-        false => {
-            share -= wide;
-            false
-        }
-    };
-    let (name, _) = SHARES.iter().find(passed).expect("a share");
-    let kind = KINDS
-        .iter()
-        .find(|kind| kind.name == *name)
-        .expect("a kind");
+    let kind = kind_of(&SHARES, i);
     let mesh = kind.case(seed, i).mesh;
-    let lengths = lengths(&mut Random::of(seed, "own lists", i), mesh.sizes.len());
-    (name, mesh, lengths)
+    let r = &mut Random::of(seed, "own lists", i);
+    let lengths = lengths(r, ENTRIES, mesh.sizes.len(), 4);
+    (kind.name, mesh, lengths)
 }
 
 /// What differs of a case, and what had to be left; a word of ours may be spoiled first.
@@ -145,21 +119,8 @@ fn differs(
 /// Compares so many cases on every processor; true if nothing differed.
 fn compare_all(seed: u64, count: u64) -> bool {
     let start = Instant::now();
-    let (seen, next) = (Seen::default(), AtomicU64::new(0));
-    let work = || {
-        loop {
-            let i = next.fetch_add(1, Relaxed);
-            if i >= count {
-                break;
-            }
-            one(seed, i, &seen);
-        }
-    };
-    scope(|scope| {
-        for _ in 0..available_parallelism().map_or(1, usize::from) {
-            scope.spawn(work);
-        }
-    });
+    let seen = Seen::default();
+    each(count, |i| one(seed, i, &seen));
     let number = |count: &AtomicU64| count.load(Relaxed);
     println!(
         "islands: {} compared, {} differed; {} accepted with {} islands, {} refused with 9; {:.1} s",
@@ -179,11 +140,7 @@ fn one(seed: u64, i: u64, seen: &Seen) {
     let (what, expected) = differs(&mesh, lengths, None);
     seen.compared.fetch_add(1, Relaxed);
     if let Some(what) = what {
-        let before = seen.differed.fetch_add(1, Relaxed);
-        if before == 0 {
-            let short: String = what.chars().take(4000).collect();
-            println!("case {i} of seed {seed} ({name}): {short}");
-        }
+        differed(&seen.differed, seed, i, name, &what);
     }
     let Some(expected) = expected else { return };
     let (number, islands) = (expected.outcome.number, expected.labelled.islands);
@@ -191,25 +148,4 @@ fn one(seed: u64, i: u64, seen: &Seen) {
     seen.nine.fetch_add(u64::from(number == 9), Relaxed);
     seen.islands
         .fetch_add(u64::from(number == 0) * u64::from(islands), Relaxed);
-}
-
-/// True if each spoiled word is noticed in one of some cases.
-fn every_spoil_caught(seed: u64) -> bool {
-    let caught = |spoil: &&Spoil| {
-        (0..200).any(|i| {
-            let (_, mesh, lengths) = case(seed, i);
-            differs(&mesh, lengths, Some(spoil.1)).0.is_some()
-        })
-    };
-    let missed: Vec<&str> = SPOILS
-        .iter()
-        .filter(|spoil| !caught(spoil))
-        .map(|(name, _)| *name)
-        .collect();
-    println!(
-        "spoiled words: {} of {} caught; missed: {missed:?}",
-        SPOILS.len() - missed.len(),
-        SPOILS.len()
-    );
-    missed.is_empty()
 }

@@ -4,8 +4,8 @@ use super::numbers::{Family, Style, THRESHOLDS, pool, threshold};
 use super::sheets::{Fold, Grid};
 use crate::mesh::Case;
 use crate::random::Random;
+use crate::refusals::MOST_FACES;
 use crate::shapes::{SHAPES, Shape};
-use crate::theirs::MOST_FACES;
 
 /// A case.
 pub fn make(r: &mut Random, _: u64) -> Case {

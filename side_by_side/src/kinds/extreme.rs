@@ -4,7 +4,7 @@ use super::numbers::threshold;
 use super::small;
 use crate::mesh::{Case, Corner};
 use crate::random::Random;
-use crate::theirs::unfit;
+use crate::refusals::unfit;
 
 /// Exponents at which numbers, their squares or what counts as above zero end.
 const EDGES: [i32; 29] = [

@@ -2,8 +2,8 @@
 use super::limits;
 use crate::mesh::Case;
 use crate::random::Random;
+use crate::refusals::MOST_FACES;
 use crate::shapes::Shape::{self, Fan, QuadFan, Sheet, Tube};
-use crate::theirs::MOST_FACES;
 
 /// Shapes, thresholds and faces. Of fans fewer: the crate takes a time of the square of a group.
 const SHAPES: [(Shape, f32, usize); 7] = [

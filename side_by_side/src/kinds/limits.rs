@@ -3,7 +3,7 @@
 use super::numbers::THRESHOLDS;
 use crate::mesh::{Case, Corner, Mesh, corner};
 use crate::random::Random;
-use crate::theirs::MOST_FACES;
+use crate::refusals::MOST_FACES;
 
 const FACES: [usize; 5] = [0, 1, 4095, 4096, 4097];
 /// About the limit.

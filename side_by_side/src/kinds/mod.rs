@@ -46,8 +46,14 @@ impl Kind {
     }
 }
 
+/// The kind of a name.
+pub fn named(name: &str) -> &'static Kind {
+    let kind = KINDS.iter().find(|kind| kind.name == name);
+    kind.expect("a kind")
+}
+
 /// Every kind.
-pub const KINDS: [Kind; 12] = [
+pub static KINDS: [Kind; 12] = [
     Kind {
         name: "one",
         all: Some(one::ALL),

@@ -1,7 +1,7 @@
 //! Numbers, thresholds and corners to build meshes from.
 use crate::mesh::{Corner, corner};
 use crate::random::Random;
-use crate::theirs::unfit;
+use crate::refusals::unfit;
 
 /// A set that numbers are taken from.
 #[derive(Clone, Copy)]

@@ -4,7 +4,7 @@ use super::numbers::threshold;
 use super::small;
 use crate::mesh::{Case, Mesh, framed};
 use crate::random::Random;
-use crate::theirs::MOST_FACES;
+use crate::refusals::MOST_FACES;
 
 /// The bits of what is no finite number.
 const UNFIT: [u32; 6] = [

@@ -47,7 +47,7 @@ fn twin(r: &mut Random, faces: &[Face]) -> Vec<Face> {
 /// Turns a bit of a corner's number, which stays finite.
 fn turn_bit(corner: &mut Corner, word: usize, bit: u32) {
     let turned = corner[word] ^ 1 << bit;
-    if !crate::theirs::unfit(turned) {
+    if !crate::refusals::unfit(turned) {
         corner[word] = turned;
     }
 }

@@ -5,6 +5,7 @@ use mathlib.Core.Path.{_≡_, refl, _∙_, subst}
 use denote.Ref.{now}
 use lib.ListN.{length}
 use borrow.Author.Needs.{needs}
+use Rattle.definition.specs.Handed.{handed}
 use Rattle.apart.specs.Steps.{Kept, DoneBelow}
 use Rattle.apart.proofs.Whole.{below-none, below-more, kept-none, kept-trans, room-kept}
 use Rattle.apart.proofs.all_islands.Statement.{statement}
@@ -12,7 +13,7 @@ use Rattle.apart.proofs.all_islands.Tie as tie
 
 abbrev Inv-loop : tie.InvT-loop
 Inv-loop own-sizes₀ own-numbers₀ own-frames₀ answer₀ work₀ order sizes positions normals texture threshold t₀ t-end own-sizes own-numbers own-frames answer work t =
-    (t ≤ length sizes) × DoneBelow sizes positions normals texture threshold t answer₀ answer × (work ≡ work₀) × Kept (length sizes) own-sizes₀ own-sizes own-numbers₀ own-numbers own-frames₀ own-frames
+    (t ≤ length sizes) × DoneBelow (handed sizes positions normals texture) threshold t answer₀ answer × (work ≡ work₀) × Kept (length sizes) own-sizes₀ own-sizes own-numbers₀ own-numbers own-frames₀ own-frames
 
 abbrev μ-loop : tie.MeasureT-loop
 μ-loop own-sizes₀ own-numbers₀ own-frames₀ answer₀ work₀ order sizes positions normals texture threshold t₀ t-end own-sizes own-numbers own-frames answer work t =
@@ -22,7 +23,7 @@ abbrev start : tie.At-loop Inv-loop μ-loop → tie.Start Inv-loop μ-loop
 start c = c .before .before .before .before .before .before .before .before .before .before .before
 
 loop-holds : tie.Need-loop-holds Inv-loop μ-loop
-loop-holds c = let s = c .before .before .before .before .before .before .before .before .before .before in (omega arith, below-none _ _ _ _ _ _ (s .pre .0) _, refl, kept-none _ _ _ _)
+loop-holds c = let s = c .before .before .before .before .before .before .before .before .before .before in (omega arith, below-none _ _ _ (s .pre .0) _, refl, kept-none _ _ _ _)
 
 one-island-requires : tie.Need-one-island-requires Inv-loop μ-loop
 one-island-requires c κs =
@@ -44,7 +45,7 @@ loop-again c =
     let v = i .before .loop .inv in
     let s = start (i .before) in
     let e = o .one-island .ensures in
-    (omega (arith, i .loop-test .taken), below-more _ _ _ _ _ _ (s .pre .0) _ _ _ _ (v .1) (e .0), e .1 ∙ v .2, kept-trans _ _ _ _ _ _ _ _ _ _ (v .3) (e .2))
+    (omega (arith, i .loop-test .taken), below-more _ _ _ (s .pre .0) _ _ _ _ (v .1) (e .0), e .1 ∙ v .2, kept-trans _ _ _ _ _ _ _ _ _ _ (v .3) (e .2))
 
 same-length : tie.Need-same-length Inv-loop μ-loop
 same-length c = let v = c .before .loop .inv in v .3 .sizes .size
@@ -66,7 +67,7 @@ returns c =
     let v = c .before .loop .inv in
     let a = start (c .before) .args in
     let e : c .before .loop .t ≡ length (now (a .sizes)) = omega (arith, v .0, c .loop-test .left) in
-    (subst (λ t. DoneBelow (now (a .sizes)) (now (a .positions)) (now (a .normals)) (now (a .texture)) (a .threshold) t (now (a .answer)) (c .before .loop .answer)) e (v .1), v .2, v .3)
+    (subst (λ t. DoneBelow (handed (now (a .sizes)) (now (a .positions)) (now (a .normals)) (now (a .texture))) (a .threshold) t (now (a .answer)) (c .before .loop .answer)) e (v .1), v .2, v .3)
 
 pub all-islands-spec : {M : Type 1} → statement M
 all-islands-spec =

@@ -4,7 +4,8 @@ use mathlib.Core.Option.{none}
 use native.Mathlib.Omega.{arith}
 use denote.Ref.{now}
 use lib.ListN.{length}
-use Rattle.definition.specs.Desk.{verdict}
+use Rattle.definition.specs.Handed.{handed}
+use Rattle.definition.specs.Desk.{shown, verdict}
 use Rattle.laws.proofs.Verdict.{fine}
 use Rattle.mikktspace.proofs.Verdicts.{no-refusal}
 use Rattle.apart.specs.Call.{Own, lists, short}
@@ -21,11 +22,11 @@ abbrev start : tie.After-judge → tie.Start
 start c = c .before .before .before .before .before .before .before .before .before .before .before .before
 
 -- past the first test there is no refusal of the table
-accepted : (c : tie.Else1) → let a = start (c .before .before) .args in verdict (now (a .sizes)) (now (a .places)) (now (a .normals)) (now (a .texture)) (a .threshold) (length (now (a .answer))) (length (now (a .work))) ≡ none
+accepted : (c : tie.Else1) → let a = start (c .before .before) .args in verdict (shown (handed (now (a .sizes)) (now (a .positions)) (now (a .normals)) (now (a .texture))) (a .threshold) (length (now (a .answer))) (length (now (a .work)))) ≡ none
 accepted c =
     let j = c .before .before in
     let a = start j .args in
-    no-refusal (now (a .sizes)) (now (a .places)) (now (a .normals)) (now (a .texture)) (a .threshold) (length (now (a .answer))) (length (now (a .work))) (let e = ap (λ x. x .number) (j .judge .ensures) in omega (arith, e, c .if1 .left))
+    no-refusal (shown (handed (now (a .sizes)) (now (a .positions)) (now (a .normals)) (now (a .texture))) (a .threshold) (length (now (a .answer))) (length (now (a .work)))) (let e = ap (λ x. x .number) (j .judge .ensures) in omega (arith, e, c .if1 .left))
 
 judge-requires : tie.Need-judge-requires
 judge-requires c κs = search needs
@@ -39,10 +40,10 @@ returns c =
     let s = start j in
     let a = s .args in
     let e = j .judge .ensures in
-    table-leaves (now (a .sizes)) (now (a .places)) (now (a .normals)) (now (a .texture)) (a .threshold) (now (a .answer)) (now (a .work)) (own s) _ (c .said .ensures ∙ (λ i. record { number = e i .number; place = e i .place; slots = 0 })) (λ q. let n = ap (λ x. x .number) e in omega (arith, n, q, c .before .if1 .taken))
+    table-leaves (handed (now (a .sizes)) (now (a .positions)) (now (a .normals)) (now (a .texture))) (a .threshold) (now (a .answer)) (now (a .work)) (own s) _ (c .said .ensures ∙ (λ i. record { number = e i .number; place = e i .place; slots = 0 })) (λ q. let n = ap (λ x. x .number) e in omega (arith, n, q, c .before .if1 .taken))
 
 is-short-requires : tie.Need-is-short-requires
-is-short-requires c κs = fine _ _ _ _ _ _ _ (accepted c) .few
+is-short-requires c κs = fine _ (accepted c) .few
 
 said-requires-2 : tie.Need-said-requires-2
 said-requires-2 c κs = search needs
@@ -54,7 +55,7 @@ returns-2 c =
     let j = i .before in
     let s = start (j .before .before) in
     let a = s .args in
-    nine-leaves (now (a .sizes)) (now (a .places)) (now (a .normals)) (now (a .texture)) (a .threshold) (now (a .answer)) (now (a .work)) (own s) _ (c .said2 .ensures) (accepted j) (sym (i .is-short .ensures) ∙ c .before .if2 .taken)
+    nine-leaves (handed (now (a .sizes)) (now (a .positions)) (now (a .normals)) (now (a .texture))) (a .threshold) (now (a .answer)) (now (a .work)) (own s) _ (c .said2 .ensures) (accepted j) (sym (i .is-short .ensures) ∙ c .before .if2 .taken)
 
 make-frames-requires : tie.Need-make-frames-requires
 unfolding short
@@ -96,7 +97,7 @@ returns-3 c =
     let j = i .before in
     let s = start (j .before .before) in
     let a = s .args in
-    leaving-same _ _ _ _ _ (c .said3 .ensures) ∙ m .make-frames .ensures ∙ taken-leaves (now (a .sizes)) (now (a .places)) (now (a .normals)) (now (a .texture)) (a .threshold) (now (a .answer)) (now (a .work)) (own s) (accepted j) (sym (i .is-short .ensures) ∙ x .if2 .left)
+    leaving-same _ _ _ _ _ (c .said3 .ensures) ∙ m .make-frames .ensures ∙ taken-leaves (handed (now (a .sizes)) (now (a .positions)) (now (a .normals)) (now (a .texture))) (a .threshold) (now (a .answer)) (now (a .work)) (own s) (accepted j) (sym (i .is-short .ensures) ∙ x .if2 .left)
 
 pub frames-by-islands-spec : {M : Type 1} → statement M
 frames-by-islands-spec =

@@ -2,9 +2,12 @@
 use native.Mathlib.Omega.{arith}
 use denote.Ref.{now}
 use lib.ListN.{length}
+use Rattle.mesh.specs.Parts.{Fits}
+use Rattle.definition.specs.Desk.{shown}
+use Rattle.definition.specs.Handed.{handed}
 use Rattle.laws.proofs.Verdict.{Fine, fine}
 use Rattle.apart.specs.Call.{Own, lists}
-use Rattle.apart.specs.Steps.{Fits, Good}
+use Rattle.apart.specs.Steps.{Good}
 use Rattle.apart.proofs.Call.{known}
 use Rattle.apart.proofs.Finishing.{Long, long-enough, room-first, accepted-leaves}
 use borrow.Author.Needs.{needs}
@@ -18,11 +21,11 @@ own s = let a = s .args in lists (now (a .labels)) (now (a .order)) (now (a .own
 long : (s : tie.Start) → Long (length (now (s .args .sizes))) (own s)
 long s = long-enough (length (now (s .args .sizes))) (own s) (s .pre .1)
 
-fits : (s : tie.Start) → let a = s .args in Fits (now (a .sizes)) (now (a .positions)) (now (a .normals)) (now (a .texture)) × Good (now (a .sizes)) (now (a .positions)) (now (a .normals)) (now (a .texture)) (a .threshold)
-fits s = known _ _ _ _ _ _ _ (s .pre .0)
+fits : (s : tie.Start) → let a = s .args in Fits (handed (now (a .sizes)) (now (a .positions)) (now (a .normals)) (now (a .texture))) × Good (handed (now (a .sizes)) (now (a .positions)) (now (a .normals)) (now (a .texture))) (a .threshold)
+fits s = known _ _ _ _ (s .pre .0)
 
-ends : (s : tie.Start) → let a = s .args in Fine (now (a .sizes)) (now (a .positions)) (now (a .normals)) (now (a .texture)) (a .threshold) (length (now (a .answer))) (length (now (a .work)))
-ends s = fine _ _ _ _ _ _ _ (s .pre .0)
+ends : (s : tie.Start) → let a = s .args in Fine (shown (handed (now (a .sizes)) (now (a .positions)) (now (a .normals)) (now (a .texture))) (a .threshold) (length (now (a .answer))) (length (now (a .work))))
+ends s = fine _ (s .pre .0)
 
 abbrev start : tie.After-prepare → tie.Start
 start c = c .before .before .before .before .before .before .before .before .before .before .before .before .before .before .before
@@ -85,7 +88,7 @@ returns c =
     let e = p .prepare .ensures in
     let f = i .all-islands .ensures in
     let g = o .clear-own .ensures in
-    accepted-leaves (now (a .sizes)) (now (a .positions)) (now (a .normals)) (now (a .texture)) (a .threshold) (now (a .answer)) (now (a .work)) (own s) (ends s .answer-fits) (long s)
+    accepted-leaves (handed (now (a .sizes)) (now (a .positions)) (now (a .normals)) (now (a .texture))) (a .threshold) (now (a .answer)) (now (a .work)) (own s) (ends s .answer-fits) (long s)
     _ _ _ _ _ _ _ _ _ _ _ _ _ (fits s .0 .few) (c .slots-before .ensures .0) (e .0) (e .1) (e .2) (e .3) (f .0) (f .1) (f .2) (g .0) (g .1) (g .2) (g .3)
 
 pub make-frames-spec : {M : Type 1} → statement M

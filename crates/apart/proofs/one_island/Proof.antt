@@ -22,20 +22,20 @@ shared-slice-read-if1 : tie.Need-shared-slice-read-if1
 shared-slice-read-if1 c = search needs
 
 returns : tie.Need-returns
-returns c = let s = c .before .before .before .before .before .before .before .before .before .before .before .before in (nothing-put _ _ _ _ _ _ (s .pre .1) _ (s .pre .0) (c .if1 .taken) _, refl, kept-none _ _ _ _)
+returns c = let s = c .before .before .before .before .before .before .before .before .before .before .before .before in (nothing-put _ _ _ (s .pre .1) _ (s .pre .0) (c .if1 .taken) _, refl, kept-none _ _ _ _)
 
 gather-requires : tie.Need-gather-requires
 gather-requires c κs = search needs
 
 make-requires : tie.Need-make-requires
-make-requires c κs = let g = c .before .before .before .before .before .before .before .before in let s = begin g in fit _ _ _ _ _ _ (s .pre .1) (s .pre .2) _ (s .pre .0) _ _ _ _ _ (s .pre .3) _ _ _ _ (g .gather .ensures .0) (g .gather .ensures .1) (g .gather .ensures .2)
+make-requires c κs = let g = c .before .before .before .before .before .before .before .before in let s = begin g in fit _ _ _ (s .pre .1) (s .pre .2) _ (s .pre .0) _ _ _ _ _ (s .pre .3) _ _ _ _ (g .gather .ensures .0) (g .gather .ensures .1) (g .gather .ensures .2)
 
 scatter-requires : tie.Need-scatter-requires
 scatter-requires c κs =
     let m = c .before .before .before .before .before .before in
     let g = gathered m in
     let s = begin g in
-    (s .pre .1 .fits .few, s .pre .0, s .pre .1 .long, s .pre .3 .answer, scene _ _ _ _ _ _ (s .pre .1) (s .pre .2) _ (s .pre .0) _ _ _ _ _ (s .pre .3) _ _ _ _ (g .gather .ensures .0) (g .gather .ensures .1) (g .gather .ensures .2) _ _ (m .make .ensures .0) (m .make .ensures .1))
+    (s .pre .1 .fits .few, s .pre .0, s .pre .1 .long, s .pre .3 .answer, scene _ _ _ (s .pre .1) (s .pre .2) _ (s .pre .0) _ _ _ _ _ (s .pre .3) _ _ _ _ (g .gather .ensures .0) (g .gather .ensures .1) (g .gather .ensures .2) _ _ (m .make .ensures .0) (m .make .ensures .1))
 
 same-length : tie.Need-same-length
 same-length c = search needs
@@ -58,7 +58,7 @@ returns-2 c =
     let m = x .before .before .before .before .before .before .before in
     let g = gathered m in
     let s = begin g in
-    (done-of _ _ _ _ _ _ (s .pre .1) (s .pre .2) _ (s .pre .0) _ _ _ _ _ (s .pre .3) _ _ _ _ (g .gather .ensures .0) (g .gather .ensures .1) (g .gather .ensures .2) _ _ (m .make .ensures .0) (m .make .ensures .1) _ (x .scatter .ensures), work-same _ _ _ _ _ _ (s .pre .1) (s .pre .2) _ (s .pre .0) _ _ _ _ _ (s .pre .3) _ _ _ _ (g .gather .ensures .0) (g .gather .ensures .1) (g .gather .ensures .2) _ _ (m .make .ensures .0) (m .make .ensures .1), kept _ _ _ _ _ _ (s .pre .1) (s .pre .2) _ (s .pre .0) _ _ _ _ _ (s .pre .3) _ _ _ _ (g .gather .ensures .0) (g .gather .ensures .1) (g .gather .ensures .2) _ _ (m .make .ensures .0) (m .make .ensures .1))
+    (done-of _ _ _ (s .pre .1) (s .pre .2) _ (s .pre .0) _ _ _ _ _ (s .pre .3) _ _ _ _ (g .gather .ensures .0) (g .gather .ensures .1) (g .gather .ensures .2) _ _ (m .make .ensures .0) (m .make .ensures .1) _ (x .scatter .ensures), work-same _ _ _ (s .pre .1) (s .pre .2) _ (s .pre .0) _ _ _ _ _ (s .pre .3) _ _ _ _ (g .gather .ensures .0) (g .gather .ensures .1) (g .gather .ensures .2) _ _ (m .make .ensures .0) (m .make .ensures .1), kept _ _ _ (s .pre .1) (s .pre .2) _ (s .pre .0) _ _ _ _ _ (s .pre .3) _ _ _ _ (g .gather .ensures .0) (g .gather .ensures .1) (g .gather .ensures .2) _ _ (m .make .ensures .0) (m .make .ensures .1))
 
 pub one-island-spec : {M : Type 1} → statement M
 one-island-spec =

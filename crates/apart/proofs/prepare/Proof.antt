@@ -41,7 +41,7 @@ returns c =
     let e = l .label .ensures in
     let b = f .start-faces .ensures in
     let d = k .link-faces .ensures in
-    (e .0, ready _ _ _ _ _ _ _ _ _ (e .0) (b .1) (d .1) (s .pre .0) (s .pre .2) (b .0) (d .0), order-past _ _ _ _ _ _ _ _ _ (e .0) (b .1) (d .1), cleared-past (length (now (s .args .sizes))) (now (s .args .work)) (l .label .last .1 .1 .1 .1 .1 .0) _ (e .2) (w .clear-first .ensures))
+    (e .0, ready _ _ _ _ _ _ (e .0) (b .1) (d .1) (s .pre .0) (s .pre .2) (b .0) (d .0), order-past _ _ _ _ _ _ (e .0) (b .1) (d .1), cleared-past (length (now (s .args .sizes))) (now (s .args .work)) (l .label .last .1 .1 .1 .1 .1 .0) _ (e .2) (w .clear-first .ensures))
 
 pub prepare-spec : {M : Type 1} → statement M
 prepare-spec =

@@ -5,10 +5,11 @@ use mathlib.Core.Path.{_≡_, sym, _∙_, ap}
 use mathlib.Core.Bool.{true, false}
 use lib.ListN.{length}
 use borrow.Author.Tests.{not-true, not-false}
+use Rattle.blocks.specs.Format.{blockBytes}
 use Rattle.cards.specs.Writer.{recordsOf, writable, cardBytes}
 use Rattle.cards.proofs.Outcomes.{few-records}
-use Rattle.appends.specs.Next.{beyond, firstTorn, placeOf}
-use Rattle.appends.specs.Append.{follow, notAdded, nowAdded}
+use Rattle.appends.specs.Next.{overfull, firstTorn, placeOf}
+use Rattle.appends.specs.Append.{areNext, notAdded, nowAdded}
 use Rattle.appends.specs.Contract.{afterAppend}
 use Rattle.appends.specs.declared.Appended.{Appended}
 use Rattle.appends.proofs.Counts.{torn-among, blocks-le}
@@ -25,12 +26,12 @@ room : (c : tie.Else2) → let a = c .before .before .before .before .before .be
 unfolding cardBytes recordsOf
 room c = omega (arith, c .if2 .left, c .before .blocks-for .ensures .0)
 
-within : (c : tie.Else3) → let a = c .before .before .before .before .before .before .before .before .args in beyond (a .total) (a .long) ≡ false
-within c = sym (c .before .beyond .ensures) ∙ c .if3 .left
+within : (c : tie.Else3) → let a = c .before .before .before .before .before .before .before .before .args in overfull (a .total) (a .long) ≡ false
+within c = sym (c .before .overfull .ensures) ∙ c .if3 .left
 
-told : (c : tie.After-follow) → let a = c .before .before .before .before .before .before .before .before .before .args in c .follow .result ≡ follow (a .total) (firstTorn (a .long)) (recordsOf (a .records .now))
+told : (c : tie.After-are-next) → let a = c .before .before .before .before .before .before .before .before .before .args in c .are-next .result ≡ areNext (a .total) (firstTorn (a .long)) (recordsOf (a .records .now))
 unfolding firstTorn recordsOf
-told c = c .follow .ensures
+told c = c .are-next .ensures
 
 writable-requires : tie.Need-writable-requires
 writable-requires c κs = search needs
@@ -68,8 +69,8 @@ returns-2 c =
     ap (λ (r : Appended). afterAppend r (a .lent .now)) (c .refused2 .ensures)
     ∙ sym (added-2 (a .total) (a .long) (a .records .now) (a .lent .now) (can e) (omega (arith, t .if2 .taken, t .before .blocks-for .ensures .0)))
 
-beyond-requires : tie.Need-beyond-requires
-beyond-requires c κs = search needs
+overfull-requires : tie.Need-overfull-requires
+overfull-requires c κs = search needs
 
 refused-requires-3 : tie.Need-refused-requires-3
 refused-requires-3 c κs = search needs
@@ -81,11 +82,11 @@ returns-3 c =
     let e = t .before .before in
     let a = e .before .before .before .before .before .before .args in
     ap (λ (r : Appended). afterAppend r (a .lent .now)) (c .refused3 .ensures)
-    ∙ sym (added-3 (a .total) (a .long) (a .records .now) (a .lent .now) (can (e .before .before)) (room e) (sym (t .before .beyond .ensures) ∙ t .if3 .taken))
+    ∙ sym (added-3 (a .total) (a .long) (a .records .now) (a .lent .now) (can (e .before .before)) (room e) (sym (t .before .overfull .ensures) ∙ t .if3 .taken))
 
-follow-requires : tie.Need-follow-requires
+are-next-requires : tie.Need-are-next-requires
 unfolding firstTorn
-follow-requires c =
+are-next-requires c =
     let a = c .before .before .before .before .before .before .before .before .args in
     omega (arith, torn-among (a .total) (a .long) (within c), blocks-le (a .total))
 
@@ -129,7 +130,7 @@ returns-5 c =
     let e = t .before .before in
     let f = e .before .before .before in
     let a = f .before .before .before .before .before .args in
-    (λ z. record { number = 0; blocks = f .blocks-for .ensures .0 z; at = 512 * (a .long / 512); lent = p .put-blocks .ensures z })
+    (λ z. record { number = 0; blocks = f .blocks-for .ensures .0 z; at = blockBytes * (a .long / blockBytes); lent = p .put-blocks .ensures z })
     ∙ sym (added-by (a .total) (a .long) (a .records .now) (a .lent .now) (can (f .before)) (room (e .before .before)) (within e) true (sym (told (t .before)) ∙ not-false _ (t .if4 .left)))
 
 pub append-spec : {M : Type 1} → statement M
@@ -137,5 +138,5 @@ append-spec =
     tie.close
     (tie.spec
     writable-requires refused-requires returns cast-count blocks-for-requires mul-if2 refused-requires-2 returns-2
-    beyond-requires refused-requires-3 returns-3 follow-requires refused-requires-4 returns-4 put-blocks-requires
+    overfull-requires refused-requires-3 returns-3 are-next-requires refused-requires-4 returns-4 put-blocks-requires
     cast-t16 mul-t11 same-length returns-5)

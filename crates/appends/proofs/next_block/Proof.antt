@@ -2,6 +2,7 @@
 use Prim.Native.Nat.{_*_, _/_}
 use mathlib.Core.Path.{sym, _∙_}
 use mathlib.Core.Bool.{true, false}
+use Rattle.blocks.specs.Format.{blockBytes}
 use Rattle.appends.specs.Next.{firstTorn, placeOf}
 use Rattle.appends.specs.Contract.{afterNext}
 use Rattle.appends.proofs.Outcomes.{following-by}
@@ -9,14 +10,14 @@ use borrow.Author.Needs.{needs}
 use Rattle.appends.proofs.next_block.Statement.{statement}
 use Rattle.appends.proofs.next_block.Tie as tie
 
-beyond-requires : tie.Need-beyond-requires
-beyond-requires c κs = search needs
+overfull-requires : tie.Need-overfull-requires
+overfull-requires c κs = search needs
 
 returns : tie.Need-returns
 unfolding afterNext
 returns c =
     let a = c .before .before .args in
-    sym (following-by (a .total) (a .long) true (sym (c .before .beyond .ensures) ∙ c .if1 .taken))
+    sym (following-by (a .total) (a .long) true (sym (c .before .overfull .ensures) ∙ c .if1 .taken))
 
 wanted-requires : tie.Need-wanted-requires
 wanted-requires c κs = search needs
@@ -29,9 +30,9 @@ unfolding afterNext firstTorn placeOf
 returns-2 c =
     let e = c .before in
     let a = e .before .before .args in
-    (λ z. record { number = 0; records = c .wanted .ensures z; at = 512 * (a .long / 512) })
-    ∙ sym (following-by (a .total) (a .long) false (sym (e .before .beyond .ensures) ∙ e .if1 .left))
+    (λ z. record { number = 0; records = c .wanted .ensures z; at = blockBytes * (a .long / blockBytes) })
+    ∙ sym (following-by (a .total) (a .long) false (sym (e .before .overfull .ensures) ∙ e .if1 .left))
 
 pub next-block-spec : {M : Type 1} → statement M
 next-block-spec = tie.close (tie.spec
-    beyond-requires returns wanted-requires mul-t6 returns-2)
+    overfull-requires returns wanted-requires mul-t6 returns-2)

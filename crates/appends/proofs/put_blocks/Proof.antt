@@ -5,9 +5,9 @@ use native.Mathlib.Nat.{le-antisymm}
 use mathlib.Core.Path.{_≡_, refl, _∙_}
 use lib.ListN.{length}
 use lib.Seq.{sets}
-use Rattle.words.specs.Lists.{joined, part}
+use Rattle.lists.specs.Parts.{joined, part}
 use Rattle.words.proofs.Stores.{joined-none, joined-stored, joined-front}
-use Rattle.blocks.specs.Format.{blocksFor, usedWords, blockOf}
+use Rattle.blocks.specs.Format.{blockBytes, roomWords, blocksFor, usedWords, blockOf}
 use Rattle.cards.specs.Writer.{recordsOf, cardBytes}
 use Rattle.appends.specs.Append.{blocksFrom}
 use Rattle.appends.proofs.Counts.{follows, next-called, next-fit, length-from}
@@ -16,7 +16,7 @@ use Rattle.appends.proofs.put_blocks.Tie as tie
 use borrow.Author.Needs.{needs}
 
 abbrev Inv-loop : tie.InvT-loop
-Inv-loop total b records lent₀ i₀ i-end lent i = (i ≤ i-end) × (lent ≡ sets lent₀ 0 (joined i (λ k. blockOf total (b + k) (part (120 * k) (usedWords total (b + k)) records)))) × (length lent ≡ length lent₀)
+Inv-loop total b records lent₀ i₀ i-end lent i = (i ≤ i-end) × (lent ≡ sets lent₀ 0 (joined i (λ k. blockOf total (b + k) (part (roomWords * k) (usedWords total (b + k)) records)))) × (length lent ≡ length lent₀)
 
 abbrev μ-loop : tie.MeasureT-loop
 μ-loop total b records lent₀ i₀ i-end lent i = i-end - i
@@ -31,7 +31,7 @@ blocks-for-requires c κs = search needs
 loop-holds : tie.Need-loop-holds Inv-loop μ-loop
 loop-holds c =
     let a = c .before .before .before .args in
-    (omega arith, joined-none (a .lent .now) 0 (λ k. blockOf (a .total) (a .b + k) (part (120 * k) (usedWords (a .total) (a .b + k)) (a .records .now))), refl)
+    (omega arith, joined-none (a .lent .now) 0 (λ k. blockOf (a .total) (a .b + k) (part (roomWords * k) (usedWords (a .total) (a .b + k)) (a .records .now))), refl)
 
 add-put-block : tie.Need-add-put-block Inv-loop μ-loop
 add-put-block c = search needs
@@ -67,7 +67,7 @@ loop-again c =
     let f = follows (a .total) (a .b) (recordsOf (a .records .now)) (s .pre .0) in (
       omega arith,
       p .put-block .ensures
-          ∙ joined-stored (a .lent .now) (l .lent) 0 (512 * l .i) (λ k. blockOf (a .total) (a .b + k) (part (120 * k) (usedWords (a .total) (a .b + k)) (a .records .now))) (l .i)
+          ∙ joined-stored (a .lent .now) (l .lent) 0 (blockBytes * l .i) (λ k. blockOf (a .total) (a .b + k) (part (roomWords * k) (usedWords (a .total) (a .b + k)) (a .records .now))) (l .i)
           (omega (arith, length-from (a .total) (a .b) (a .records .now) f (l .i) (omega (arith, e .blocks-for .ensures .0, l .inv .0)))) (l .inv .1),
       p .put-block .kept .0 ∙ l .inv .2,
     )
@@ -83,7 +83,7 @@ returns c =
     let s = e .before .before .before in
     let a = s .args in
     let k = blocksFor (recordsOf (a .records .now)) in
-    joined-front (a .lent .now) (l .lent) (λ i. blockOf (a .total) (a .b + i) (part (120 * i) (usedWords (a .total) (a .b + i)) (a .records .now))) (l .i) k (512 * k) (l .inv .1)
+    joined-front (a .lent .now) (l .lent) (λ i. blockOf (a .total) (a .b + i) (part (roomWords * i) (usedWords (a .total) (a .b + i)) (a .records .now))) (l .i) k (blockBytes * k) (l .inv .1)
     (le-antisymm (l .inv .0) (c .loop-test .left) ∙ e .blocks-for .ensures .0) (length-from (a .total) (a .b) (a .records .now) (follows (a .total) (a .b) (recordsOf (a .records .now)) (s .pre .0)) k (omega arith))
     (s .pre .3)
 

@@ -1,6 +1,6 @@
 -- `appends::wanted` meets its contract. Assumes nothing.
 use native.Mathlib.Omega.{arith}
-use Rattle.blocks.specs.Format.{blocksFor, used}
+use Rattle.blocks.specs.Format.{blocksFor, recordsUsed}
 use borrow.Author.Needs.{needs}
 use Rattle.appends.proofs.wanted.Statement.{statement}
 use Rattle.appends.proofs.wanted.Tie as tie
@@ -9,11 +9,11 @@ blocks-for-requires : tie.Need-blocks-for-requires
 blocks-for-requires c κs = search needs
 
 returns : tie.Need-returns
-unfolding blocksFor used
+unfolding blocksFor recordsUsed
 returns c = omega (arith, c .if1 .taken, c .before .blocks-for .ensures .0)
 
-used-requires : tie.Need-used-requires
-used-requires c κs = search needs
+records-used-requires : tie.Need-records-used-requires
+records-used-requires c κs = search needs
 
 cast-result : tie.Need-cast-result
 cast-result c = search needs
@@ -23,4 +23,4 @@ returns-2 c = search needs
 
 pub wanted-spec : {M : Type 1} → statement M
 wanted-spec = tie.close (tie.spec
-    blocks-for-requires returns used-requires cast-result returns-2)
+    blocks-for-requires returns records-used-requires cast-result returns-2)

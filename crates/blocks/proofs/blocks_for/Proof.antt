@@ -6,6 +6,9 @@ use borrow.Author.Needs.{needs}
 use Rattle.blocks.proofs.blocks_for.Statement.{statement}
 use Rattle.blocks.proofs.blocks_for.Tie as tie
 
+sub-result : tie.Need-sub-result
+sub-result c = search needs
+
 add-result : tie.Need-add-result
 add-result c = search needs
 
@@ -15,4 +18,4 @@ returns c = (refl, omega arith)
 
 pub blocks-for-spec : {M : Type 1} → statement M
 blocks-for-spec = tie.close (tie.spec
-    add-result returns)
+    sub-result add-result returns)

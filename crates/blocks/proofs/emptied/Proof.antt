@@ -6,9 +6,9 @@ use mathlib.Core.Path.{_≡_, sym, _∙_, ap}
 use mathlib.Core.Bool.{true}
 use lib.Dec.{eqb}
 use borrow.Author.Tests.{eq-eqb, ne-eqb}
-use Rattle.words.specs.Lists.{everyBelow}
+use Rattle.lists.specs.Parts.{everyBelow}
 use Rattle.words.specs.Words.{wordAt}
-use Rattle.words.proofs.Lists.{every-none, every-more, every-fails}
+use Rattle.lists.proofs.Parts.{every-none, every-more, every-fails}
 use Rattle.blocks.proofs.emptied.Statement.{statement}
 use Rattle.blocks.proofs.emptied.Tie as tie
 use borrow.Author.Needs.{needs}

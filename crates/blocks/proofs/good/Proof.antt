@@ -6,9 +6,10 @@ use mathlib.Core.List.{List}
 use lib.Dec.{eqb, leb}
 use lib.ListN.{getD}
 use borrow.Author.Tests.{not-true, not-false}
-use Rattle.words.specs.Lists.{everyBelow}
+use Rattle.blocks.specs.Format.{blockWords, headerWords, recordWords, roomWords}
+use Rattle.lists.specs.Parts.{everyBelow}
 use Rattle.words.specs.Words.{wordAt}
-use Rattle.blocks.specs.Judged.{headed, marked, emptied, checked, blockAt}
+use Rattle.blocks.specs.Judged.{headed, recordsMarked, emptied, checked, blockAt}
 use Rattle.blocks.proofs.Counts.{words-are}
 use Rattle.blocks.proofs.Judged.{headed-words, marked-words, emptied-words, good-none, bad-header, bad-mark, bad-rest, by-sum}
 use borrow.Author.Needs.{needs}
@@ -20,13 +21,13 @@ headed-is : (c : tie.After-headed) → let a = c .before .before .before .before
 headed-is c =
     let a = c .before .before .before .before .before .args in
     c .headed .ensures
-    ∙ (ap (λ (h : List ℕ). everyBelow 7 (λ i. eqb (wordAt (a .card .now) (128 * a .b + i)) (getD h i 0))) (c .before .header .ensures) ∙ headed-words (a .total) (a .b) (a .card .now))
+    ∙ (ap (λ (h : List ℕ). everyBelow headerWords (λ i. eqb (wordAt (a .card .now) (blockWords * a .b + i)) (getD h i 0))) (c .before .header .ensures) ∙ headed-words (a .total) (a .b) (a .card .now))
 
-marked-is : (c : tie.After-marked) → let a = c .before .before .before .before .before .before .before .args in c .marked .result ≡ marked (a .total) (a .b) (blockAt (a .b) (a .card .now))
+marked-is : (c : tie.After-records-marked) → let a = c .before .before .before .before .before .before .before .args in c .records-marked .result ≡ recordsMarked (a .total) (a .b) (blockAt (a .b) (a .card .now))
 marked-is c =
     let a = c .before .before .before .before .before .before .before .args in
-    c .marked .ensures
-    ∙ (ap (λ (u : ℕ). everyBelow u (λ r. leb (wordAt (a .card .now) (128 * a .b + 7 + 10 * r)) 1)) (c .before .before .before .before .used .ensures .0)
+    c .records-marked .ensures
+    ∙ (ap (λ (u : ℕ). everyBelow u (λ r. leb (wordAt (a .card .now) (blockWords * a .b + headerWords + recordWords * r)) 1)) (c .before .before .before .before .records-used .ensures .0)
     ∙ marked-words (a .total) (a .b) (a .card .now))
 
 emptied-is : (c : tie.After-emptied) → let a = c .before .before .before .before .before .before .before .before .before .args in c .emptied .result ≡ emptied (a .total) (a .b) (blockAt (a .b) (a .card .now))
@@ -34,7 +35,7 @@ emptied-is c =
     let u = c .before .before .before .before .before .before in
     let a = u .before .before .before .args in
     c .emptied .ensures
-    ∙ (ap (λ (k : ℕ). everyBelow (120 - k) (λ i. eqb (wordAt (a .card .now) (128 * a .b + 7 + k + i)) 0)) (ap (λ (k : ℕ). 10 * k) (u .used .ensures .0) ∙ sym (words-are (a .total) (a .b)))
+    ∙ (ap (λ (k : ℕ). everyBelow (roomWords - k) (λ i. eqb (wordAt (a .card .now) (blockWords * a .b + headerWords + k + i)) 0)) (ap (λ (k : ℕ). recordWords * k) (u .records-used .ensures .0) ∙ sym (words-are (a .total) (a .b)))
     ∙ emptied-words (a .total) (a .b) (a .card .now))
 
 returns : tie.Need-returns
@@ -45,8 +46,8 @@ returns c =
 mul-p : tie.Need-mul-p
 mul-p c = search needs
 
-used-requires : tie.Need-used-requires
-used-requires c κs = search needs
+records-used-requires : tie.Need-records-used-requires
+records-used-requires c κs = search needs
 
 header-requires : tie.Need-header-requires
 header-requires c κs = search needs
@@ -60,11 +61,11 @@ returns-2 c =
     let a = i .before .before .args in
     bad-header (a .total) (a .b) (a .card .now) (i .if1 .left) (sym (headed-is (c .before)) ∙ not-true _ (c .if2 .taken))
 
-add-marked : tie.Need-add-marked
-add-marked c = search needs
+add-records-marked : tie.Need-add-records-marked
+add-records-marked c = search needs
 
-marked-requires : tie.Need-marked-requires
-marked-requires c κs = search needs
+records-marked-requires : tie.Need-records-marked-requires
+records-marked-requires c κs = search needs
 
 returns-3 : tie.Need-returns-3
 returns-3 c =
@@ -119,6 +120,6 @@ pub good-spec : {M : Type 1} → statement M
 good-spec =
     tie.close
     (tie.spec
-    returns mul-p used-requires header-requires headed-requires returns-2 add-marked marked-requires returns-3
+    returns mul-p records-used-requires header-requires headed-requires returns-2 add-records-marked records-marked-requires returns-3
     add-emptied mul-emptied add-emptied-2 mul-emptied-2 sub-emptied emptied-requires returns-4 checked-requires
     returns-5)

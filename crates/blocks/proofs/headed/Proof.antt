@@ -6,19 +6,20 @@ use mathlib.Core.Path.{_≡_, sym, _∙_, ap}
 use mathlib.Core.Bool.{true}
 use lib.Dec.{eqb}
 use lib.ListN.{getD}
-use Rattle.words.specs.Lists.{everyBelow}
+use Rattle.blocks.specs.Format.{headerWords}
+use Rattle.lists.specs.Parts.{everyBelow}
 use Rattle.words.specs.Words.{wordAt}
-use Rattle.words.proofs.Lists.{every-more, every-fails, every-none}
+use Rattle.lists.proofs.Parts.{every-more, every-fails, every-none}
 use borrow.Author.Tests.{eq-eqb, ne-eqb}
 use Rattle.blocks.proofs.headed.Statement.{statement}
 use Rattle.blocks.proofs.headed.Tie as tie
 use borrow.Author.Needs.{needs}
 
 abbrev Inv-loop : tie.InvT-loop
-Inv-loop card p h i₀ i = (i ≤ 7) × (everyBelow i (λ k. eqb (wordAt card (p + k)) (getD h k 0)) ≡ true)
+Inv-loop card p h i₀ i = (i ≤ headerWords) × (everyBelow i (λ k. eqb (wordAt card (p + k)) (getD h k 0)) ≡ true)
 
 abbrev μ-loop : tie.MeasureT-loop
-μ-loop card p h i₀ i = 7 - i
+μ-loop card p h i₀ i = headerWords - i
 
 loop-holds : tie.Need-loop-holds Inv-loop μ-loop
 loop-holds c =
@@ -41,7 +42,7 @@ returns : tie.Need-returns Inv-loop μ-loop
 returns c =
     let l = c .before .before .before .loop in
     let a = c .before .before .before .before .before .args in
-    sym (every-fails 7 (l .i) (λ k. eqb (wordAt (a .card .now) (a .p + k)) (getD (a .t3) k 0)) (omega arith) (ap (λ w. eqb w (getD (a .t3) (l .i) 0)) (sym (c .before .word-at .ensures)) ∙ ne-eqb _ _ (c .if1 .taken)))
+    sym (every-fails headerWords (l .i) (λ k. eqb (wordAt (a .card .now) (a .p + k)) (getD (a .t3) k 0)) (omega arith) (ap (λ w. eqb w (getD (a .t3) (l .i) 0)) (sym (c .before .word-at .ensures)) ∙ ne-eqb _ _ (c .if1 .taken)))
 
 add-i : tie.Need-add-i Inv-loop μ-loop
 add-i c = search needs

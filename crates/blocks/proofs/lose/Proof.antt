@@ -5,8 +5,9 @@ use native.Mathlib.Nat.{le-antisymm}
 use mathlib.Core.Path.{_≡_, refl, sym, _∙_, ap}
 use lib.ListN.{length}
 use lib.Seq.{sets}
-use Rattle.words.specs.Lists.{joined}
-use Rattle.words.proofs.Lists.{length-joined}
+use Rattle.blocks.specs.Format.{recordWords}
+use Rattle.lists.specs.Parts.{joined}
+use Rattle.lists.proofs.Parts.{length-joined}
 use Rattle.words.proofs.Stores.{joined-none, joined-stored}
 use Rattle.blocks.specs.Judged as spec
 use Rattle.blocks.proofs.lose.Statement.{statement}
@@ -45,7 +46,7 @@ loop-again c =
     let l = p .before .before .before .loop in
     let a = p .before .before .before .before .before .args in (
       omega arith,
-      p .lose-one .ensures ∙ joined-stored (a .answer .now) (l .answer) (a .p) (a .p + 10 * l .r) (λ _. spec.lost) (l .r) (ap (λ k. a .p + k) (sym (length-joined (l .r) 10 (λ _. spec.lost) (λ i h. refl)))) (l .inv .1),
+      p .lose-one .ensures ∙ joined-stored (a .answer .now) (l .answer) (a .p) (a .p + recordWords * l .r) (λ _. spec.lost) (l .r) (ap (λ k. a .p + k) (sym (length-joined (l .r) recordWords (λ _. spec.lost) (λ i h. refl)))) (l .inv .1),
       p .lose-one .kept .0 ∙ l .inv .2,
     )
 

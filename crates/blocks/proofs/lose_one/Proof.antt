@@ -5,6 +5,7 @@ use native.Mathlib.Nat.{le-antisymm}
 use mathlib.Core.Path.{_≡_, refl, _∙_, ap}
 use lib.ListN.{length, take, length-set}
 use lib.Seq.{sets}
+use Rattle.blocks.specs.Format.{recordWords}
 use Rattle.words.proofs.Stores.{sets-more}
 use Rattle.blocks.specs.Judged.{lost}
 use Rattle.blocks.specs.Judged as spec
@@ -13,10 +14,10 @@ use Rattle.blocks.proofs.lose_one.Tie as tie
 use borrow.Author.Needs.{needs}
 
 abbrev Inv-loop : tie.InvT-loop
-Inv-loop answer₀ p lost i₀ answer i = (i ≤ 10) × (answer ≡ sets answer₀ p (take i spec.lost)) × (length answer ≡ length answer₀)
+Inv-loop answer₀ p lost i₀ answer i = (i ≤ recordWords) × (answer ≡ sets answer₀ p (take i spec.lost)) × (length answer ≡ length answer₀)
 
 abbrev μ-loop : tie.MeasureT-loop
-μ-loop answer₀ p lost i₀ answer i = 10 - i
+μ-loop answer₀ p lost i₀ answer i = recordWords - i
 
 loop-holds : tie.Need-loop-holds Inv-loop μ-loop
 loop-holds c = (omega arith, refl, refl)

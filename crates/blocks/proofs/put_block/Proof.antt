@@ -2,6 +2,7 @@
 use native.Mathlib.Omega.{arith}
 use Prim.Native.Nat.{ℕ, _*_}
 use mathlib.Core.Path.{sym, _∙_, ap}
+use Rattle.blocks.specs.Format.{recordWords}
 use Rattle.blocks.proofs.Counts.{words-are}
 use Rattle.blocks.proofs.Stored.{block-stored}
 use borrow.Author.Needs.{needs}
@@ -11,8 +12,8 @@ use Rattle.blocks.proofs.put_block.Tie as tie
 mul-p : tie.Need-mul-p
 mul-p c = search needs
 
-used-requires : tie.Need-used-requires
-used-requires c κs = search needs
+records-used-requires : tie.Need-records-used-requires
+records-used-requires c κs = search needs
 
 mul-count : tie.Need-mul-count
 mul-count c = search needs
@@ -33,7 +34,7 @@ put-words-requires-2 : tie.Need-put-words-requires-2
 put-words-requires-2 c κs =
     let u = c .before .before .before .before .before .before .before in
     let a = u .before .before .before .args in
-    (omega (arith, c .before .before .before .put-words .kept .0), omega (arith, words-are (a .total) (a .b), u .used .ensures .0), omega arith)
+    (omega (arith, c .before .before .before .put-words .kept .0), omega (arith, words-are (a .total) (a .b), u .records-used .ensures .0), omega arith)
 
 add-put-zeros : tie.Need-add-put-zeros
 add-put-zeros c = search needs
@@ -71,8 +72,8 @@ returns c =
     let u = w .before .before .before .before in
     let s = u .before .before .before in
     let a = s .args in
-    let e = ap (λ (k : ℕ). 10 * k) (u .used .ensures .0) ∙ sym (words-are (a .total) (a .b)) in
-    block-stored (a .card .now) (w .before .before .before .header .result) (a .records .now) (a .at) (a .total) (a .b) (a .from) (10 * u .used .result) (w .before .before .before .header .ensures) e
+    let e = ap (λ (k : ℕ). recordWords * k) (u .records-used .ensures .0) ∙ sym (words-are (a .total) (a .b)) in
+    block-stored (a .card .now) (w .before .before .before .header .result) (a .records .now) (a .at) (a .total) (a .b) (a .from) (recordWords * u .records-used .result) (w .before .before .before .header .ensures) e
     (omega (arith, e, s .pre .2)) (w .put-words .last .0) (r .put-words2 .last .0) (z .put-zeros .last .0) (p .put-word .last .0) (w .put-words .result) (r .put-words2 .result)
     (p .before .complement .result) (w .put-words .ensures .0) (r .put-words2 .ensures .0) (z .put-zeros .ensures) (p .put-word .ensures) (w .put-words .ensures .1) (r .put-words2 .ensures .1)
     (p .before .complement .ensures)
@@ -81,6 +82,6 @@ pub put-block-spec : {M : Type 1} → statement M
 put-block-spec =
     tie.close
     (tie.spec
-    mul-p used-requires mul-count header-requires slice-aggregate-put-words put-words-requires add-put-words
+    mul-p records-used-requires mul-count header-requires slice-aggregate-put-words put-words-requires add-put-words
     put-words-requires-2 add-put-zeros add-put-zeros-2 sub-put-zeros put-zeros-requires add-put-word add-complement
     complement-requires put-word-requires same-length returns)

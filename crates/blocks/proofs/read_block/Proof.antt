@@ -3,7 +3,8 @@ use native.Mathlib.Omega.{arith}
 use Prim.Native.Nat.{ℕ, _+_, _*_}
 use mathlib.Core.Path.{sym, _∙_, ap}
 use lib.Seq.{sets}
-use Rattle.words.specs.Lists.{joined}
+use Rattle.blocks.specs.Format.{blockWords, headerWords, recordWords, roomWords}
+use Rattle.lists.specs.Parts.{joined}
 use Rattle.words.specs.Words.{wordsAt}
 use Rattle.blocks.specs.Judged.{lost}
 use Rattle.blocks.proofs.Counts.{words-are}
@@ -12,8 +13,8 @@ use borrow.Author.Needs.{needs}
 use Rattle.blocks.proofs.read_block.Statement.{statement}
 use Rattle.blocks.proofs.read_block.Tie as tie
 
-used-requires : tie.Need-used-requires
-used-requires c κs = search needs
+records-used-requires : tie.Need-records-used-requires
+records-used-requires c κs = search needs
 
 good-requires : tie.Need-good-requires
 good-requires c κs = search needs
@@ -51,9 +52,9 @@ returns c =
     let g = c .before .before .before .before .before in
     let u = g .before in
     let a = u .before .before .before .args in
-    let e = ap (λ (k : ℕ). 10 * k) (u .used .ensures .0) ∙ sym (words-are (a .total) (a .b)) in
+    let e = ap (λ (k : ℕ). recordWords * k) (u .records-used .ensures .0) ∙ sym (words-are (a .total) (a .b)) in
     c .before .before .get-words .ensures
-    ∙ ap (sets (a .answer .now) (120 * a .b)) (ap (wordsAt (a .card .now) (128 * a .b + 7)) e ∙ sym (read-good (a .total) (a .b) (a .card .now) (sym (g .good2 .ensures) ∙ c .before .before .before .before .if1 .taken)))
+    ∙ ap (sets (a .answer .now) (roomWords * a .b)) (ap (wordsAt (a .card .now) (blockWords * a .b + headerWords)) e ∙ sym (read-good (a .total) (a .b) (a .card .now) (sym (g .good2 .ensures) ∙ c .before .before .before .before .if1 .taken)))
 
 same-length-2 : tie.Need-same-length-2
 same-length-2 c = search needs
@@ -64,11 +65,11 @@ returns-2 c =
     let u = g .before in
     let a = u .before .before .before .args in
     c .before .before .lose .ensures
-    ∙ ap (sets (a .answer .now) (120 * a .b)) (ap (λ (k : ℕ). joined k (λ _. lost)) (u .used .ensures .0) ∙ sym (read-lost (a .total) (a .b) (a .card .now) (sym (g .good2 .ensures) ∙ c .before .before .before .before .if1 .left)))
+    ∙ ap (sets (a .answer .now) (roomWords * a .b)) (ap (λ (k : ℕ). joined k (λ _. lost)) (u .records-used .ensures .0) ∙ sym (read-lost (a .total) (a .b) (a .card .now) (sym (g .good2 .ensures) ∙ c .before .before .before .before .if1 .left)))
 
 pub read-block-spec : {M : Type 1} → statement M
 read-block-spec =
     tie.close
     (tie.spec
-    used-requires good-requires mul-get-words add-get-words mul-get-words-2 mul-get-words-3 get-words-requires
+    records-used-requires good-requires mul-get-words add-get-words mul-get-words-2 mul-get-words-3 get-words-requires
     mul-lose lose-requires same-length returns same-length-2 returns-2)

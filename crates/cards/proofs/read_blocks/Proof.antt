@@ -5,9 +5,9 @@ use native.Mathlib.Nat.{le-antisymm}
 use mathlib.Core.Path.{_≡_, refl, _∙_}
 use lib.ListN.{length}
 use lib.Seq.{sets}
-use Rattle.words.specs.Lists.{joined}
+use Rattle.lists.specs.Parts.{joined}
 use Rattle.words.proofs.Stores.{joined-none, joined-stored, joined-front}
-use Rattle.blocks.specs.Format.{blocksFor}
+use Rattle.blocks.specs.Format.{recordWords, roomWords, blocksFor}
 use Rattle.blocks.specs.Judged.{recordsRead}
 use Rattle.blocks.proofs.Counts.{called}
 use Rattle.cards.specs.Reader.{readings}
@@ -51,7 +51,7 @@ loop-again c =
     let a = f .before .before .before .args in (
       omega arith,
       p .read-block .ensures
-          ∙ joined-stored (a .answer .now) (l .answer) 0 (120 * l .b) (λ k. recordsRead (a .total) k (a .card .now)) (l .b)
+          ∙ joined-stored (a .answer .now) (l .answer) 0 (roomWords * l .b) (λ k. recordsRead (a .total) k (a .card .now)) (l .b)
           (omega (arith, length-before (a .total) (l .b) (a .card .now) (omega (arith, f .blocks-for .ensures .0, p .before .before .loop-test .taken)))) (l .inv .1),
       p .read-block .kept .1 .1 .1 .0 ∙ l .inv .2,
     )
@@ -65,7 +65,7 @@ returns c =
     let l = c .before .loop in
     let f = c .before .before in
     let a = f .before .before .before .args in
-    joined-front (a .answer .now) (l .answer) (λ b. recordsRead (a .total) b (a .card .now)) (l .b) (blocksFor (a .total)) (10 * a .total) (l .inv .1)
+    joined-front (a .answer .now) (l .answer) (λ b. recordsRead (a .total) b (a .card .now)) (l .b) (blocksFor (a .total)) (recordWords * a .total) (l .inv .1)
     (le-antisymm (l .inv .0) (c .loop-test .left) ∙ f .blocks-for .ensures .0) (length-readings (a .total) (a .card .now)) (f .before .before .before .pre)
 
 pub read-blocks-spec : {M : Type 1} → statement M

@@ -6,7 +6,9 @@ use mathlib.Core.Bool.{Bool, _&&_}
 use lib.Dec.{leb, ltb}
 use lib.ListN.{length, getD}
 use borrow.Author.Tests.{eq-eqb, ne-eqb, lt-ltb, le-ltb}
-use Rattle.words.specs.Lists.{everyBelow}
+use Rattle.words.specs.Words.{wordValues}
+use Rattle.blocks.specs.Format.{recordWords}
+use Rattle.lists.specs.Parts.{everyBelow}
 use Rattle.cards.specs.Writer.{recordsOf, writable}
 use borrow.Author.Needs.{needs}
 use Rattle.cards.proofs.writable.Statement.{statement}
@@ -16,25 +18,25 @@ returns : tie.Need-returns
 unfolding writable recordsOf
 returns c =
     let l = c .before .before .args .answer .now in
-    sym (ap (λ (x : Bool). x && ltb (length l / 10) 4294967296 && everyBelow (length l / 10) (λ r. leb (getD l (10 * r) 0) 1)) (ne-eqb (length l % 10) 0 (λ e. omega (arith, e, c .if1 .taken))))
+    sym (ap (λ (x : Bool). x && ltb (length l / recordWords) wordValues && everyBelow (length l / recordWords) (λ r. leb (getD l (recordWords * r) 0) 1)) (ne-eqb (length l % recordWords) 0 (λ e. omega (arith, e, c .if1 .taken))))
 
 returns-2 : tie.Need-returns-2
 unfolding writable recordsOf
 returns-2 c =
     let l = c .before .before .before .args .answer .now in
-    sym (λ z. eq-eqb (length l % 10) 0 (omega (arith, c .before .if1 .left)) z && le-ltb (length l / 10) 4294967296 (omega (arith, c .if2 .taken)) z && everyBelow (length l / 10) (λ r. leb (getD l (10 * r) 0) 1))
+    sym (λ z. eq-eqb (length l % recordWords) 0 (omega (arith, c .before .if1 .left)) z && le-ltb (length l / recordWords) wordValues (omega (arith, c .if2 .taken)) z && everyBelow (length l / recordWords) (λ r. leb (getD l (recordWords * r) 0) 1))
 
-marked-requires : tie.Need-marked-requires
-marked-requires c κs = search needs
+all-marked-requires : tie.Need-all-marked-requires
+all-marked-requires c κs = search needs
 
 returns-3 : tie.Need-returns-3
 unfolding writable recordsOf
 returns-3 c =
     let e = c .before in
     let l = e .before .before .before .args .answer .now in
-    c .marked .ensures
-    ∙ sym (λ z. eq-eqb (length l % 10) 0 (omega (arith, e .before .if1 .left)) z && lt-ltb (length l / 10) 4294967296 (omega (arith, e .if2 .left)) z && everyBelow (length l / 10) (λ r. leb (getD l (10 * r) 0) 1))
+    c .all-marked .ensures
+    ∙ sym (λ z. eq-eqb (length l % recordWords) 0 (omega (arith, e .before .if1 .left)) z && lt-ltb (length l / recordWords) wordValues (omega (arith, e .if2 .left)) z && everyBelow (length l / recordWords) (λ r. leb (getD l (recordWords * r) 0) 1))
 
 pub writable-spec : {M : Type 1} → statement M
 writable-spec = tie.close (tie.spec
-    returns returns-2 marked-requires returns-3)
+    returns returns-2 all-marked-requires returns-3)

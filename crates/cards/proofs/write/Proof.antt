@@ -4,6 +4,7 @@ use Prim.Native.Nat.{_*_}
 use mathlib.Core.Path.{_≡_, sym, _∙_}
 use mathlib.Core.Bool.{true}
 use borrow.Author.Tests.{not-true, not-false}
+use Rattle.blocks.specs.Format.{blockBytes}
 use Rattle.cards.specs.Writer.{recordsOf, writable, cardBytes, notWritten, cardOf, cardWritten}
 use Rattle.cards.specs.Contract.{afterWrite}
 use Rattle.cards.proofs.Outcomes.{few-records, wrote-0, wrote-1, wrote-2}
@@ -54,7 +55,7 @@ returns-3 c =
     let w = c .before .before in
     let f = w .before .before .before in
     let a = f .before .before .before .before .before .args in
-    (λ z. record { number = 0; bytes = 512 * f .blocks-for .ensures .0 z; card = w .write-blocks .ensures z })
+    (λ z. record { number = 0; bytes = blockBytes * f .blocks-for .ensures .0 z; card = w .write-blocks .ensures z })
     ∙ sym (wrote-0 (a .answer .now) (a .card .now) (can (f .before)) (omega (arith, w .before .before .if2 .left, f .blocks-for .ensures .0)))
 
 pub write-spec : {M : Type 1} → statement M

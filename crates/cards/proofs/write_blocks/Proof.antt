@@ -6,7 +6,7 @@ use mathlib.Core.Path.{_≡_, refl, _∙_}
 use lib.ListN.{length}
 use lib.Seq.{sets}
 use Rattle.words.proofs.Stores.{joined-none, joined-stored, joined-front}
-use Rattle.blocks.specs.Format.{blocksFor, recordsIn, blockOf}
+use Rattle.blocks.specs.Format.{blockBytes, blocksFor, recordsIn, blockOf}
 use Rattle.blocks.proofs.Counts.{words-are, used-fits, called}
 use Rattle.cards.specs.Writer.{cardBytes, blocksOf}
 use Rattle.cards.proofs.Lengths.{length-blocks}
@@ -57,7 +57,7 @@ loop-again c =
     let a = s .args in (
       omega arith,
       p .put-block .ensures
-          ∙ joined-stored (a .card .now) (l .card) 0 (512 * l .b) (λ b. blockOf (a .total) b (recordsIn (a .total) b (a .answer .now))) (l .b)
+          ∙ joined-stored (a .card .now) (l .card) 0 (blockBytes * l .b) (λ b. blockOf (a .total) b (recordsIn (a .total) b (a .answer .now))) (l .b)
           (omega (arith, length-blocks (l .b) (a .total) (a .answer .now) (s .pre .0) (omega (arith, f .blocks-for .ensures .0, l .inv .0)))) (l .inv .1),
       p .put-block .kept .0 ∙ l .inv .2,
     )
@@ -72,7 +72,7 @@ returns c =
     let f = c .before .before in
     let s = f .before .before .before in
     let n = s .args .total in
-    joined-front (s .args .card .now) (l .card) (λ b. blockOf n b (recordsIn n b (s .args .answer .now))) (l .b) (blocksFor n) (512 * blocksFor n) (l .inv .1)
+    joined-front (s .args .card .now) (l .card) (λ b. blockOf n b (recordsIn n b (s .args .answer .now))) (l .b) (blocksFor n) (blockBytes * blocksFor n) (l .inv .1)
     (le-antisymm (l .inv .0) (c .loop-test .left) ∙ f .blocks-for .ensures .0) (length-blocks (blocksFor n) n (s .args .answer .now) (s .pre .0) (omega arith)) (s .pre .1)
 
 pub write-blocks-spec : {M : Type 1} → statement M

@@ -5,7 +5,7 @@ use native.Mathlib.Omega.{arith}
 use mathlib.Core.Path.{_≡_, refl, ap, _∙_}
 use lib.ListN.{length}
 use borrow.Author.Needs.{needs}
-use Rattle.table.proofs.Loops.{upTo-none, upTo-more}
+use Rattle.lists.proofs.Loops.{upTo-none, upTo-more}
 use Rattle.copies.specs.Copies.{missingCopied, missingsCopied}
 use Rattle.copies.proofs.copy_all_missing.Statement.{statement}
 use Rattle.copies.proofs.copy_all_missing.Tie as tie

@@ -1,6 +1,5 @@
 -- `desk::bad_by_now` meets its contract. Assumes nothing.
 use mathlib.Core.Path.{_≡_, sym, ap, _∙_}
-use Rattle.desk.specs.declared.Found.{Found}
 use Rattle.desk.specs.Verdict.{found, unlessFound}
 use borrow.Author.Needs.{needs}
 use Rattle.desk.proofs.bad_by_now.Statement.{statement}

@@ -5,17 +5,19 @@ use mathlib.Core.Bool.{Bool, true, false}
 use borrow.Author.Tests.{not-true, not-false}
 use borrow.Author.Needs.{needs}
 use lib.ListN.{length}
+use Rattle.definition.specs.Handed.{handed}
+use Rattle.definition.specs.Desk.{Shown, shown}
 use Rattle.desk.specs.Verdict.{said, lentNumber}
 use Rattle.desk.proofs.Bad.{is-some, is-none}
-use Rattle.desk.proofs.Telling.{Asked, IsMany, IsMisfit, IsFinite, many, few, fits, row1, row2, row3, row4, rows56}
+use Rattle.desk.proofs.Telling.{IsMany, IsMisfit, IsFinite, many, few, fits, row1, row2, row3, row4, rows56}
 use Rattle.desk.proofs.judge.Statement.{statement}
 use Rattle.desk.proofs.judge.Tie as tie
 
 -- what was asked, where the tests begin
-abbrev asked : tie.After-shared-slice-known4 → Asked
+abbrev asked : tie.After-shared-slice-known4 → Shown
 asked c =
     let a = c .before .before .before .before .args in
-    record { sizes = a .sizes .now; ps = a .positions .now; ns = a .normals .now; ts = a .texture .now; h = a .threshold; answer = a .answer; work = a .work }
+    shown (handed (a .sizes .now) (a .positions .now) (a .normals .now) (a .texture .now)) (a .threshold) (a .answer) (a .work)
 
 said-requires : tie.Need-said-requires
 said-requires c κs = search needs
@@ -94,7 +96,7 @@ returns-5 c =
     let d = l .before .before .before in
     let s = d .before .before .before .before in
     let q = asked (s .before .before) in
-    c .said5 .ensures ∙ ap (λ n. said n 0) (l .lent .ensures ∙ ap (λ (k : ℕ). lentNumber k (length (q .sizes)) (q .answer) (q .work)) (s .look-over .ensures .1))
+    c .said5 .ensures ∙ ap (λ n. said n 0) (l .lent .ensures ∙ ap (λ (k : ℕ). lentNumber k (length (q .mesh .sizes)) (q .answer) (q .work)) (s .look-over .ensures .1))
     ∙ rows56 q (not-many (s .before)) (not-misfit (d .before .before)) (finite-threshold d) (is-none _ (sym (l .before .enum-told .given .1) ∙ s .look-over .ensures .2))
 
 pub judge-spec : {M : Type 1} → statement M

@@ -6,7 +6,7 @@ use mathlib.Core.Path.{_≡_, refl}
 use lib.ListN.{length, length-set}
 use borrow.Author.Needs.{needs}
 use lib.Seq.{sets}
-use Rattle.table.specs.Loop.{listOf}
+use Rattle.lists.specs.Loops.{listOf}
 use Rattle.table.specs.Table.{cell}
 use Rattle.table.specs.Columns.{columns}
 use Rattle.table.proofs.Laws.{column-ends}

@@ -4,9 +4,10 @@ use native.Mathlib.Omega.{arith}
 use mathlib.Core.Path.{_≡_, refl, sym, ap, _∙_}
 use denote.Ref.{now}
 use lib.ListN.{length}
+use Rattle.definition.specs.Desk.{shown}
 use Rattle.bits.specs.Single.{zeroᶠ}
 use Rattle.table.specs.Columns.{columns, rowsOf}
-use Rattle.definition.specs.Handed.{cornerAt}
+use Rattle.definition.specs.Handed.{handed, cornerAt}
 use Rattle.laws.proofs.Laws.{some-triangle}
 use Rattle.laws.proofs.Verdict.{Fine, fine}
 use Rattle.mikktspace.specs.Alone.{longestAnswer as longest}
@@ -16,8 +17,8 @@ use Rattle.examine.proofs.decide.Statement.{statement}
 use Rattle.examine.proofs.decide.Tie as tie
 
 -- what holds of the lists
-known : (s : tie.Start) → let t = s .args in Fine (now (t .sizes)) (now (t .positions)) (now (t .normals)) (now (t .texture)) zeroᶠ longest (length (now (t .work)))
-known s = let t = s .args in fine (now (t .sizes)) (now (t .positions)) (now (t .normals)) (now (t .texture)) zeroᶠ longest (length (now (t .work))) (s .pre)
+known : (s : tie.Start) → let t = s .args in Fine (shown (handed (now (t .sizes)) (now (t .positions)) (now (t .normals)) (now (t .texture))) zeroᶠ longest (length (now (t .work))))
+known s = let t = s .args in fine (shown (handed (now (t .sizes)) (now (t .positions)) (now (t .normals)) (now (t .texture))) zeroᶠ longest (length (now (t .work)))) (s .pre)
 
 room : (s : tie.Start) → columns * rowsOf (length (now (s .args .sizes))) ≤ length (now (s .args .work))
 room s = omega (arith, known s .work-fits)
@@ -34,7 +35,7 @@ examine-all-requires c κs =
     let s = m .before .before .before .before .before .before .before .before .before .before in
     let t = s .args in
     let K = m .link-mesh .ensures in
-    (linked-fit _ _ _ _ _ _ _ _ _ K, omega (arith, room s, K .only .size), omega (arith, known s .few), sharp-left (now (t .sizes)) (now (t .positions)) (now (t .normals)) (now (t .texture)) (some-triangle (cornerAt (now (t .positions)) (now (t .normals)) (now (t .texture)) 0)) _ _ (now (t .work)) _ K (known s .good))
+    (linked-fit _ _ _ _ _ K, omega (arith, room s, K .only .size), omega (arith, known s .few), sharp-left (handed (now (t .sizes)) (now (t .positions)) (now (t .normals)) (now (t .texture))) (some-triangle (cornerAt (now (t .positions)) (now (t .normals)) (now (t .texture)) 0)) _ _ (now (t .work)) _ K (known s .good))
 
 mul-clear-first : tie.Need-mul-clear-first
 mul-clear-first c =
@@ -60,7 +61,7 @@ returns c =
     let t = s .args in
     let K = m .link-mesh .ensures in
     let r = e .examine-all .ensures in
-    (decides (now (t .sizes)) (now (t .positions)) (now (t .normals)) (now (t .texture)) _ _ (now (t .work)) _ (now (t .given)) (now (t .groups)) (now (t .ways)) _ _ K (known s .good) (r .0), cleared (now (t .sizes)) (now (t .work)) _ _ (r .1 .rest ∙ K .only .rest) (y .clear-first .ensures))
+    (decides (handed (now (t .sizes)) (now (t .positions)) (now (t .normals)) (now (t .texture))) _ _ (now (t .work)) _ (now (t .given)) (now (t .groups)) (now (t .ways)) _ _ K (known s .good) (r .0), cleared (now (t .sizes)) (now (t .work)) _ _ (r .1 .rest ∙ K .only .rest) (y .clear-first .ensures))
 
 pub decide-spec : {M : Type 1} → statement M
 decide-spec =

@@ -4,6 +4,8 @@ use native.Mathlib.Omega.{arith}
 use mathlib.Core.Path.{_≡_, refl, sym, ap, _∙_}
 use denote.Ref.{now}
 use lib.ListN.{length}
+use Rattle.definition.specs.Desk.{shown}
+use Rattle.definition.specs.Handed.{handed}
 use Rattle.bits.specs.Single.{zeroᶠ}
 use Rattle.desk.specs.declared.Verdict.{Verdict}
 use Rattle.laws.proofs.Verdict.{fine}
@@ -21,14 +23,14 @@ returns : tie.Need-returns
 returns c =
     let j = c .before .before in
     let t = j .before .before .before .before .before .before .before .before .before .args in
-    hands-refused (now (t .sizes)) (now (t .positions)) (now (t .normals)) (now (t .«tex-coords»)) (now (t .links)) (now (t .groups)) (now (t .orientations)) (now (t .work)) _ _ (j .ask .ensures) (λ h. c .if1 .taken (omega (arith, h))) refl
+    hands-refused (handed (now (t .sizes)) (now (t .positions)) (now (t .normals)) (now (t .texture))) (now (t .links)) (now (t .groups)) (now (t .orientations)) (now (t .work)) _ _ (j .ask .ensures) (λ h. c .if1 .taken (omega (arith, h))) refl
 
 short-requires : tie.Need-short-requires
 short-requires c κs =
     let i = c in
     let j = i .before .before in
     let t = j .before .before .before .before .before .before .before .before .before .args in
-    fine (now (t .sizes)) (now (t .positions)) (now (t .normals)) (now (t .«tex-coords»)) zeroᶠ longest (length (now (t .work))) (no-refusal (now (t .sizes)) (now (t .positions)) (now (t .normals)) (now (t .«tex-coords»)) zeroᶠ longest (length (now (t .work))) (omega (arith, ap (λ (x : Verdict). x .number) (j .ask .ensures), i .if1 .left))) .few
+    fine (shown (handed (now (t .sizes)) (now (t .positions)) (now (t .normals)) (now (t .texture))) zeroᶠ longest (length (now (t .work)))) (no-refusal (shown (handed (now (t .sizes)) (now (t .positions)) (now (t .normals)) (now (t .texture))) zeroᶠ longest (length (now (t .work)))) (omega (arith, ap (λ (x : Verdict). x .number) (j .ask .ensures), i .if1 .left))) .few
 
 returns-2 : tie.Need-returns-2
 returns-2 c =
@@ -36,7 +38,7 @@ returns-2 c =
     let i = h .before in
     let j = i .before .before in
     let t = j .before .before .before .before .before .before .before .before .before .args in
-    hands-short (now (t .sizes)) (now (t .positions)) (now (t .normals)) (now (t .«tex-coords»)) (now (t .links)) (now (t .groups)) (now (t .orientations)) (now (t .work)) _ (h .short .ensures) (no-refusal (now (t .sizes)) (now (t .positions)) (now (t .normals)) (now (t .«tex-coords»)) zeroᶠ longest (length (now (t .work))) (omega (arith, ap (λ (x : Verdict). x .number) (j .ask .ensures), i .if1 .left))) _ (c .if2 .taken) refl
+    hands-short (handed (now (t .sizes)) (now (t .positions)) (now (t .normals)) (now (t .texture))) (now (t .links)) (now (t .groups)) (now (t .orientations)) (now (t .work)) _ (h .short .ensures) (no-refusal (shown (handed (now (t .sizes)) (now (t .positions)) (now (t .normals)) (now (t .texture))) zeroᶠ longest (length (now (t .work)))) (omega (arith, ap (λ (x : Verdict). x .number) (j .ask .ensures), i .if1 .left))) _ (c .if2 .taken) refl
 
 hand-out-requires : tie.Need-hand-out-requires
 hand-out-requires c κs =
@@ -46,7 +48,7 @@ hand-out-requires c κs =
     let j = i .before .before in
     let t = j .before .before .before .before .before .before .before .before .before .args in
     let l = long-enough _ _ _ _ (sym (h .short .ensures) ∙ k .if2 .left) in
-    (no-refusal (now (t .sizes)) (now (t .positions)) (now (t .normals)) (now (t .«tex-coords»)) zeroᶠ longest (length (now (t .work))) (omega (arith, ap (λ (x : Verdict). x .number) (j .ask .ensures), i .if1 .left)), l .0, l .1, l .2)
+    (no-refusal (shown (handed (now (t .sizes)) (now (t .positions)) (now (t .normals)) (now (t .texture))) zeroᶠ longest (length (now (t .work)))) (omega (arith, ap (λ (x : Verdict). x .number) (j .ask .ensures), i .if1 .left)), l .0, l .1, l .2)
 
 same-length : tie.Need-same-length
 same-length c = search needs
@@ -68,7 +70,7 @@ returns-3 c =
     let i = h .before in
     let j = i .before .before in
     let t = j .before .before .before .before .before .before .before .before .before .args in
-    hands-given (now (t .sizes)) (now (t .positions)) (now (t .normals)) (now (t .«tex-coords»)) (now (t .links)) (now (t .groups)) (now (t .orientations)) (now (t .work)) _ (h .short .ensures) (no-refusal (now (t .sizes)) (now (t .positions)) (now (t .normals)) (now (t .«tex-coords»)) zeroᶠ longest (length (now (t .work))) (omega (arith, ap (λ (x : Verdict). x .number) (j .ask .ensures), i .if1 .left))) _ _ _ _ _ (k .if2 .left) (record { number = refl; place = refl; handed = d .hand-out .ensures })
+    hands-given (handed (now (t .sizes)) (now (t .positions)) (now (t .normals)) (now (t .texture))) (now (t .links)) (now (t .groups)) (now (t .orientations)) (now (t .work)) _ (h .short .ensures) (no-refusal (shown (handed (now (t .sizes)) (now (t .positions)) (now (t .normals)) (now (t .texture))) zeroᶠ longest (length (now (t .work)))) (omega (arith, ap (λ (x : Verdict). x .number) (j .ask .ensures), i .if1 .left))) _ _ _ _ _ (k .if2 .left) (record { number = refl; place = refl; handed = d .hand-out .ensures })
 
 pub own-links-spec : {M : Type 1} → statement M
 own-links-spec =

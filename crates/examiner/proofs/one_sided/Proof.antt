@@ -1,6 +1,5 @@
 -- `examiner::one_sided` meets its contract. Assumes nothing.
-use Rattle.asked.proofs.Rows.{told}
-use Rattle.asked.proofs.Rows.{told-not}
+use Rattle.asked.proofs.Rows.{told, told-not}
 use Rattle.examiner.proofs.Words.{not-one-sided, one-sided-here, mutual-here}
 use Prim.Native.Nat.{_+_}
 use native.Mathlib.Omega.{arith}

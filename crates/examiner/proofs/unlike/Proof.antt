@@ -1,6 +1,5 @@
 -- `examiner::unlike` meets its contract. Assumes nothing.
-use Rattle.asked.proofs.Rows.{told-not}
-use Rattle.asked.proofs.Rows.{told}
+use Rattle.asked.proofs.Rows.{told-not, told}
 use Prim.Native.Nat.{ℕ}
 use Rattle.table.specs.Columns.{vertexColumn}
 use Rattle.table.specs.Table.{cell}

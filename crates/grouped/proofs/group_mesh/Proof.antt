@@ -1,8 +1,9 @@
 -- `grouped::group_mesh` meets its contract. Assumes nothing.
 use native.Mathlib.Omega.{arith}
 use denote.Ref.{now}
-use Rattle.linked.proofs.Joined.{left-room}
-use Rattle.grouped.proofs.Joined.{joined}
+use Rattle.definition.specs.Handed.{handed}
+use Rattle.grouped.proofs.Linked.{left-room}
+use Rattle.grouped.proofs.Grouped.{joined}
 use borrow.Author.Needs.{needs}
 use Rattle.grouped.proofs.group_mesh.Statement.{statement}
 use Rattle.grouped.proofs.group_mesh.Tie as tie
@@ -18,14 +19,14 @@ build-4-rule-groups-requires c κs =
     let l = c .before .before .before in
     let s = l .before .before .before .before .before .before .before in
     let L = l .link-mesh .ensures in
-    (left-room _ _ _ _ _ _ _ _ _ L .0, omega (arith, s .pre .1, l .link-mesh .ensures .only .size), omega (arith, s .pre .0), L .range)
+    (left-room _ _ _ _ _ L .0, omega (arith, s .pre .1, l .link-mesh .ensures .only .size), omega (arith, s .pre .0), L .range)
 
 order-members-requires : tie.Need-order-members-requires
 order-members-requires c κs =
     let g = c .before .before .before in
     let l = g .before .before .before .before in
     let s = l .before .before .before .before .before .before .before in
-    let R = left-room _ _ _ _ _ _ _ _ _ (l .link-mesh .ensures) in
+    let R = left-room _ _ _ _ _ (l .link-mesh .ensures) in
     (omega (arith, g .build-4-rule-groups .ensures .1 .0 .0, R .0), g .build-4-rule-groups .ensures .1 .0 .1, omega (arith, s .pre .1, l .link-mesh .ensures .only .size, g .build-4-rule-groups .kept .0), omega (arith, s .pre .0))
 
 same-length : tie.Need-same-length
@@ -38,8 +39,8 @@ returns c =
     let l = g .before .before .before .before in
     let s = l .before .before .before .before .before .before .before in
     let a = s .args in
-    let R = left-room _ _ _ _ _ _ _ _ _ (l .link-mesh .ensures) in
-    joined (now (a .sizes)) (now (a .positions)) (now (a .normals)) (now (a .texture)) (l .link-mesh .result .sound) (l .link-mesh .result .all) (g .build-4-rule-groups .result .groups) (g .build-4-rule-groups .result .members) (now (a .work)) _ _ _ (l .link-mesh .ensures) (g .build-4-rule-groups .ensures .0) (o .order-members .ensures .0) (g .build-4-rule-groups .ensures .1 .1) (o .order-members .ensures .1) (omega (arith, g .build-4-rule-groups .ensures .1 .0 .0, R .0)) (g .build-4-rule-groups .ensures .1 .0 .1)
+    let R = left-room _ _ _ _ _ (l .link-mesh .ensures) in
+    joined (handed (now (a .sizes)) (now (a .positions)) (now (a .normals)) (now (a .texture))) (l .link-mesh .result .sound) (l .link-mesh .result .all) (g .build-4-rule-groups .result .groups) (g .build-4-rule-groups .result .members) (now (a .work)) _ _ _ (l .link-mesh .ensures) (g .build-4-rule-groups .ensures .0) (o .order-members .ensures .0) (g .build-4-rule-groups .ensures .1 .1) (o .order-members .ensures .1) (omega (arith, g .build-4-rule-groups .ensures .1 .0 .0, R .0)) (g .build-4-rule-groups .ensures .1 .0 .1)
 
 pub group-mesh-spec : {M : Type 1} → statement M
 group-mesh-spec =

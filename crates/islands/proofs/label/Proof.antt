@@ -5,6 +5,7 @@ use mathlib.Core.Path.{_≡_, refl, sym, _∙_}
 use denote.Ref.{now}
 use borrow.Author.Needs.{needs}
 use lib.ListN.{length}
+use Rattle.definition.specs.Limits.{faceLimit}
 use Rattle.unions.proofs.Stores.{alone-down}
 use Rattle.islands.proofs.Labels.{readable, labels-are}
 use Rattle.islands.proofs.label.Statement.{statement}
@@ -31,7 +32,7 @@ list-faces-requires c κs = search needs
 
 -- so few faces are listed, in a list as long as the one that is lent
 few : (c : tie.After-weld-arg) → let f = c .before .before .before in let s = f .before .before .before .before .before .before .before .before .before .before .before .before in
-    (4 * f .list-faces .result ≤ 6 * length (now (s .args .sizes))) × (126 * length (now (s .args .sizes)) ≤ length (f .list-faces .last .1 .0)) × (length (now (s .args .sizes)) ≤ 65536)
+    (4 * f .list-faces .result ≤ 6 * length (now (s .args .sizes))) × (126 * length (now (s .args .sizes)) ≤ length (f .list-faces .last .1 .0)) × (length (now (s .args .sizes)) ≤ faceLimit)
 few c =
     let f = c .before .before .before in
     let s = f .before .before .before .before .before .before .before .before .before .before .before .before in
@@ -53,7 +54,7 @@ unite-rows-requires c κs =
     let w = k .before .before .weld .ensures .0 in
     let f = few (k .before .before .before) in
     let a = alone k .alone .ensures in
-    (omega (arith, f .0), omega (arith, f .1, w .only .size), omega (arith, a .beyond .size, s .pre .1), alone-down _ _ _ a, readable _ _ _ _ _ _ _ (listing k .list-faces .ensures .0) w _ (omega arith))
+    (omega (arith, f .0), omega (arith, f .1, w .only .size), omega (arith, a .beyond .size, s .pre .1), alone-down _ _ _ a, readable _ _ _ _ (listing k .list-faces .ensures .0) w _ (omega arith))
 
 settle-requires : tie.Need-settle-requires
 settle-requires c κs =
@@ -92,7 +93,7 @@ returns c =
     let u = t .before .before .before .before in
     let k = u .before .before .before in
     let w = k .before .before .weld .ensures .0 in
-    (labels-are _ _ _ _ _ _ _ (listing k .list-faces .ensures .0) w _ _ _ _ _ _ (start k .pre .1) (alone k .alone .ensures) (u .unite-rows .ensures) (t .settle .ensures) (x .strike .ensures) (omega arith), w .only .size ∙ listing k .list-faces .ensures .1 .size, w .only .rest ∙ listing k .list-faces .ensures .1 .rest)
+    (labels-are _ _ _ _ (listing k .list-faces .ensures .0) w _ _ _ _ _ _ (start k .pre .1) (alone k .alone .ensures) (u .unite-rows .ensures) (t .settle .ensures) (x .strike .ensures) (omega arith), w .only .size ∙ listing k .list-faces .ensures .1 .size, w .only .rest ∙ listing k .list-faces .ensures .1 .rest)
 
 pub label-spec : {M : Type 1} → statement M
 label-spec =

@@ -5,13 +5,14 @@ use native.Mathlib.Omega.{arith}
 use mathlib.Core.Path.{_≡_, refl, sym, ap, _∙_}
 use borrow.Author.Needs.{needs}
 use lib.ListN.{length, getD}
+use Rattle.definition.specs.Limits.{faceLimit}
 use Rattle.labels.specs.Labels.{ownNumbers}
 use Rattle.labels.proofs.Counting.{own-few, own-none, own-more}
 use Rattle.labels.proofs.count_islands.Statement.{statement}
 use Rattle.labels.proofs.count_islands.Tie as tie
 
 abbrev Inv-loop : tie.InvT-loop
-Inv-loop labels faces count₀ f₀ count f = (count ≡ ownNumbers f (λ k. getD labels k 0)) × (f ≤ faces) × (faces ≤ length labels) × (faces ≤ 65536)
+Inv-loop labels faces count₀ f₀ count f = (count ≡ ownNumbers f (λ k. getD labels k 0)) × (f ≤ faces) × (faces ≤ length labels) × (faces ≤ faceLimit)
 
 abbrev μ-loop : tie.MeasureT-loop
 μ-loop labels faces count₀ f₀ count f = faces - f

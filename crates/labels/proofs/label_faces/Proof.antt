@@ -9,7 +9,8 @@ use denote.Ref.{now}
 use lib.Dec.{ltb}
 use lib.ListN.{length}
 use Rattle.bits.specs.Single.{zeroᶠ}
-use Rattle.definition.specs.Desk.{Row}
+use Rattle.definition.specs.Handed.{handed}
+use Rattle.definition.specs.Desk.{Row, shown}
 use Rattle.mikktspace.proofs.Verdicts.{no-refusal}
 use Rattle.mikktspace.specs.Alone.{deskVerdict, longestAnswer}
 use Rattle.labels.specs.Labels.{Leaving, left, answered, acceptedLabels, labelsVerdict, labelsOutcome}
@@ -23,11 +24,11 @@ start j = j .before .before .before .before .before .before .before .before
 
 -- what the call leaves of lists that are accepted
 abbrev taken : (s : tie.Start) → Leaving
-taken s = let a = s .args in acceptedLabels (now (a .sizes)) (now (a .positions)) (now (a .normals)) (now (a .«tex-coords»)) (now (a .labels)) (now (a .work))
+taken s = let a = s .args in acceptedLabels (handed (now (a .sizes)) (now (a .positions)) (now (a .normals)) (now (a .texture))) (now (a .labels)) (now (a .work))
 
 -- the table's word on them
 abbrev table : (s : tie.Start) → Option Row
-table s = let a = s .args in deskVerdict (now (a .sizes)) (now (a .positions)) (now (a .normals)) (now (a .«tex-coords»)) (length (now (a .work)))
+table s = let a = s .args in deskVerdict (handed (now (a .sizes)) (now (a .positions)) (now (a .normals)) (now (a .texture))) (length (now (a .work)))
 
 -- whether the list for the numbers is too short
 abbrev short : (s : tie.Start) → Bool
@@ -38,13 +39,13 @@ unrefused : (e : tie.Else1) → table (start (e .before)) ≡ none
 unrefused e =
     let j = e .before in
     let a = start j .args in
-    no-refusal (now (a .sizes)) (now (a .positions)) (now (a .normals)) (now (a .«tex-coords»)) zeroᶠ longestAnswer (length (now (a .work))) (sym (ap (λ x. x .number) (j .before .judge .ensures)) ∙ e .if1 .left)
+    no-refusal (shown (handed (now (a .sizes)) (now (a .positions)) (now (a .normals)) (now (a .texture))) zeroᶠ longestAnswer (length (now (a .work)))) (sym (ap (λ x. x .number) (j .before .judge .ensures)) ∙ e .if1 .left)
 
 judge-requires : tie.Need-judge-requires
 judge-requires c κs = search needs
 
 -- past the second nothing is refused
-passing : (e : tie.Else2) → let s = start (e .before .before) in let a = s .args in labelsVerdict (now (a .sizes)) (now (a .positions)) (now (a .normals)) (now (a .«tex-coords»)) (length (now (a .labels))) (length (now (a .work))) ≡ none
+passing : (e : tie.Else2) → let s = start (e .before .before) in let a = s .args in labelsVerdict (handed (now (a .sizes)) (now (a .positions)) (now (a .normals)) (now (a .texture))) (length (now (a .labels))) (length (now (a .work))) ≡ none
 unfolding labelsVerdict
 passing e = let s = start (e .before .before) in passes (table s) (short s) (unrefused (e .before)) (le-ltb (length (now (s .args .labels))) (length (now (s .args .sizes))) (omega (arith, e .if2 .left)))
 

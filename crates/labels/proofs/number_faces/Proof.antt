@@ -5,6 +5,9 @@ use mathlib.Core.Path.{_≡_, ap, _∙_}
 use borrow.Author.Needs.{needs}
 use denote.Ref.{now}
 use lib.ListN.{length}
+use Rattle.definition.specs.Limits.{faceLimit, workWords}
+use Rattle.definition.specs.Desk.{shown}
+use Rattle.definition.specs.Handed.{handed}
 use Rattle.bits.specs.Single.{zeroᶠ}
 use Rattle.table.specs.Columns.{columns, rowsOf}
 use Rattle.laws.proofs.Verdict.{fine}
@@ -17,11 +20,11 @@ use Rattle.labels.proofs.number_faces.Statement.{statement}
 use Rattle.labels.proofs.number_faces.Tie as tie
 
 -- so few faces, a label for each, and words for each in the work list
-known : (s : tie.Start) → let a = s .args in let n = length (now (a .sizes)) in (n ≤ 65536) × (n ≤ length (now (a .labels))) × (128 * n ≤ length (now (a .work)))
+known : (s : tie.Start) → let a = s .args in let n = length (now (a .sizes)) in (n ≤ faceLimit) × (n ≤ length (now (a .labels))) × (workWords * n ≤ length (now (a .work)))
 known s =
     let a = s .args in
-    let p = passed-labels (now (a .sizes)) (now (a .positions)) (now (a .normals)) (now (a .texture)) (length (now (a .labels))) (length (now (a .work))) (s .pre) in
-    let f = fine (now (a .sizes)) (now (a .positions)) (now (a .normals)) (now (a .texture)) zeroᶠ longestAnswer (length (now (a .work))) (p .0) in
+    let p = passed-labels (handed (now (a .sizes)) (now (a .positions)) (now (a .normals)) (now (a .texture))) (length (now (a .labels))) (length (now (a .work))) (s .pre) in
+    let f = fine (shown (handed (now (a .sizes)) (now (a .positions)) (now (a .normals)) (now (a .texture))) zeroᶠ longestAnswer (length (now (a .work)))) (p .0) in
     (f .few, p .1, f .work-fits)
 
 -- the start, from where the numbers are
@@ -41,7 +44,7 @@ count-islands-requires : tie.Need-count-islands-requires
 count-islands-requires c κs =
     let e = c .before .before .before .before .before .before .before .before .before in
     let k = known (start e) in
-    (omega (arith, labels-length _ _ _ _ _ _ (k .1) (e .label .ensures .0)), k .0)
+    (omega (arith, labels-length _ _ _ (k .1) (e .label .ensures .0)), k .0)
 
 same-length : tie.Need-same-length
 same-length c = search needs
@@ -56,7 +59,7 @@ returns c =
     let e = f .before .before .before .before .before .before in
     let a = start e .args in
     let l = e .label .ensures in
-    let n = counts-islands (now (a .sizes)) (now (a .positions)) (now (a .normals)) (now (a .texture)) (now (a .labels)) _ _ (l .0) (c .count-islands .ensures) in
+    let n = counts-islands (handed (now (a .sizes)) (now (a .positions)) (now (a .normals)) (now (a .texture))) (now (a .labels)) _ _ (l .0) (c .count-islands .ensures) in
     let w = cleared-past (length (now (a .sizes))) (now (a .work)) _ _ (l .2) (f .clear-first .ensures) in
     λ i. record { number = 0; place = 0; islands = n i; labels = l .0 i; work = w i }
 

@@ -5,7 +5,7 @@ use mathlib.Core.List.{List, [], _∷_}
 use denote.Ref.{now}
 use Rattle.definition.specs.declared.Triangle.{Triangle}
 use Rattle.definition.specs.Triangles.{pieces}
-use Rattle.definition.specs.Handed.{cornersFrom}
+use Rattle.definition.specs.Handed.{call, cornersFrom}
 use Rattle.listing.proofs.Faces.{Fine, small-of, three-x, four-x, one-done, two-done, none-done, room-one, room-two, pieces-other}
 use borrow.Author.Needs.{needs}
 use Rattle.listing.proofs.add_face.Statement.{statement}

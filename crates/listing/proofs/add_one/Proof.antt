@@ -5,6 +5,7 @@ use mathlib.Core.Path.{_≡_, sym, ap}
 use mathlib.Core.List.{[], _∷_}
 use lib.ListN.{length}
 use denote.Ref.{now}
+use Rattle.definition.specs.Handed.{call}
 use Rattle.listing.specs.Listing.{pick}
 use Rattle.listing.proofs.Laws.{pick-yes, pick-no, add-yes, add-no}
 use borrow.Author.Needs.{needs}
@@ -32,14 +33,14 @@ returns c =
     let a = s .args in
     let e : length (pick (a .want) (a .x ∷ [])) ≡ 1 = ap length (pick-yes (a .want) (a .x) (test .if1 .taken)) in
     let room : 3 * a .tris + 3 ≤ a .rows = omega (arith, s .pre .0) in
-    (ap (λ (n : ℕ). a .tris + n) (sym e), λ sizes ps ns ts eb es F. add-yes (a .rows) sizes ps ns ts (a .want) (a .tris) (a .base) (a .slot) (a .x) (now (a .work)) _ (test .if1 .taken) (call .store .ensures .0) (call .store .ensures .1) room (s .pre .1) eb es F)
+    (ap (λ (n : ℕ). a .tris + n) (sym e), λ mesh eb es F. add-yes (a .rows) mesh (a .want) (a .tris) (a .base) (a .slot) (a .x) (now (a .work)) _ (test .if1 .taken) (call .store .ensures .0) (call .store .ensures .1) room (s .pre .1) eb es F)
 
 returns-2 : tie.Need-returns-2
 returns-2 c =
     let s = c .before .before .before in
     let a = s .args in
     let e : length (pick (a .want) (a .x ∷ [])) ≡ 0 = ap length (pick-no (a .want) (a .x) (c .if1 .left)) in
-    (omega arith, λ sizes ps ns ts eb es F. add-no (a .rows) sizes ps ns ts (a .want) (a .tris) (a .x) _ (c .if1 .left))
+    (omega arith, λ mesh eb es F. add-no (a .rows) mesh (a .want) (a .tris) (a .x) _ (c .if1 .left))
 
 pub add-one-spec : {M : Type 1} → statement M
 add-one-spec = tie.close (tie.spec store-requires add-result same-length returns returns-2)

@@ -1,6 +1,7 @@
 -- Proof that `list_triangles` meets its contract. Assumes nothing.
 use native.Mathlib.Omega.{arith}
 use denote.Ref.{now}
+use Rattle.definition.specs.Handed.{handed}
 use Rattle.listing.proofs.Whole.{room-first, room-second, listed}
 use Rattle.listing.proofs.Pieces.{none-broken}
 use borrow.Author.Needs.{needs}
@@ -14,7 +15,7 @@ pass-requires : tie.Need-pass-requires
 pass-requires c κs =
     let s = c .before .before .before .before .before .before in
     let a = s .args in
-    (s .pre .0, s .pre .1, room-first (now (a .sizes)) (now (a .positions)) (now (a .normals)) (now (a .texture)))
+    (s .pre .0, s .pre .1, room-first (handed (now (a .sizes)) (now (a .positions)) (now (a .normals)) (now (a .texture))))
 
 pieces-in-requires : tie.Need-pieces-in-requires
 pieces-in-requires c κs = search needs
@@ -27,15 +28,15 @@ returns c =
     let one = c .before .before .before .before in
     let s = one .before .before .before .before .before .before .before in
     let a = s .args in
-    let none = none-broken (now (a .sizes)) (now (a .positions)) (now (a .normals)) (now (a .texture)) (one .pass .result) (c .before .pieces-in .result) _ (c .before .pieces-in .ensures) (omega (arith, c .if1 .taken)) (one .pass .ensures .count) in
-    listed (now (a .sizes)) (now (a .positions)) (now (a .normals)) (now (a .texture)) (one .pass .result) (one .pass .result) (now (a .work)) _ _ (one .pass .ensures) none
+    let none = none-broken (handed (now (a .sizes)) (now (a .positions)) (now (a .normals)) (now (a .texture))) (one .pass .result) (c .before .pieces-in .result) _ (c .before .pieces-in .ensures) (omega (arith, c .if1 .taken)) (one .pass .ensures .count) in
+    listed (handed (now (a .sizes)) (now (a .positions)) (now (a .normals)) (now (a .texture))) (one .pass .result) (one .pass .result) (now (a .work)) _ _ (one .pass .ensures) none
 
 pass-requires-2 : tie.Need-pass-requires-2
 pass-requires-2 c κs =
     let one = c .before .before .before .before .before in
     let s = one .before .before .before .before .before .before .before in
     let a = s .args in
-    (s .pre .0, omega (arith, s .pre .1, one .pass .ensures .only .size), room-second (now (a .sizes)) (now (a .positions)) (now (a .normals)) (now (a .texture)) (one .pass .result) (one .pass .ensures .count))
+    (s .pre .0, omega (arith, s .pre .1, one .pass .ensures .only .size), room-second (handed (now (a .sizes)) (now (a .positions)) (now (a .normals)) (now (a .texture))) (one .pass .result) (one .pass .ensures .count))
 
 same-length-2 : tie.Need-same-length-2
 same-length-2 c = search needs
@@ -46,7 +47,7 @@ returns-2 c =
     let one = two .before .before .before .before .before .before in
     let s = one .before .before .before .before .before .before .before in
     let a = s .args in
-    listed (now (a .sizes)) (now (a .positions)) (now (a .normals)) (now (a .texture)) (one .pass .result) (two .pass2 .result) (now (a .work)) _ _ (one .pass .ensures) (two .pass2 .ensures)
+    listed (handed (now (a .sizes)) (now (a .positions)) (now (a .normals)) (now (a .texture))) (one .pass .result) (two .pass2 .result) (now (a .work)) _ _ (one .pass .ensures) (two .pass2 .ensures)
 
 pub list-triangles-spec : {M : Type 1} → statement M
 list-triangles-spec =

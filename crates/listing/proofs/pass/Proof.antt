@@ -4,18 +4,19 @@ use native.Mathlib.Omega.{arith}
 use lib.ListN.{length}
 use denote.Ref.{now}
 use borrow.Author.Needs.{needs}
+use Rattle.definition.specs.Handed.{handed}
 use Rattle.listing.proofs.Passes.{Far, far-start, far-next, far-end, fits-room}
 use Rattle.listing.proofs.pass.Statement.{statement}
 use Rattle.listing.proofs.pass.Tie as tie
 
 abbrev Inv-loop : tie.InvT-loop
-Inv-loop work₀ rows sizes positions normals texture want tris base₀ slot₀ k₀ f₀ f-end work base slot k f = Far rows want sizes positions normals texture tris work₀ work f base slot k
+Inv-loop work₀ rows sizes positions normals texture want tris base₀ slot₀ k₀ f₀ f-end work base slot k f = Far rows want (handed sizes positions normals texture) tris work₀ work f base slot k
 
 abbrev μ-loop : tie.MeasureT-loop
 μ-loop work₀ rows sizes positions normals texture want tris base₀ slot₀ k₀ f₀ f-end work base slot k f = length sizes - f
 
 loop-holds : tie.Need-loop-holds Inv-loop μ-loop
-loop-holds c = far-start _ _ _ _ _ _ _ _
+loop-holds c = far-start _ _ _ _ _
 
 shared-slice-read-size : tie.Need-shared-slice-read-size Inv-loop μ-loop
 shared-slice-read-size c = omega arith
@@ -34,7 +35,7 @@ add-face-requires c κs =
     let s = test .before .before .before .before .before .before .before in
     let a = s .args in
     let lt : l .f < length (now (a .sizes)) = test .loop-test .taken in
-    (omega (arith, l .inv .low, lt, s .pre .0), omega (arith, l .inv .few, lt, s .pre .0), omega (arith, s .pre .1, l .inv .added .only .size), fits-room (a .rows) (a .want) (now (a .sizes)) (now (a .positions)) (now (a .normals)) (now (a .texture)) (a .tris) (now (a .work)) (l .work) (l .f) (l .base) (l .slot) (l .k) (l .inv) lt (s .pre .2))
+    (omega (arith, l .inv .low, lt, s .pre .0), omega (arith, l .inv .few, lt, s .pre .0), omega (arith, s .pre .1, l .inv .added .only .size), fits-room (a .rows) (a .want) (handed (now (a .sizes)) (now (a .positions)) (now (a .normals)) (now (a .texture))) (a .tris) (now (a .work)) (l .work) (l .f) (l .base) (l .slot) (l .k) (l .inv) lt (s .pre .2))
 
 corners-of-requires : tie.Need-corners-of-requires Inv-loop μ-loop
 corners-of-requires c κs = search needs
@@ -82,13 +83,13 @@ loop-again c =
     let s = test .before .before .before .before .before .before .before in
     let a = s .args in
     let lt : l .f < length (now (a .sizes)) = test .loop-test .taken in
-    far-next (a .rows) (a .want) (now (a .sizes)) (now (a .positions)) (now (a .normals)) (now (a .texture)) (a .tris) (now (a .work)) (l .work) (l .f) (l .base) (l .slot) (l .k) (l .inv) lt _ _ (c .before .corners-of .result) (c .slots-of .result) (c .before .corners-of .ensures .0) (c .before .corners-of .ensures .1) (c .slots-of .ensures .0) (c .slots-of .ensures .1) (c .before .before .before .before .add-face .ensures)
+    far-next (a .rows) (a .want) (handed (now (a .sizes)) (now (a .positions)) (now (a .normals)) (now (a .texture))) (a .tris) (now (a .work)) (l .work) (l .f) (l .base) (l .slot) (l .k) (l .inv) lt _ _ (c .before .corners-of .result) (c .slots-of .result) (c .before .corners-of .ensures .0) (c .before .corners-of .ensures .1) (c .slots-of .ensures .0) (c .slots-of .ensures .1) (c .before .before .before .before .add-face .ensures)
 
 same-length : tie.Need-same-length Inv-loop μ-loop
 same-length c = c .before .loop .inv .added .only .size
 
 returns : tie.Need-returns Inv-loop μ-loop
-returns c = far-end _ _ _ _ _ _ _ _ _ _ _ _ _ (c .before .loop .inv) (c .loop-test .left)
+returns c = far-end _ _ _ _ _ _ _ _ _ _ (c .before .loop .inv) (c .loop-test .left)
 
 pub pass-spec : {M : Type 1} → statement M
 pass-spec =

@@ -2,13 +2,20 @@
 use mathlib.Core.Path.{sym, ap, _∙_}
 use denote.Ref.{now}
 use lib.ListN.{length}
-use Rattle.definition.specs.Desk.{verdict}
+use Rattle.definition.specs.Handed.{call, handed, Call}
+use Rattle.definition.specs.Desk.{verdict, atDesk}
 use Rattle.definition.specs.Outcome.{accepted, answered, outcome}
 use Rattle.mikktspace.specs.Contract.{left}
 use Rattle.mikktspace.proofs.Verdicts.{left-same, refused, no-refusal}
 use borrow.Author.Needs.{needs}
 use Rattle.mikktspace.proofs.generate_tangent_space.Statement.{statement}
 use Rattle.mikktspace.proofs.generate_tangent_space.Tie as tie
+
+-- the call that is made
+abbrev called : tie.Start → Call
+called s =
+    let a = s .args in
+    call (handed (now (a .sizes)) (now (a .positions)) (now (a .normals)) (now (a .texture))) (a .threshold) (now (a .answer)) (now (a .work))
 
 judge-requires : tie.Need-judge-requires
 judge-requires c κs = search needs
@@ -22,17 +29,17 @@ returns c =
     let j = c .before .before .before in
     let s = j .before .before .before .before .before .before .before in
     let a = s .args in
-    let v = verdict (now (a .sizes)) (now (a .positions)) (now (a .normals)) (now (a .«tex-coords»)) (a .threshold) (length (now (a .answer))) (length (now (a .work))) in
+    let v = verdict (atDesk (called s)) in
     let e = j .judge .ensures in
     ap (λ r. left r (now (a .answer)) (now (a .work))) (c .said .ensures ∙ (λ i. record { number = e i .number; place = e i .place; slots = 0 }))
-    ∙ refused v (accepted (now (a .sizes)) (now (a .positions)) (now (a .normals)) (now (a .«tex-coords»)) (a .threshold) (now (a .answer)) (now (a .work))) (now (a .answer)) (now (a .work)) (λ q. c .before .if1 .taken (ap (λ x. x .number) e ∙ q))
+    ∙ refused v (accepted (called s)) (now (a .answer)) (now (a .work)) (λ q. c .before .if1 .taken (ap (λ x. x .number) e ∙ q))
 
 make-frames-requires : tie.Need-make-frames-requires
 make-frames-requires c κs =
     let i = c .before .before in
     let j = i .before .before in
-    let a = j .before .before .before .before .before .before .before .args in
-    no-refusal (now (a .sizes)) (now (a .positions)) (now (a .normals)) (now (a .«tex-coords»)) (a .threshold) (length (now (a .answer))) (length (now (a .work))) (sym (ap (λ x. x .number) (j .judge .ensures)) ∙ i .if1 .left)
+    let s = j .before .before .before .before .before .before .before in
+    no-refusal (atDesk (called s)) (sym (ap (λ x. x .number) (j .judge .ensures)) ∙ i .if1 .left)
 
 said-requires-2 : tie.Need-said-requires-2
 said-requires-2 c κs = search needs
@@ -49,9 +56,10 @@ returns-2 c =
     let m = c .before .before .before .before .before in
     let i = m .before .before .before in
     let j = i .before .before in
-    let a = j .before .before .before .before .before .before .before .args in
-    let z = accepted (now (a .sizes)) (now (a .positions)) (now (a .normals)) (now (a .«tex-coords»)) (a .threshold) (now (a .answer)) (now (a .work)) in
-    let n = no-refusal (now (a .sizes)) (now (a .positions)) (now (a .normals)) (now (a .«tex-coords»)) (a .threshold) (length (now (a .answer))) (length (now (a .work))) (sym (ap (λ x. x .number) (j .judge .ensures)) ∙ i .if1 .left) in
+    let s = j .before .before .before .before .before .before .before in
+    let a = s .args in
+    let z = accepted (called s) in
+    let n = no-refusal (atDesk (called s)) (sym (ap (λ x. x .number) (j .judge .ensures)) ∙ i .if1 .left) in
     left-same _ _ _ _ (c .said2 .ensures) ∙ (m .make-frames .ensures ∙ ap (λ o. answered o z (now (a .answer)) (now (a .work))) (sym n))
 
 pub generate-tangent-space-spec : {M : Type 1} → statement M

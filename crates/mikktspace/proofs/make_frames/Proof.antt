@@ -5,7 +5,9 @@ use mathlib.Core.Path.{ap, _∙_}
 use mathlib.Core.List.{_++_}
 use denote.Ref.{now}
 use lib.ListN.{length, drop, replicate}
+use Rattle.definition.specs.Desk.{shown}
 use Rattle.tangent.specs.Slot.{slotWords}
+use Rattle.definition.specs.Handed.{handed}
 use Rattle.definition.specs.Outcome.{accepted}
 use Rattle.table.specs.Columns.{columns, rowsOf}
 use Rattle.mikktspace.specs.Contract.{left}
@@ -17,8 +19,8 @@ use Rattle.mikktspace.proofs.make_frames.Statement.{statement}
 use Rattle.mikktspace.proofs.make_frames.Tie as tie
 
 -- what holds of the lists
-known : (s : tie.Start) → let a = s .args in Fine (now (a .sizes)) (now (a .positions)) (now (a .normals)) (now (a .«tex-coords»)) (a .threshold) (length (now (a .answer))) (length (now (a .work)))
-known s = let a = s .args in fine (now (a .sizes)) (now (a .positions)) (now (a .normals)) (now (a .«tex-coords»)) (a .threshold) (length (now (a .answer))) (length (now (a .work))) (s .pre)
+known : (s : tie.Start) → let a = s .args in Fine (shown (handed (now (a .sizes)) (now (a .positions)) (now (a .normals)) (now (a .texture))) (a .threshold) (length (now (a .answer))) (length (now (a .work))))
+known s = let a = s .args in fine (shown (handed (now (a .sizes)) (now (a .positions)) (now (a .normals)) (now (a .texture))) (a .threshold) (length (now (a .answer))) (length (now (a .work)))) (s .pre)
 
 room : (s : tie.Start) → columns * rowsOf (length (now (s .args .sizes))) ≤ length (now (s .args .work))
 room s = omega (arith, known s .work-fits)
@@ -46,7 +48,7 @@ contribute-all-requires c κs =
     let g = c .before .before .before in
     let s = g .before .before .before .before .before .before .before .before .before .before .before .before .before in
     let L = g .group-mesh .ensures in
-    let R = counts-fit (now (s .args .sizes)) (now (s .args .positions)) (now (s .args .normals)) (now (s .args .«tex-coords»)) _ (now (s .args .work)) _ (now (s .args .work)) L in
+    let R = counts-fit (handed (now (s .args .sizes)) (now (s .args .positions)) (now (s .args .normals)) (now (s .args .texture))) _ (now (s .args .work)) _ (now (s .args .work)) L in
     (omega (arith, R .0, R .1), omega (arith, room s, L .only .size))
 
 generate-tangent-spaces-requires : tie.Need-generate-tangent-spaces-requires
@@ -56,7 +58,7 @@ generate-tangent-spaces-requires c κs =
     let s = g .before .before .before .before .before .before .before .before .before .before .before .before .before in
     let L = g .group-mesh .ensures in
     let O = k .contribute-all .ensures .1 in
-    (L .few, L .small, omega (arith, room s, L .only .size, O .size), all-ranged (now (s .args .sizes)) (now (s .args .positions)) (now (s .args .normals)) (now (s .args .«tex-coords»)) _ (now (s .args .work)) _ _ L (known s .good) O (room s))
+    (L .few, L .small, omega (arith, room s, L .only .size, O .size), all-ranged (handed (now (s .args .sizes)) (now (s .args .positions)) (now (s .args .normals)) (now (s .args .texture))) _ (now (s .args .work)) _ _ L (known s .good) O (room s))
 
 copy-frames-requires : tie.Need-copy-frames-requires
 copy-frames-requires c κs =
@@ -65,7 +67,7 @@ copy-frames-requires c κs =
     let g = k .before .before .before .before in
     let s = g .before .before .before .before .before .before .before .before .before .before .before .before .before in
     let L = g .group-mesh .ensures in
-    let R = counts-fit (now (s .args .sizes)) (now (s .args .positions)) (now (s .args .normals)) (now (s .args .«tex-coords»)) _ (now (s .args .work)) _ (now (s .args .work)) L in
+    let R = counts-fit (handed (now (s .args .sizes)) (now (s .args .positions)) (now (s .args .normals)) (now (s .args .texture))) _ (now (s .args .work)) _ (now (s .args .work)) L in
     (R .0, R .1, omega (arith, room s, L .only .size, k .contribute-all .ensures .1 .size, t .generate-tangent-spaces .ensures .1 .size))
 
 mul-clear-first-2 : tie.Need-mul-clear-first-2
@@ -104,8 +106,8 @@ returns c =
     let p = n .before .before .before .before in
     let slots = all-slots (now (a .sizes)) _ (known s .few) (n .slots-before .ensures .0) in
     let first = q .clear-first .ensures ∙ ap (λ k. replicate (slotWords * k) 0 ++ drop (slotWords * k) (now (a .answer))) slots in
-    let answer = answered (now (a .sizes)) (now (a .positions)) (now (a .normals)) (now (a .«tex-coords»)) _ (now (a .work)) _ _ L (known s .good) (k .contribute-all .ensures .1) (room s) (λ i. p .shared-slice-known3 .given i) (k .contribute-all .ensures .0) (a .threshold) (now (a .answer)) _ _ _ _ first (t .generate-tangent-spaces .ensures .0) (t .generate-tangent-spaces .ensures .1) (f .copy-frames .ensures) in
-    let work = cleared (now (a .sizes)) (now (a .positions)) (now (a .normals)) (now (a .«tex-coords»)) _ (now (a .work)) _ _ L (known s .good) (k .contribute-all .ensures .1) (room s) (λ i. p .shared-slice-known3 .given i) (k .contribute-all .ensures .0) (a .threshold) (now (a .answer)) _ _ _ _ first (t .generate-tangent-spaces .ensures .0) (t .generate-tangent-spaces .ensures .1) (f .copy-frames .ensures) _ (y .clear-first2 .ensures) in
+    let answer = answered (handed (now (a .sizes)) (now (a .positions)) (now (a .normals)) (now (a .texture))) _ (now (a .work)) _ _ L (known s .good) (k .contribute-all .ensures .1) (room s) (λ i. p .shared-slice-known3 .given i) (k .contribute-all .ensures .0) (a .threshold) (now (a .answer)) _ _ _ _ first (t .generate-tangent-spaces .ensures .0) (t .generate-tangent-spaces .ensures .1) (f .copy-frames .ensures) in
+    let work = cleared (handed (now (a .sizes)) (now (a .positions)) (now (a .normals)) (now (a .texture))) _ (now (a .work)) _ _ L (known s .good) (k .contribute-all .ensures .1) (room s) (λ i. p .shared-slice-known3 .given i) (k .contribute-all .ensures .0) (a .threshold) (now (a .answer)) _ _ _ _ first (t .generate-tangent-spaces .ensures .0) (t .generate-tangent-spaces .ensures .1) (f .copy-frames .ensures) _ (y .clear-first2 .ensures) in
     λ i. record { number = 0; place = 0; slots = slots i; answer = answer i; work = work i }
 
 pub make-frames-spec : {M : Type 1} → statement M

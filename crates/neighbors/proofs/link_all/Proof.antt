@@ -6,9 +6,9 @@ use native.Mathlib.Omega.{arith}
 use mathlib.Core.Path.{_≡_, refl, _∙_}
 use borrow.Author.Needs.{needs}
 use mathlib.Core.List.{[], _∷_}
-use Rattle.table.specs.Loop.{upTo}
+use Rattle.lists.specs.Loops.{upTo}
 use Rattle.table.specs.Columns.{linkColumn}
-use Rattle.table.proofs.Loops.{upTo-none}
+use Rattle.lists.proofs.Loops.{upTo-none}
 use Rattle.view.specs.Frame.{Only}
 use Rattle.view.proofs.Frame.{only-none, only-trans}
 use Rattle.neighbors.specs.Links.{turn}

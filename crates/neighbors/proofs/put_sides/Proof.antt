@@ -4,8 +4,8 @@ use native.Mathlib.Nat.{le-antisymm}
 use native.Mathlib.Omega.{arith}
 use mathlib.Core.Path.{_≡_, refl, ap, _∙_}
 use lib.ListN.{length}
-use Rattle.table.specs.Loop.{upTo}
-use Rattle.table.proofs.Loops.{upTo-none, upTo-more}
+use Rattle.lists.specs.Loops.{upTo}
+use Rattle.lists.proofs.Loops.{upTo-none, upTo-more}
 use Rattle.neighbors.specs.Sides.{withSide}
 use Rattle.neighbors.proofs.put_sides.Statement.{statement}
 use Rattle.neighbors.proofs.put_sides.Tie as tie

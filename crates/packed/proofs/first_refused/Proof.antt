@@ -6,40 +6,55 @@ use mathlib.Core.Path.{_≡_, sym, _∙_, ap}
 use mathlib.Core.Bool.{Bool}
 use mathlib.Core.List.{List}
 use borrow.Author.Tests.{not-true, not-false}
-use Rattle.packed.specs.Reader.{accepted, sevenAt, firstFailing}
-use Rattle.packed.proofs.Runs.{failing-none, failing-more, failing-here}
+use Rattle.packed.specs.Packer.{packedWords}
+use Rattle.packed.specs.Reader.{isPacked, sevenAt, firstFailing}
+use Rattle.packed.proofs.Runs.{cut-is, cut-long, failing-none, failing-more, failing-here}
 use borrow.Author.Needs.{needs}
 use Rattle.packed.proofs.first_refused.Statement.{statement}
 use Rattle.packed.proofs.first_refused.Tie as tie
 
 abbrev Inv-loop : tie.InvT-loop
-Inv-loop packed count s₀ s = (s ≤ count) × (firstFailing s (λ k. accepted (sevenAt packed k)) ≡ s)
+Inv-loop packed count s₀ s = (s ≤ count) × (firstFailing s (λ k. isPacked (sevenAt packed k)) ≡ s)
 
 abbrev μ-loop : tie.MeasureT-loop
 μ-loop packed count s₀ s = count - s
 
 -- the test of slot s
 abbrev passes : List ℕ → ℕ → Bool
-passes l s = accepted (sevenAt l s)
+passes l s = isPacked (sevenAt l s)
 
 loop-holds : tie.Need-loop-holds Inv-loop μ-loop
 loop-holds c = (omega arith, failing-none (passes (c .before .args .packed .now)))
 
-mul-seven-at : tie.Need-mul-seven-at Inv-loop μ-loop
-mul-seven-at c = search needs
+mul-from : tie.Need-mul-from Inv-loop μ-loop
+mul-from c = search needs
 
-seven-at-requires : tie.Need-seven-at-requires Inv-loop μ-loop
-seven-at-requires c κs = search needs
+add-end : tie.Need-add-end Inv-loop μ-loop
+add-end c = search needs
 
-accepted-requires : tie.Need-accepted-requires Inv-loop μ-loop
-accepted-requires c κs = search needs
+mul-is-packed : tie.Need-mul-is-packed Inv-loop μ-loop
+mul-is-packed c = search needs
+
+sub-is-packed : tie.Need-sub-is-packed Inv-loop μ-loop
+sub-is-packed c = search needs
+
+part-is-packed-start : tie.Need-part-is-packed-start Inv-loop μ-loop
+part-is-packed-start c = search needs
+
+part-is-packed-end : tie.Need-part-is-packed-end Inv-loop μ-loop
+part-is-packed-end c = search needs
+
+is-packed-requires : tie.Need-is-packed-requires Inv-loop μ-loop
+is-packed-requires c κs =
+    let l = c .before .before .loop in
+    cut-long packedWords (l .s) (c .before .before .before .before .args .packed .now) (omega arith)
 
 returns : tie.Need-returns Inv-loop μ-loop
 unfolding sevenAt
 returns c =
     let l = c .before .before .before .before .loop in
     let a = c .before .before .before .before .before .before .args in
-    let e = sym (c .before .accepted .ensures ∙ ap accepted (c .before .before .seven-at .ensures)) in
+    let e = sym (c .before .is-packed .ensures ∙ ap isPacked (cut-is packedWords (l .s) (a .packed .now))) in
     sym (failing-here (a .count) (l .s) (passes (a .packed .now)) (omega arith) (l .inv .1) (e ∙ not-true _ (c .if1 .taken)))
 
 add-s : tie.Need-add-s Inv-loop μ-loop
@@ -53,7 +68,7 @@ unfolding sevenAt
 loop-again c =
     let l = c .before .before .before .before .loop in
     let a = c .before .before .before .before .before .before .args in
-    let e = sym (c .before .accepted .ensures ∙ ap accepted (c .before .before .seven-at .ensures)) in
+    let e = sym (c .before .is-packed .ensures ∙ ap isPacked (cut-is packedWords (l .s) (a .packed .now))) in
     (omega arith, failing-more (l .s) (passes (a .packed .now)) (l .inv .1) (e ∙ not-false _ (c .if1 .left)))
 
 returns-2 : tie.Need-returns-2 Inv-loop μ-loop
@@ -67,5 +82,5 @@ pub first-refused-spec : {M : Type 1} → statement M
 first-refused-spec =
     tie.close
     (tie.spec
-    Inv-loop μ-loop loop-holds mul-seven-at seven-at-requires accepted-requires returns add-s loop-less loop-again
-    returns-2)
+    Inv-loop μ-loop loop-holds mul-from add-end mul-is-packed sub-is-packed part-is-packed-start
+    part-is-packed-end is-packed-requires returns add-s loop-less loop-again returns-2)

@@ -4,7 +4,7 @@ use Prim.Native.Nat.{ℕ, _+_, _*_, _/_, _%_, _^_, _<_}
 use native.Mathlib.Nat.{div-add-mod', mod-lt, mod-le, div-le-self, mod-eq-of-lt, one-mul}
 use mathlib.Core.Path.{_≡_, sym, _∙_, ap, subst}
 use lib.Pow.{pow-pos, pow-lt}
-use Rattle.packed.specs.Rounding.{Nearest}
+use Rattle.packed.specs.Rounding.{NearestWhole}
 use Rattle.packed.specs.Rounding as rounding
 use Rattle.packed.proofs.Rounding.{rounded-down, rounded-up, rounded-even, nearest-only}
 use borrow.Author.Needs.{needs}
@@ -22,7 +22,7 @@ shifted-pos : (k : ℕ) → k < 64 → 0 < shifted k
 shifted-pos k h = subst (λ (x : ℕ). 0 < x) (sym (shifted-is k h)) (pow-pos k)
 
 -- a nearest number is the definition's
-settled : (n k q : ℕ) → k < 64 → Nearest n (shifted k) q → q ≡ rounding.nearest n (2 ^ k)
+settled : (n k q : ℕ) → k < 64 → NearestWhole n (shifted k) q → q ≡ rounding.nearest n (2 ^ k)
 settled n k q h e = nearest-only n (shifted k) q (shifted-pos k h) e ∙ ap (rounding.nearest n) (shifted-is k h)
 
 shl-d : tie.Need-shl-d

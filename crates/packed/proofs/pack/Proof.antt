@@ -2,7 +2,7 @@
 use Prim.Native.Nat.{_*_}
 use native.Mathlib.Omega.{arith}
 use mathlib.Core.Path.{_∙_}
-use Rattle.packed.specs.Packer.{slotsIn, allPacked, notPacked}
+use Rattle.packed.specs.Packer.{packedWords, slotsIn, allPacked, notPacked}
 use Rattle.packed.specs.Contract.{afterPack}
 use Rattle.packed.proofs.Outcomes.{pack-broken, pack-short, pack-done}
 use borrow.Author.Needs.{needs}
@@ -39,7 +39,7 @@ returns-3 c =
     let p = c .before .before in
     let t = p .before .before in
     let a = t .before .before .before .before .args in
-    (λ i. record { number = 0; count = 7 * slotsIn (a .answer .now); packed = p .pack-slots .ensures i }) ∙ pack-done (a .answer .now) (a .packed .now) (omega (arith, t .before .if1 .left)) (t .if2 .left)
+    (λ i. record { number = 0; count = packedWords * slotsIn (a .answer .now); packed = p .pack-slots .ensures i }) ∙ pack-done (a .answer .now) (a .packed .now) (omega (arith, t .before .if1 .left)) (t .if2 .left)
 
 pub pack-spec : {M : Type 1} → statement M
 pack-spec =

@@ -2,6 +2,7 @@
 use native.Mathlib.Omega.{arith}
 use mathlib.Core.Path.{_∙_, subst, sym, _≡_}
 use Prim.Native.Nat.{ℕ, _≤_}
+use Rattle.packed.specs.Component.{fullScale}
 use Rattle.packed.specs.Component as spec
 use Rattle.packed.proofs.Range.{units-none, units-le, units-high}
 use borrow.Author.Needs.{needs}
@@ -30,8 +31,8 @@ nearest-requires c κs = search needs
 nearest-is : (c : tie.After-nearest) → c .nearest .result ≡ spec.units (c .before .before .args .m)
 nearest-is c = c .nearest .ensures ∙ units-high (c .before .before .args .m) (omega arith)
 
-nearest-le : (c : tie.After-nearest) → c .nearest .result ≤ 32767
-nearest-le c = subst (λ (q : ℕ). q ≤ 32767) (sym (nearest-is c)) (units-le (c .before .before .args .m) (c .before .before .pre))
+nearest-le : (c : tie.After-nearest) → c .nearest .result ≤ fullScale
+nearest-le c = subst (λ (q : ℕ). q ≤ fullScale) (sym (nearest-is c)) (units-le (c .before .before .args .m) (c .before .before .pre))
 
 cast-result : tie.Need-cast-result
 cast-result c = omega (arith, nearest-le c)

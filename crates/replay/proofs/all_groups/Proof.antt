@@ -36,12 +36,4 @@ pub all-groups-spec : {M : Type 1} → statement M
 all-groups-spec =
     tie.close
     (tie.spec
-    Inv-loop
-    μ-loop
-    next-word-requires
-    loop-holds
-    group-more-requires
-    add-g
-    loop-less
-    loop-again
-    returns)
+    Inv-loop μ-loop next-word-requires loop-holds group-more-requires add-g loop-less loop-again returns)

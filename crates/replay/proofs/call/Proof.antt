@@ -63,21 +63,6 @@ pub call-spec : {M : Type 1} → statement M
 call-spec =
     tie.close
     (tie.spec
-    length-at-requires
-    slice-aggregate-positions
-    mul-others
-    sub-others
-    part-others-start
-    part-others-end
-    length-at-requires-2
-    slice-aggregate-normals
-    mul-texture
-    sub-texture
-    part-texture-start
-    part-texture-end
-    nth-requires
-    number-requires
-    generate-tangent-space-requires
-    same-length
-    same-length-2
-    returns)
+    length-at-requires slice-aggregate-positions mul-others sub-others part-others-start part-others-end
+    length-at-requires-2 slice-aggregate-normals mul-texture sub-texture part-texture-start part-texture-end
+    nth-requires number-requires generate-tangent-space-requires same-length same-length-2 returns)

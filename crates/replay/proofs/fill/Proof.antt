@@ -1,14 +1,14 @@
 -- `replay::fill` is safe and ends: the list keeps its length. Assumes nothing.
 use borrow.Author.Needs.{needs}
 use native.Mathlib.Omega.{arith}
-use Prim.Native.Nat.{_-_, _≤_}
-use mathlib.Core.Path.{_≡_}
+use Prim.Native.Nat.{_-_}
 use lib.ListN.{length, length-set}
+use Rattle.replay.proofs.Turns.{Within}
 use Rattle.replay.proofs.fill.Statement.{statement}
 use Rattle.replay.proofs.fill.Tie as tie
 
 abbrev Inv-loop : tie.InvT-loop
-Inv-loop list₀ base i₀ i-end list i = (i ≤ i-end) × (i-end ≡ length list₀) × (length list ≡ length list₀)
+Inv-loop list₀ base i₀ i-end list i = Within i i-end (length list₀) (length list)
 
 abbrev μ-loop : tie.MeasureT-loop
 μ-loop list₀ base i₀ i-end list i = i-end - i
@@ -44,14 +44,5 @@ pub fill-spec : {M : Type 1} → statement M
 fill-spec =
     tie.close
     (tie.spec
-    Inv-loop
-    μ-loop
-    loop-holds
-    lent-requires
-    mul-list
-    slice-write-list
-    add-i
-    loop-less
-    loop-again
-    same-length
+    Inv-loop μ-loop loop-holds lent-requires mul-list slice-write-list add-i loop-less loop-again same-length
     returns)

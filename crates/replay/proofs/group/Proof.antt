@@ -36,12 +36,4 @@ pub group-spec : {M : Type 1} → statement M
 group-spec =
     tie.close
     (tie.spec
-    Inv-loop
-    μ-loop
-    next-word-requires
-    loop-holds
-    mesh-more-requires
-    add-i
-    loop-less
-    loop-again
-    returns)
+    Inv-loop μ-loop next-word-requires loop-holds mesh-more-requires add-i loop-less loop-again returns)

@@ -39,13 +39,5 @@ pub lend-spec : {M : Type 1} → statement M
 lend-spec =
     tie.close
     (tie.spec
-    length-at-requires
-    length-at-requires-2
-    slice-relend-prefix-lent-answer
-    slice-aggregate-lent-answer
-    slice-relend-prefix-lent-work
-    slice-aggregate-lent-work
-    ask-requires
-    same-length
-    same-length-2
-    returns)
+    length-at-requires length-at-requires-2 slice-relend-prefix-lent-answer slice-aggregate-lent-answer
+    slice-relend-prefix-lent-work slice-aggregate-lent-work ask-requires same-length same-length-2 returns)

@@ -66,22 +66,7 @@ pub read-mesh-spec : {M : Type 1} → statement M
 read-mesh-spec =
     tie.close
     (tie.spec
-    length-at-requires
-    count-numbers-requires
-    skip-requires
-    slice-relend-prefix-read-sizes
-    slice-aggregate-read-sizes
-    read-sizes-requires
-    slice-relend-prefix-read-numbers
-    slice-aggregate-read-numbers
-    read-numbers-requires
-    slice-reshare-prefix-lend
-    slice-aggregate-lend
-    slice-reshare-prefix-lend-2
-    slice-aggregate-lend-2
-    lend-requires
-    same-length
-    same-length-2
-    same-length-3
-    same-length-4
-    returns)
+    length-at-requires count-numbers-requires skip-requires slice-relend-prefix-read-sizes
+    slice-aggregate-read-sizes read-sizes-requires slice-relend-prefix-read-numbers slice-aggregate-read-numbers
+    read-numbers-requires slice-reshare-prefix-lend slice-aggregate-lend slice-reshare-prefix-lend-2
+    slice-aggregate-lend-2 lend-requires same-length same-length-2 same-length-3 same-length-4 returns)

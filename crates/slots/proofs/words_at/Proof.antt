@@ -4,7 +4,7 @@ use native.Mathlib.Nat.{add-zero}
 use mathlib.Core.Path.{sym, _∙_, ap}
 use mathlib.Core.List.{_∷_}
 use lib.ListN.{getD, drop}
-use Rattle.table.specs.Loop.{listOf}
+use Rattle.lists.specs.Loops.{listOf}
 use Rattle.slots.specs.Slots.{wordsAt}
 use Rattle.slots.proofs.Runs.{run-read}
 use borrow.Author.Needs.{needs}

@@ -1,6 +1,6 @@
 -- `spaces::reach_each` meets its contract. Assumes nothing.
 use Rattle.view.proofs.Frame.{only-none, only-trans, cell-kept}
-use Rattle.table.proofs.Loops.{upTo-more}
+use Rattle.lists.proofs.Loops.{upTo-more}
 use Rattle.subgroups.proofs.Laws.{ranged-kept}
 use Rattle.spaces.proofs.Kept.{member-kept}
 use Prim.Native.Nat.{ℕ, _+_, _-_, _*_, _≤_, _<_}
@@ -9,7 +9,7 @@ use native.Mathlib.Omega.{arith}
 use mathlib.Core.Path.{_≡_, refl, sym, ap, _∙_, subst}
 use mathlib.Core.List.{List, [], _∷_}
 use lib.ListN.{length}
-use Rattle.table.specs.Loop.{upTo}
+use Rattle.lists.specs.Loops.{upTo}
 use Rattle.table.specs.Table.{cell}
 use Rattle.table.specs.Columns.{columns, metColumn, joinedColumn}
 use Rattle.view.specs.Frame.{Only}

@@ -5,10 +5,10 @@ use native.Mathlib.Omega.{arith}
 use mathlib.Core.Path.{_≡_, refl, ap, _∙_}
 use mathlib.Core.List.{List}
 use lib.ListN.{length}
-use Rattle.table.specs.Loop.{upTo}
+use Rattle.lists.specs.Loops.{upTo}
 use Rattle.table.specs.Table.{cell}
 use Rattle.table.specs.Columns.{metColumn}
-use Rattle.table.proofs.Loops.{upTo-more}
+use Rattle.lists.proofs.Loops.{upTo-more}
 use borrow.Author.Needs.{needs}
 use Rattle.spaces.specs.Spaces.{reachWith, reachWhole}
 use Rattle.spaces.proofs.reach_whole.Statement.{statement}

@@ -4,8 +4,8 @@ use native.Mathlib.Nat.{le-antisymm}
 use native.Mathlib.Omega.{arith}
 use mathlib.Core.Path.{_≡_, ap, _∙_}
 use borrow.Author.Needs.{needs}
-use Rattle.table.specs.Loop.{upTo}
-use Rattle.table.proofs.Loops.{upTo-more}
+use Rattle.lists.specs.Loops.{upTo}
+use Rattle.lists.proofs.Loops.{upTo-more}
 use Rattle.hulls.specs.Hull.{nothing}
 use Rattle.subgroups.specs.declared.Span.{Span}
 use Rattle.subgroups.specs.Spans.{absorbedAt, spanOf}

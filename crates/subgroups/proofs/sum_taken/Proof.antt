@@ -5,8 +5,8 @@ use native.Mathlib.Omega.{arith}
 use mathlib.Core.Path.{_≡_, ap, _∙_}
 use Rattle.definition.specs.declared.Sum.{Sum}
 use Rattle.definition.specs.Step7Sums.{emptySum, finish}
-use Rattle.table.specs.Loop.{upTo}
-use Rattle.table.proofs.Loops.{upTo-more}
+use Rattle.lists.specs.Loops.{upTo}
+use Rattle.lists.proofs.Loops.{upTo-more}
 use Rattle.subgroups.specs.Subgroups.{addTaken, takenSum}
 use borrow.Author.Needs.{needs}
 use Rattle.subgroups.proofs.sum_taken.Statement.{statement}

@@ -2,6 +2,7 @@
 use native.Mathlib.Omega.{arith}
 use mathlib.Core.Path.{sym}
 use lib.Seq.{length-take-le}
+use Rattle.blocks.specs.Format.{blockBytes}
 use borrow.Author.Needs.{needs}
 use Rattle.torn.proofs.put.Statement.{statement}
 use Rattle.torn.proofs.put.Tie as tie
@@ -13,7 +14,7 @@ returns-2 : tie.Need-returns-2
 returns-2 c = search needs
 
 slice-aggregate-pwrite : tie.Need-slice-aggregate-pwrite
-slice-aggregate-pwrite c = sym (length-take-le 512 (c .before .before .before .before .args .bytes .now) (omega arith))
+slice-aggregate-pwrite c = sym (length-take-le blockBytes (c .before .before .before .before .args .bytes .now) (omega arith))
 
 cast-pwrite : tie.Need-cast-pwrite
 cast-pwrite c = search needs

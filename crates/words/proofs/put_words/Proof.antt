@@ -5,16 +5,16 @@ use native.Mathlib.Nat.{le-antisymm}
 use mathlib.Core.Path.{_≡_, refl, _∙_, ap}
 use lib.ListN.{length}
 use lib.Seq.{sets}
-use Rattle.words.specs.Lists.{sumOf, part}
-use Rattle.words.specs.Words.{bytesOf}
-use Rattle.words.proofs.Lists.{part-sum-none, part-sum-more}
+use Rattle.lists.specs.Parts.{sumOf, part}
+use Rattle.words.specs.Words.{wordValues, bytesOf}
+use Rattle.lists.proofs.Parts.{part-sum-none, part-sum-more}
 use Rattle.words.proofs.Words.{put-none, put-more}
 use Rattle.words.proofs.put_words.Statement.{statement}
 use Rattle.words.proofs.put_words.Tie as tie
 use borrow.Author.Needs.{needs}
 
 abbrev Inv-loop : tie.InvT-loop
-Inv-loop bytes₀ to words from count sum₀ i₀ bytes sum i = (i ≤ count) × (bytes ≡ sets bytes₀ (4 * to) (bytesOf (part from i words))) × (sum ≡ sumOf (part from i words)) × (sum ≤ 4294967295 * i) × (length bytes ≡ length bytes₀)
+Inv-loop bytes₀ to words from count sum₀ i₀ bytes sum i = (i ≤ count) × (bytes ≡ sets bytes₀ (4 * to) (bytesOf (part from i words))) × (sum ≡ sumOf (part from i words)) × (sum ≤ (wordValues - 1) * i) × (length bytes ≡ length bytes₀)
 
 abbrev μ-loop : tie.MeasureT-loop
 μ-loop bytes₀ to words from count sum₀ i₀ bytes sum i = count - i

@@ -3,15 +3,15 @@ use native.Mathlib.Omega.{arith}
 use Prim.Native.Nat.{_*_, _-_, _≤_, _+_}
 use native.Mathlib.Nat.{le-antisymm}
 use mathlib.Core.Path.{_≡_, _∙_, ap}
-use Rattle.words.specs.Lists.{sumOf}
-use Rattle.words.specs.Words.{wordsAt}
+use Rattle.lists.specs.Parts.{sumOf}
+use Rattle.words.specs.Words.{wordValues, wordsAt}
 use Rattle.words.proofs.Words.{sums-none, sums-more}
 use Rattle.words.proofs.sum_at.Statement.{statement}
 use Rattle.words.proofs.sum_at.Tie as tie
 use borrow.Author.Needs.{needs}
 
 abbrev Inv-loop : tie.InvT-loop
-Inv-loop bytes from count sum₀ i₀ sum i = (i ≤ count) × (sum ≡ sumOf (wordsAt bytes from i)) × (sum ≤ 4294967295 * i)
+Inv-loop bytes from count sum₀ i₀ sum i = (i ≤ count) × (sum ≡ sumOf (wordsAt bytes from i)) × (sum ≤ (wordValues - 1) * i)
 
 abbrev μ-loop : tie.MeasureT-loop
 μ-loop bytes from count sum₀ i₀ sum i = count - i

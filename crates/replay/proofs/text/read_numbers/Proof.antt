@@ -1,14 +1,14 @@
 -- `replay::text::read_numbers` is safe and ends: the list keeps its length. Assumes nothing.
 use borrow.Author.Needs.{needs}
 use native.Mathlib.Omega.{arith}
-use Prim.Native.Nat.{_-_, _≤_}
-use mathlib.Core.Path.{_≡_}
+use Prim.Native.Nat.{_-_}
 use lib.ListN.{length, length-set}
+use Rattle.replay.proofs.Turns.{Within}
 use Rattle.replay.proofs.text.read_numbers.Statement.{statement}
 use Rattle.replay.proofs.text.read_numbers.Tie as tie
 
 abbrev Inv-loop : tie.InvT-loop
-Inv-loop text from out₀ at₀ i₀ i-end out at i = (i ≤ i-end) × (i-end ≡ length out₀) × (length out ≡ length out₀)
+Inv-loop text from out₀ at₀ i₀ i-end out at i = Within i i-end (length out₀) (length out)
 
 abbrev μ-loop : tie.MeasureT-loop
 μ-loop text from out₀ at₀ i₀ i-end out at i = i-end - i
@@ -47,15 +47,5 @@ pub read-numbers-spec : {M : Type 1} → statement M
 read-numbers-spec =
     tie.close
     (tie.spec
-    Inv-loop
-    μ-loop
-    loop-holds
-    next-word-requires
-    number-requires
-    mul-out
-    slice-write-out
-    add-i
-    loop-less
-    loop-again
-    same-length
-    returns)
+    Inv-loop μ-loop loop-holds next-word-requires number-requires mul-out slice-write-out add-i loop-less
+    loop-again same-length returns)

@@ -1,14 +1,14 @@
 -- `replay::text::read_sizes` is safe and ends: the list keeps its length. Assumes nothing.
 use borrow.Author.Needs.{needs}
 use native.Mathlib.Omega.{arith}
-use Prim.Native.Nat.{_-_, _≤_}
-use mathlib.Core.Path.{_≡_}
+use Prim.Native.Nat.{_-_}
 use lib.ListN.{length, length-set}
+use Rattle.replay.proofs.Turns.{Within}
 use Rattle.replay.proofs.text.read_sizes.Statement.{statement}
 use Rattle.replay.proofs.text.read_sizes.Tie as tie
 
 abbrev Inv-loop : tie.InvT-loop
-Inv-loop text from out₀ run₀ i₀ i-end out run i = (i ≤ i-end) × (i-end ≡ length out₀) × (length out ≡ length out₀)
+Inv-loop text from out₀ run₀ i₀ i-end out run i = Within i i-end (length out₀) (length out)
 
 abbrev μ-loop : tie.MeasureT-loop
 μ-loop text from out₀ run₀ i₀ i-end out run i = i-end - i
@@ -41,13 +41,4 @@ pub read-sizes-spec : {M : Type 1} → statement M
 read-sizes-spec =
     tie.close
     (tie.spec
-    Inv-loop
-    μ-loop
-    loop-holds
-    run-on-requires
-    slice-write-out
-    add-i
-    loop-less
-    loop-again
-    same-length
-    returns)
+    Inv-loop μ-loop loop-holds run-on-requires slice-write-out add-i loop-less loop-again same-length returns)

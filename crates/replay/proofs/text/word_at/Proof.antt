@@ -46,15 +46,5 @@ pub word-at-spec : {M : Type 1} → statement M
 word-at-spec =
     tie.close
     (tie.spec
-    Inv-loop
-    μ-loop
-    loop-holds
-    shared-slice-read-digit
-    digit-requires
-    mul-value
-    add-value
-    add-at
-    loop-less
-    loop-again
-    returns
-    returns-2)
+    Inv-loop μ-loop loop-holds shared-slice-read-digit digit-requires mul-value add-value add-at loop-less
+    loop-again returns returns-2)

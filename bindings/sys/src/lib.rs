@@ -1,0 +1,34 @@
+//! The calls of the proved archive libdokphalun.a, each declared once and handed Rust's own lists.
+//!
+//! The archive takes any numbers whatever, so every call here is safe: a list passes with its own length, and one that is
+//! altered is borrowed for that alone. The first call asks the archive what it is ([`archive`]); where that is not what these
+//! declarations were written for, every call panics and says so. docs/PROGRAMMERS.md says what the calls do, and
+//! include/dokphalun.h what each number means.
+#![deny(missing_docs)]
+mod calls;
+mod edition;
+#[cfg(feature = "exports")]
+pub mod exports;
+mod said;
+
+pub use calls::*;
+pub use edition::{Edition, INTERFACE, OtherArchive, SLOT_WORDS, archive};
+pub use said::*;
+
+/// The folder of the archive that is linked, for programs that are built beside it.
+pub const FOLDER: &str = env!("DOKPHALUN_FOLDER");
+
+/// The greatest number of faces that is accepted.
+pub const MOST_FACES: usize = 65_536;
+
+/// The words of work that a face needs.
+pub const WORK_WORDS: usize = 128;
+
+/// What a face is given that is in no island.
+pub const NO_ISLAND: u32 = u32::MAX;
+
+/// The entries a face of the lists that [`frames_by_islands`] works in: labels, order, sizes, numbers and frames.
+pub const ISLAND_ENTRIES: [usize; 5] = [1, 4, 1, 32, 4 * SLOT_WORDS];
+
+/// The words a face of the lists that [`links`] writes: links, groups and orientations.
+pub const LINK_ENTRIES: [usize; 3] = [6, 6, 2];

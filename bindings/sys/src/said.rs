@@ -1,0 +1,113 @@
+//! What the calls say, as they return it. The names and the order are those of include/dokphalun.h.
+
+/// What [`crate::frames`] and [`crate::frames_by_islands`] say.
+#[repr(C)]
+#[derive(Clone, Copy, Debug, PartialEq, Eq)]
+pub struct Outcome {
+    /// The number of a refusal, or 0.
+    pub number: u32,
+    /// The place of refusal 4, else 0.
+    pub place: u32,
+    /// How many slots were written.
+    pub slots: u32,
+}
+
+/// What [`crate::labels`] says.
+#[repr(C)]
+#[derive(Clone, Copy, Debug, PartialEq, Eq)]
+pub struct Labelled {
+    /// The number of a refusal, or 0.
+    pub number: u32,
+    /// The place of refusal 4, else 0.
+    pub place: u32,
+    /// How many islands there are.
+    pub islands: u32,
+}
+
+/// What [`crate::examine`] says.
+#[repr(C)]
+#[derive(Clone, Copy, Debug, PartialEq, Eq)]
+pub struct Examined {
+    /// The number of a refusal, or 0.
+    pub refusal: u32,
+    /// The number of an objection, or 0.
+    pub objection: u32,
+    /// The place of either.
+    pub place: u32,
+}
+
+/// What [`crate::links`] says.
+#[repr(C)]
+#[derive(Clone, Copy, Debug, PartialEq, Eq)]
+pub struct Handed {
+    /// The number of a refusal, or 0.
+    pub number: u32,
+    /// The place of refusal 4, else 0.
+    pub place: u32,
+    /// How many triangles are sound.
+    pub sound: u32,
+}
+
+/// What [`crate::card_write`] says.
+#[repr(C)]
+#[derive(Clone, Copy, Debug, PartialEq, Eq)]
+pub struct Written {
+    /// The number of a refusal, or 0.
+    pub number: u32,
+    /// How many bytes were written.
+    pub bytes: usize,
+}
+
+/// What [`crate::card_read`] says.
+#[repr(C)]
+#[derive(Clone, Copy, Debug, PartialEq, Eq)]
+pub struct Found {
+    /// The number of a refusal, or 0.
+    pub number: u32,
+    /// How many bytes stand past the last whole block that the total calls for.
+    pub past: usize,
+}
+
+/// What [`crate::card_next`] says.
+#[repr(C)]
+#[derive(Clone, Copy, Debug, PartialEq, Eq)]
+pub struct Next {
+    /// The number of a refusal, or 0.
+    pub number: u32,
+    /// How many records the next block takes.
+    pub records: u32,
+    /// The byte of the file at which it goes.
+    pub at: usize,
+}
+
+/// What [`crate::card_append`] says.
+#[repr(C)]
+#[derive(Clone, Copy, Debug, PartialEq, Eq)]
+pub struct Appended {
+    /// The number of a refusal, or 0.
+    pub number: u32,
+    /// How many blocks were made.
+    pub blocks: u32,
+    /// The byte of the file at which they go.
+    pub at: usize,
+}
+
+/// What [`crate::pack`] says.
+#[repr(C)]
+#[derive(Clone, Copy, Debug, PartialEq, Eq)]
+pub struct Packed {
+    /// The number of a refusal, or 0.
+    pub number: u32,
+    /// How many numbers were written.
+    pub count: usize,
+}
+
+/// What [`crate::unpack`] says.
+#[repr(C)]
+#[derive(Clone, Copy, Debug, PartialEq, Eq)]
+pub struct Unpacked {
+    /// The number of a refusal, or 0.
+    pub number: u32,
+    /// The slot of refusal 3, else 0.
+    pub place: usize,
+}

@@ -1,0 +1,89 @@
+-- What step 6 leaves after steps 1 to 5. Assumes nothing.
+use Prim.Native.Nat.{ℕ, _+_, _*_, _≤_, _<_}
+use native.Mathlib.Omega.{arith}
+use mathlib.Core.Path.{_≡_, refl, sym, _∙_, ap, subst}
+use mathlib.Core.Bool.{Bool, not}
+use mathlib.Core.List.{List, [], _∷_, _++_}
+use mathlib.Core.Option.{none}
+use lib.Dec.{eqb}
+use lib.ListN.{length, getD, length-append, List·getD-append}
+use Rattle.tangent.specs.Slot.{flag}
+use Rattle.table.specs.Table.{cell}
+use Rattle.table.specs.Columns.{columns, rowsOf, orientationColumn, anyColumn}
+use Rattle.definition.specs.declared.Triangle.{Triangle}
+use Rattle.definition.specs.Mesh.{one}
+use Rattle.definition.specs.Handed.{Handed}
+use Rattle.definition.specs.Step4Order.{sound, broken}
+use Rattle.definition.specs.Step5Links.{Link, links}
+use Rattle.definition.specs.Step6Groups.{marks}
+use Rattle.definition.specs.Frames.{trianglesOf}
+use Rattle.definition.specs.Names.{Names}
+use Rattle.laws.proofs.Closed.{Between, links-sound}
+use Rattle.laws.proofs.Laws.{mark}
+use Rattle.view.specs.Frame.{outside, Only}
+use Rattle.view.specs.Records.{Held}
+use Rattle.view.specs.Weld.{Sharp}
+use Rattle.view.specs.Links.{Five}
+use Rattle.view.specs.Groups.{Grouping, InOrder}
+use Rattle.view.specs.Rows.{spotAt}
+use Rattle.view.proofs.Frame.{only-trans, only-more, cell-kept}
+use Rattle.view.proofs.Groups.{grouping-kept}
+use Rattle.view.proofs.Records.{any-is}
+use Rattle.view.proofs.Weld.{welds, sound-welds}
+use Rattle.grouped.specs.Links.{linkedColumns, LeftByFive}
+use Rattle.flat.specs.Places.{flatColumns}
+use Rattle.groups.specs.Marks.{Asked, Walked}
+use Rattle.members.specs.Members.{orderColumns}
+use Rattle.grouped.specs.declared.MeshCounts.{MeshCounts}
+use Rattle.grouped.specs.Grouped.{groupedColumns, sixColumns, Six, LeftBySix}
+
+-- what step 6 asks is what steps 1 to 5 leave
+pub asked : (rows : ℕ) (mesh : Handed) (xs : List Triangle) (d : Triangle) (w : List ℕ) → Five rows mesh xs d w → Asked rows (sound xs) d (links (sound xs)) w
+asked rows mesh xs d w F = record {
+  welds = sound-welds rows (sound xs) (broken xs) d w (welds rows (sound xs ++ broken xs) d w (F .vertices));
+  linked = F .linked;
+  any = λ t h. any-is rows mesh (sound xs ++ broken xs) d w (F .held) t (omega (arith, h, length-append (sound xs) (broken xs))) ∙ ap (λ x. not (x .any)) (List·getD-append (sound xs) (broken xs) d t h);
+  way = λ t h. F .held t (omega (arith, h, length-append (sound xs) (broken xs))) .way ∙ ap (λ x. flag (x .orientation)) (List·getD-append (sound xs) (broken xs) d t h);
+}
+
+module _ (mesh : Handed) (n m groups count : ℕ) (w u v z : List ℕ) where
+  abbrev xs : List Triangle
+  xs = trianglesOf mesh
+
+  abbrev ss : List Triangle
+  ss = sound xs
+
+  abbrev rows : ℕ
+  rows = rowsOf (length (mesh .sizes))
+
+  pub joined : LeftByFive mesh n m w u
+      → ((ss : List Triangle) (d : Triangle) (ls : List Link) → Between ss ls → length ss ≡ n → Names ss → Sharp ss d → Asked rows ss d ls u → Walked rows ss d ls u v groups count)
+      → ((ss : List Triangle) (d : Triangle) (ls : List Link) → Between ss ls → 3 * length ss ≤ rows → Names ss → count ≡ length (marks ss ls) → Grouping rows ss d (marks ss ls) groups v → InOrder rows ss groups count z)
+      → Only flatColumns rows u v
+      → Only orderColumns rows v z
+      → groups ≤ rows
+      → count ≤ rows
+      → LeftBySix mesh (record { sound = n; all = m; groups = groups; members = count }) w z
+  joined L walked ordered first O few small =
+      let U : Only groupedColumns rows u z = only-trans groupedColumns rows u v z (only-more flatColumns groupedColumns rows u v refl first) (only-more orderColumns groupedColumns rows v z refl O) in
+      record {
+        sound-count = L .sound-count;
+        count = L .count;
+        fits = L .fits;
+        few = few;
+        small = small;
+        only = only-trans sixColumns rows w u z (only-more linkedColumns sixColumns rows w u refl (L .only)) (only-more groupedColumns sixColumns rows u z refl U);
+        stands = λ e d.
+            let F = L .stands e d in
+            let W = walked ss d (links ss) (links-sound ss) (sym (L .sound-count)) (F .names) (F .sharp) (asked rows mesh xs d u F) in
+            let fit : 3 * length ss ≤ rows = omega (arith, L .fits, length-append ss (broken xs)) in
+            record {
+              linked = u;
+              five = F;
+              only = U;
+              members = W .count-is;
+              grouping = grouping-kept rows ss d (marks ss (links ss)) groups orderColumns v z refl fit few O (W .grouping) (mark (spotAt ss d 0 one) (spotAt ss d 0 one));
+              rest = λ t l r. cell-kept orderColumns rows v z O orientationColumn t refl r ∙ W .rest t l r;
+              in-order = ordered ss d (links ss) (links-sound ss) fit (F .names) (W .count-is) (W .grouping);
+            };
+      }

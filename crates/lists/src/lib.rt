@@ -1,0 +1,1 @@
+// Lists and loops, for the definitions and the laws: no code.

@@ -1,0 +1,49 @@
+-- Every promise, proved. Assumes nothing.
+use Rattle.promises.specs.All.{AllPromised}
+use Rattle.promises.proofs.PublicCall as PublicCall
+use Rattle.promises.proofs.Demand1 as Demand1
+use Rattle.promises.proofs.Determined as Determined
+use Rattle.promises.proofs.Demand3 as Demand3
+use Rattle.promises.proofs.Directions as Directions
+use Rattle.promises.proofs.Impostors as Impostors
+use Rattle.promises.proofs.OwnLinks as OwnLinks
+use Rattle.promises.proofs.OwnColumns as OwnColumns
+use Rattle.promises.proofs.TwoWalks as TwoWalks
+use Rattle.promises.proofs.NarrowAngles as NarrowAngles
+use Rattle.promises.proofs.Cosines as Cosines
+use Rattle.promises.proofs.ClosedFaces as ClosedFaces
+use Rattle.promises.proofs.Islands as Islands
+use Rattle.promises.proofs.Labels as Labels
+use Rattle.promises.proofs.Examiner as Examiner
+use Rattle.promises.proofs.OwnGiven as OwnGiven
+use Rattle.promises.proofs.ThreeSides as ThreeSides
+use Rattle.promises.proofs.Cards as Cards
+use Rattle.promises.proofs.Appends as Appends
+use Rattle.promises.proofs.Packed as Packed
+
+pub all-promised : AllPromised
+all-promised =
+    record {
+      public-call = PublicCall.public-call;
+      demand-1 = Demand1.demand1;
+      determined = Determined.determined;
+      demand-3 = Demand3.demand3;
+      directions = Directions.directions;
+      impostors = Impostors.impostors;
+      own-links = OwnLinks.own-links;
+      own-columns = OwnColumns.own-columns;
+      same-members = TwoWalks.same-members;
+      same-words = TwoWalks.same-words;
+      narrow-angles = NarrowAngles.narrow-angles;
+      cosines = Cosines.cosines;
+      closed-faces = ClosedFaces.closed-faces;
+      islands = Islands.islands-call;
+      labels = Labels.labels-call;
+      examiner = Examiner.examiner;
+      own-accepted = Examiner.own-accepted;
+      own-lists = OwnGiven.own-lists;
+      three-sides = ThreeSides.three-sides;
+      cards = Cards.cards-promised;
+      appends = Appends.appends-promised;
+      packed = Packed.packed-promised;
+    }

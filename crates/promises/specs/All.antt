@@ -1,0 +1,53 @@
+-- Every promise in one place: the theorem that README names is `all-promised` (proofs/All.antt). Definitions only.
+use Rattle.promises.specs.PublicCall as PublicCall
+use Rattle.promises.specs.Demand1 as Demand1
+use Rattle.promises.specs.Determined as Determined
+use Rattle.promises.specs.Demand3 as Demand3
+use Rattle.promises.specs.Directions as Directions
+use Rattle.promises.specs.Impostors as Impostors
+use Rattle.promises.specs.OwnLinks as OwnLinks
+use Rattle.promises.specs.OwnColumns as OwnColumns
+use Rattle.promises.specs.TwoWalks as TwoWalks
+use Rattle.promises.specs.NarrowAngles as NarrowAngles
+use Rattle.promises.specs.Cosines as Cosines
+use Rattle.promises.specs.ClosedFaces as ClosedFaces
+use Rattle.promises.specs.Islands as Islands
+use Rattle.promises.specs.Labels as Labels
+use Rattle.promises.specs.Examiner as Examiner
+use Rattle.promises.specs.ThreeSides as ThreeSides
+use Rattle.promises.specs.Cards.{CardsPromised}
+use Rattle.promises.specs.Appends.{AppendsPromised}
+use Rattle.promises.specs.Packed.{PackedPromised}
+
+pub record AllPromised : Type 1 where
+  -- the public call: demands 1, 2 and 3, one outcome, directions (E6)
+  pub public-call : PublicCall.Promised
+  -- the demands of whatever the definition allows
+  pub demand-1 : Demand1.Promised
+  pub determined : Determined.Promised
+  pub demand-3 : Demand3.Promised
+  pub directions : Directions.Promised
+  -- what tells the definition from its impostors
+  pub impostors : Impostors.Promised
+  -- links, groups and orientations (E11), in the definition and in the columns
+  pub own-links : OwnLinks.Promised
+  pub own-columns : OwnColumns.Promised
+  -- the two walks of step 6 (E8): the same members on every mesh, the same words on every list
+  pub same-members : TwoWalks.Promised
+  pub same-words : TwoWalks.SameWords
+  -- narrow angles (E3), and the table of cosines
+  pub narrow-angles : NarrowAngles.Promised
+  pub cosines : Cosines.Promised
+  -- islands (E9): faces that share no welded corner with others, the call by islands, their labels
+  pub closed-faces : ClosedFaces.Promised
+  pub islands : Islands.Promised
+  pub labels : Labels.Promised
+  -- the examiner (E10), that our own lists are accepted, and what they are; two pairings that it accepts
+  pub examiner : Examiner.Examiner
+  pub own-accepted : Examiner.OwnAccepted
+  pub own-lists : Examiner.OwnLists
+  pub three-sides : ThreeSides.Promised
+  -- cards (E1), appending (E14), packed frames (E5)
+  pub cards : CardsPromised
+  pub appends : AppendsPromised
+  pub packed : PackedPromised
