@@ -111,10 +111,13 @@ fn newest_source(root: &Path) -> Result<SystemTime, String> {
     let said = |e: std::io::Error| format!("crates/ is not read: {e}");
     let mut newest = SystemTime::UNIX_EPOCH;
     for crates in fs::read_dir(root.join("crates")).map_err(said)? {
-        let source = crates.map_err(said)?.path().join("src/lib.rt");
-        if let Ok(time) = changed(&source) {
+        let Ok(sources) = fs::read_dir(crates.map_err(said)?.path().join("src")) else {
+            continue;
+        };
+        for source in sources {
+            let source = source.map_err(said)?.path();
             println!("cargo::rerun-if-changed={}", source.display());
-            newest = newest.max(time);
+            newest = newest.max(changed(&source).map_err(|e| e.to_string())?);
         }
     }
     Ok(newest)

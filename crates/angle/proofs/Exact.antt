@@ -9,9 +9,10 @@ use native.Mathlib.Nat.{eq-or-lt-of-le, le-of-eq, le-refl, le-trans, le-of-lt, l
 use lib.Dec.{T, leb, eqb, leb→le, ltb→lt, nleb→lt, eqb→eq}
 use lib.ListN.{getD}
 use lib.Ieee.Fits.{and-l, and-r}
+use Rattle.bits.proofs.Bools.{or-split}
 use Rattle.angle.specs.Table.{cosines, c}
 use Rattle.angle.specs.Cosine.{Numbers, count, Cosines, Near}
-use Rattle.angle.proofs.Finer.{partner, total, turned, bound, lo, hi, settled, settles, squares, near, lower-fits, upper-fits, m, lower-near, upper-near, tested, or-split, by-partners, c-is}
+use Rattle.angle.proofs.Finer.{partner, total, turned, bound, lo, hi, settled, settles, squares, near, lower-fits, upper-fits, m, lower-near, upper-near, tested, by-partners, c-is}
 
 -- ---- whole numbers
 split : (P h : ℕ) → h ≤ P → P * (P - h) + P * h ≡ P * P

@@ -2,7 +2,7 @@
 -- lies less than a half from c(k) at every k. The true cosines times 2 ^ 64, each rounded to a whole number, are such a table. Assumes nothing.
 use mathlib.Core.Path.{_≡_, refl, sym, ap, _∙_, subst}
 use mathlib.Core.Bool.{Bool, true, false, not, cond, _&&_, _||_}
-use mathlib.Core.Logic.{_⊎_, inl, inr}
+use mathlib.Core.Logic.{inl, inr}
 use Prim.Native.Nat.{ℕ, zero, suc, _+_, _-_, _*_, _/_, _^_, _≤_, _<_, zero-le}
 use native.Mathlib.Nat.{le-refl, le-trans, le-of-eq, le-of-lt, le-of-suc-le-suc, lt-of-le-of-lt, lt-of-lt-of-le, lt-of-not-le, add-le-add, mul-le-mul}
 use native.Mathlib.Omega.{arith}
@@ -12,6 +12,7 @@ use lib.IntN.{ℤ, pos, negsuc, negℤ, natAbs, _+ℤ_, _-ℤ_, _*ℤ_, pos-ne-n
 use lib.ListN.{getD}
 use lib.Signed.{_≤ℤ_, _<ℤ_, leZ-yes, ≤ℤ-refl, yes-nonNeg, pos-natAbs}
 use lib.Ieee.Fits.{and-l, and-r}
+use Rattle.bits.proofs.Bools.{or-split}
 use Rattle.angle.specs.Table.{cosines, c}
 use Rattle.lists.specs.Parts.{everyBelow}
 use Rattle.angle.specs.Rule.{rulesOf, NearestAt}
@@ -89,9 +90,6 @@ pub tested : (k : ℕ) → k ≤ 512 → T (test k)
 tested k h = at test 513 passes k (omega arith)
 
 -- ---- whole numbers
-pub or-split : (a b : Bool) → T (a || b) → T a ⊎ T b
-or-split true b t = inl tt
-or-split false b t = inr t
 
 minus-pos : (p q : ℕ) → q ≤ p → pos p -ℤ pos q ≡ pos (p - q)
 minus-pos p zero h = ap pos (omega arith)

@@ -2,9 +2,9 @@
 use mathlib.Core.Path.{_≡_, sym, ap, _∙_, subst}
 use mathlib.Core.Bool.{false}
 use Prim.Native.Nat.{ℕ, suc, _+_, _-_, _*_, _/_, _%_, _^_, _≤_, _<_}
-use native.Mathlib.Nat.{lt-of-le-of-lt, lt-of-not-le, not-le-of-lt, le-of-suc-le-suc, le-antisymm, mod-eq-of-lt, div-mul-le-self, div-one, mul-one, pow-succ', lt-of-lt-of-le, mul-lt-mul-of-pos-right, mul-assoc}
+use native.Mathlib.Nat.{lt-of-le-of-lt, le-of-suc-le-suc, le-antisymm, mod-eq-of-lt, div-mul-le-self, div-one, mul-one, pow-succ', lt-of-lt-of-le, mul-lt-mul-of-pos-right, mul-assoc}
 use native.Mathlib.Omega.{arith}
-use lib.Pow.{pow-mono, pow-add, pow-pos}
+use lib.Pow.{pow-add, pow-pos}
 use lib.Dec.{lit<, lit≤}
 use lib.IntN.{pos}
 use lib.Count.{leadingZeros, leading-length}
@@ -12,10 +12,8 @@ use lib.Ieee.{binary32, ofInt, size}
 use lib.Ieee.Digits.{size-lt, size-le}
 use lib.Ieee.Exact.{HasValue, round-exact}
 use lib.Ieee.Fits.{kept-lt}
+use Rattle.root.proofs.Scaling.{pow-cancel}
 use Rattle.angle.specs.Angle.{topDigits}
-
-pow-cancel : {a b : ℕ} → 2 ^ a < 2 ^ b → a < b
-pow-cancel h = lt-of-not-le (λ g. not-le-of-lt h (pow-mono g))
 
 double : (p n s : ℕ) → p ≤ 2 * n + 1 → n < s → p < 2 * s
 double p n s h l = omega arith

@@ -9,6 +9,7 @@ use mathlib.Core.List.{List, [], _∷_, _++_, append-assoc, flatMap}
 use lib.ListN.{length, getD, take, List·getD-append}
 use lib.Seq.{getD-append-add}
 use lib.Ieee.{Float}
+use Rattle.definition.proofs.Lengths.{mesh-length}
 use Rattle.tangent.specs.declared.Reading.{Reading}
 use Rattle.tangent.specs.Slot as slot
 use Rattle.tangent.specs.Slot.{slotWords}
@@ -22,7 +23,6 @@ use Rattle.definition.specs.Outcome.{answerWords}
 use Rattle.laws.proofs.Bridge.{face-length}
 use Rattle.laws.proofs.Shuffled.{shuffled}
 use Rattle.islands.specs.Together.{picked, Closed}
-use Rattle.islands.proofs.Sizes.{mesh-length}
 use Rattle.islands.proofs.Together.{patternOf, split, apart, frames-length}
 use Rattle.apart.specs.Scatter.{wordsFor}
 

@@ -9,11 +9,12 @@ use mathlib.Core.List.{List, [], _∷_, _++_, append-nil}
 use lib.ListN.{length, getD, set, take, drop}
 use lib.Seq.{take-suc, length-take-le, getD-drop}
 use lib.Ieee.{Float, nan}
+use Rattle.definition.proofs.Lengths.{mesh-length}
 use Rattle.math.specs.Vector.{vec}
 use Rattle.definition.specs.declared.Corner.{Corner}
 use Rattle.definition.specs.Handed.{meshOf, Handed, vectorAt, cornerAt, cornersFrom, meshFrom, cornerCount}
 use Rattle.islands.specs.Together.{picked}
-use Rattle.islands.proofs.Sizes.{face-is, mesh-length}
+use Rattle.islands.proofs.Sizes.{face-is}
 use Rattle.apart.specs.Lists.{Copied}
 use Rattle.apart.specs.Gather.{Alike, normalsIn, textureIn, meshIn, Laid, Gathered}
 

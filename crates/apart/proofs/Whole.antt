@@ -10,6 +10,7 @@ use lib.ListN.{length, getD, take, drop, length-drop}
 use lib.Seq.{take-all, length-take-le}
 use lib.Ieee.{Float, nan}
 use borrow.Author.Tests.{eq-eqb, ne-eqb, eqb-true}
+use Rattle.definition.proofs.Lengths.{mesh-length}
 use Rattle.tangent.specs.Slot.{slotWords}
 use Rattle.definition.specs.Limits.{workWords}
 use Rattle.definition.specs.declared.Corner.{Corner}
@@ -22,7 +23,7 @@ use Rattle.unions.proofs.Stores.{either}
 use Rattle.islands.specs.Islands.{islandOf, lowestOf, noIsland}
 use Rattle.islands.specs.Together.{picked, Closed}
 use Rattle.islands.proofs.Agree.{touching, lowest-low}
-use Rattle.islands.proofs.Sizes.{counted-is, mesh-length}
+use Rattle.islands.proofs.Sizes.{counted-is}
 use Rattle.apart.specs.Lists.{Past, cleared}
 use Rattle.apart.specs.Order.{From, nobody, among}
 use Rattle.apart.specs.Gather.{normalsIn, textureIn, meshIn, Gathered}

@@ -26,6 +26,11 @@ ghost use Rattle.apart.specs.Steps as step;
 ghost use Rattle.apart.specs.Call as spec;
 use mikktspace::Outcome;
 
+// The numbers and the frames' words that are lent for each face: 8 numbers for each of four corners, a slot for each.
+const NUMBER_ENTRIES: usize = 32;
+
+const FRAME_ENTRIES: usize = 4 * tangent::SLOT_WORDS;
+
 // ---- copying and clearing
 
 // Numbers copied from one list into another.
@@ -236,7 +241,13 @@ fn scatter(sizes: &[u8], order: &[u32], t: usize, own_frames: &[u32], answer: &m
         f = next as usize;
         let z = sizes[f - 1] as usize;
         let to = order[3 * n + (f - 1)] as usize;
-        copy_words(own_frames, 10 * c, answer, 10 * to, 10 * z);
+        copy_words(
+            own_frames,
+            tangent::SLOT_WORDS * c,
+            answer,
+            tangent::SLOT_WORDS * to,
+            tangent::SLOT_WORDS * z,
+        );
         c += z;
         next = order[f - 1];
     }
@@ -363,8 +374,8 @@ fn clear_own(
 {
     table::clear_first(order, 4 * n);
     clear_sizes(own_sizes, n);
-    clear_numbers(own_numbers, 32 * n);
-    table::clear_first(own_frames, 40 * n);
+    clear_numbers(own_numbers, NUMBER_ENTRIES * n);
+    table::clear_first(own_frames, FRAME_ENTRIES * n);
 }
 
 // Whether a list of its own is too short for n faces.
@@ -382,8 +393,8 @@ fn is_short(
     (labels < n)
         | (order < 4 * n)
         | (own_sizes < n)
-        | (own_numbers < 32 * n)
-        | (own_frames < 40 * n)
+        | (own_numbers < NUMBER_ENTRIES * n)
+        | (own_frames < FRAME_ENTRIES * n)
 }
 
 // The frames of a mesh that the desk accepts, island by island; the result is how many slots there are.

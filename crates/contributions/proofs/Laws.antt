@@ -11,6 +11,7 @@ use lib.ListN.{length, getD, set}
 use lib.Seq.{getD-set-same, getD-set-other}
 use lib.Ieee.{Float, binary32, fits}
 use borrow.Author.Tests.{eqb-false, ne-eqb}
+use Rattle.tangent.proofs.Slots.{vector-back}
 use Rattle.bits.specs.Word.{word, number}
 use Rattle.bits.proofs.Back.{number-word}
 use Rattle.math.specs.declared.Vec3.{Vec3}
@@ -34,8 +35,9 @@ use Rattle.view.specs.Contributions.{sAt, tAt, Brings, contributionColumns}
 use Rattle.view.proofs.Frame.{only-none, only-trans}
 use Rattle.view.proofs.Stores.{Fitting, within, storing-column, storing-only}
 use Rattle.view.proofs.Rows.{row-lt}
-use Rattle.view.proofs.Records.{vector-back, told-kept}
-use Rattle.contributions.specs.Contributions.{tangentAt, Same, Stored, Brought, Turn}
+use Rattle.view.proofs.Records.{told-kept}
+use Rattle.records.specs.Fields.{tangentAt}
+use Rattle.contributions.specs.Contributions.{Same, Stored, Brought, Turn}
 
 -- ---- the seven words of a corner
 

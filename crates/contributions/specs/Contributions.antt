@@ -1,5 +1,5 @@
 -- What storing a corner's contribution leaves. Definitions only.
-use Prim.Native.Nat.{ℕ, _+_, _*_, _<_}
+use Prim.Native.Nat.{ℕ, _*_, _<_}
 use mathlib.Core.Path.{_≡_}
 use mathlib.Core.Bool.{false}
 use mathlib.Core.List.{List}
@@ -8,9 +8,8 @@ use lib.Ieee.{Float}
 use Rattle.bits.specs.Word.{number}
 use Rattle.math.specs.declared.Vec3.{Vec3}
 use Rattle.tangent.specs.declared.RawTangentSpace.{RawTangentSpace}
-use Rattle.tangent.specs.Slot.{vectorOf}
 use Rattle.table.specs.Table.{cell}
-use Rattle.table.specs.Columns.{cornerColumn, sColumn, tColumn, magnitudeColumn, openingColumn}
+use Rattle.table.specs.Columns.{cornerColumn, openingColumn}
 use Rattle.definition.specs.declared.Triangle.{Triangle}
 use Rattle.definition.specs.Handed.{handed, vectorAt}
 use Rattle.definition.specs.Mesh.{Third, Spot}
@@ -20,16 +19,6 @@ use Rattle.view.specs.Frame.{Only}
 use Rattle.view.specs.Rows.{row}
 use Rattle.view.specs.Records.{Told}
 use Rattle.view.specs.Contributions.{sAt, tAt, Brings, contributionColumns}
-
--- the tangent in the columns of triangle t
-unfoldable pub tangentAt : ℕ → ℕ → List ℕ → RawTangentSpace
-tangentAt rows t w =
-    record {
-      s = vectorOf (cell rows sColumn (3 * t) w) (cell rows sColumn (3 * t + 1) w) (cell rows sColumn (3 * t + 2) w);
-      t = vectorOf (cell rows tColumn (3 * t) w) (cell rows tColumn (3 * t + 1) w) (cell rows tColumn (3 * t + 2) w);
-      «s_magnitude» = number (cell rows magnitudeColumn (3 * t) w);
-      «t_magnitude» = number (cell rows magnitudeColumn (3 * t + 1) w);
-    }
 
 -- row k has what it had
 pub record Same (rows k : ℕ) (w u : List ℕ) : Type 0 where

@@ -3,13 +3,12 @@
 ghost use mathlib.Core.Path.{_≡_};
 ghost use mathlib.Core.List.{List};
 ghost use Prim.Native.Nat.{ℕ, _+_, _*_, _<_, _≤_};
-ghost use lib.ListN.{length, getD, set};
+ghost use lib.ListN.{length, set};
 ghost use lib.Ieee.{Float};
 ghost use Rattle.bits.specs.Word.{word};
 ghost use Rattle.angle.specs.Table as angles;
 ghost use Rattle.math.specs.Held.{HeldVec};
-ghost use Rattle.tangent.specs.Slot.{vectorOf};
-ghost use Rattle.table.specs.Columns.{columns, sColumn, tColumn, magnitudeColumn};
+ghost use Rattle.table.specs.Columns.{columns};
 ghost use Rattle.definition.specs.Handed.{handed};
 ghost use Rattle.definition.specs.declared.Triangle.{Triangle};
 ghost use Rattle.view.specs.Frame.{Only};
@@ -20,18 +19,6 @@ use math::Vec3;
 use tangent::RawTangentSpace;
 
 // ---- vectors in the work list
-
-// The vector of three words.
-fn vector_of(work: &[u32], x: usize, y: usize, z: usize) -> Vec3
-    requires { ⌜ (x < length (now work)) × (y < length (now work)) × (z < length (now work)) ⌝ }
-    ensures { λ r. ⌜ r ≡ vectorOf (getD (now (work .entry)) x 0) (getD (now (work .entry)) y 0) (getD (now (work .entry)) z 0) ⌝ }
-{
-    Vec3::new(
-        bits::number(work[x]),
-        bits::number(work[y]),
-        bits::number(work[z]),
-    )
-}
 
 // Three words of a vector.
 fn put_vector(work: &mut [u32], x: usize, y: usize, z: usize, v: Vec3)
@@ -51,7 +38,7 @@ pub fn s_at(work: &[u32], rows: usize, r: usize) -> Vec3
     requires { ⌜ (r < rows) × (columns * rows ≤ length (now work)) ⌝ }
     ensures { λ v. ⌜ v ≡ sAt rows r (now (work .entry)) ⌝ }
 {
-    vector_of(
+    records::vector_of(
         work,
         table::S_X * rows + r,
         table::S_Y * rows + r,
@@ -64,38 +51,12 @@ pub fn t_at(work: &[u32], rows: usize, r: usize) -> Vec3
     requires { ⌜ (r < rows) × (columns * rows ≤ length (now work)) ⌝ }
     ensures { λ v. ⌜ v ≡ tAt rows r (now (work .entry)) ⌝ }
 {
-    vector_of(
+    records::vector_of(
         work,
         table::T_X * rows + r,
         table::T_Y * rows + r,
         table::T_Z * rows + r,
     )
-}
-
-// The first-order tangent of triangle t.
-fn tangent_at(work: &[u32], rows: usize, t: usize) -> RawTangentSpace
-    requires { ⌜ (3 * t + 3 ≤ rows) × (columns * rows ≤ length (now work)) ⌝ }
-    ensures { λ g. ⌜ g ≡ spec.tangentAt rows t (now (work .entry)) ⌝ }
-{
-    let at = 3 * t;
-    let s = vector_of(
-        work,
-        table::TANGENT_S * rows + at,
-        table::TANGENT_S * rows + (at + 1),
-        table::TANGENT_S * rows + (at + 2),
-    );
-    let v = vector_of(
-        work,
-        table::TANGENT_T * rows + at,
-        table::TANGENT_T * rows + (at + 1),
-        table::TANGENT_T * rows + (at + 2),
-    );
-    RawTangentSpace {
-        s,
-        t: v,
-        s_magnitude: bits::number(work[table::MAGNITUDE * rows + at]),
-        t_magnitude: bits::number(work[table::MAGNITUDE * rows + (at + 1)]),
-    }
 }
 
 // ---- one corner
@@ -138,9 +99,9 @@ fn contribute(
     requires { ⌜ (now cosines ≡ angles.cosines) × (r < rows) × (q < rows) × (p < rows) × (columns * rows ≤ length (now work)) ⌝ }
     ensures { λ _. ⌜ spec.Brought rows (now (positions .entry)) (now (normals .entry)) g r q p (now (work .entry)) (now (work .exit)) ⌝ }
 {
-    let corner = work[table::CORNER * rows + r];
-    let next = work[table::CORNER * rows + q];
-    let prior = work[table::CORNER * rows + p];
+    let corner = records::corner_at(work, rows, r);
+    let next = records::corner_at(work, rows, q);
+    let prior = records::corner_at(work, rows, p);
     let n = mesh::vector_at(normals, corner);
     let at = mesh::vector_at(positions, corner);
     let to = mesh::vector_at(positions, next);
@@ -165,7 +126,7 @@ fn contribute_triangle(
     requires { ⌜ (now cosines ≡ angles.cosines) × (3 * t + 3 ≤ rows) × (columns * rows ≤ length (now work)) ⌝ }
     ensures { λ _. ⌜ spec.Turn rows (now (positions .entry)) (now (normals .entry)) t (now (work .entry)) (now (work .exit)) ⌝ }
 {
-    let g = tangent_at(work, rows, t);
+    let g = records::tangent_at(work, rows, t);
     let at = 3 * t;
     contribute(
         work,

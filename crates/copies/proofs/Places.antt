@@ -74,12 +74,6 @@ module _ (ps ns ts : List Float) where
       same = omega arith
   corner-in d i (suc n) k (suc j) q h = corner-in d (suc i) n k j (omega arith) (omega arith)
 
-  -- a mesh has a face for each size
-  pub length-mesh : (i : ℕ) (sizes : List ℕ) → length (meshFrom ps ns ts i sizes) ≡ length sizes
-  unfolding meshFrom
-  length-mesh i [] = refl
-  length-mesh i (n ∷ sizes) = ap suc (length-mesh (i + n) sizes)
-
   -- the corners of face f
   face-at : (i : ℕ) (sizes : List ℕ) (k f : ℕ) → i + cornerCount (take f sizes) ≡ k → f < length sizes → getD (meshFrom ps ns ts i sizes) f [] ≡ cornersFrom ps ns ts k (getD sizes f 0)
   unfolding meshFrom cornerCount

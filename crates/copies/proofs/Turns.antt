@@ -1,16 +1,15 @@
 -- Step 9, one copy after the other: each makes a slot final, and leaves the final ones final. Assumes nothing.
 use Prim.Native.Nat.{ℕ, suc, _+_, _*_, _-_, _/_, _%_, _≤_, _<_}
-use native.Mathlib.Nat.{eq-or-lt-of-le}
 use native.Mathlib.Omega.{arith}
 use mathlib.Core.Path.{_≡_, refl, sym, _∙_, ap, subst}
 use mathlib.Core.Bool.{Bool, true, false, cond, _&&_, _||_, true≢false, false≢true}
 use mathlib.Core.List.{List, [], _∷_, _++_}
-use mathlib.Core.Logic.{⊎-elim}
 use mathlib.Core.Option.{Option, none, some}
 use lib.Dec.{eqb, ltb}
 use lib.ListN.{length, getD, take, length-append}
 use lib.Ieee.{Float}
 use borrow.Author.Tests.{eqb-true, ltb-true, ltb-false}
+use Rattle.definition.proofs.Lengths.{mesh-length}
 use Rattle.math.specs.Vector.{equals}
 use Rattle.tangent.specs.declared.Reading.{Reading}
 use Rattle.tangent.specs.declared.Reading.the-variants.{Absent}
@@ -44,9 +43,10 @@ use Rattle.view.specs.Answer.{HasSlot, Slotted, Shows, changed, finalAt}
 use Rattle.view.proofs.Lists.{every-index, index-every}
 use Rattle.view.proofs.Rows.{row-is, tri-lt}
 use Rattle.view.proofs.Answer.{changed-there, slots-same, mesh-slotted, slotted-sound-broken}
-use Rattle.copies.specs.Copies.{markedAt, cornerCopied, triangleCopied, brokenCopied, missed, missedAt, keptAt, equalAt, missingCopied, missingsCopied, framesCopied, Copied}
+use Rattle.records.specs.Fields.{markedAt}
+use Rattle.copies.specs.Copies.{cornerCopied, triangleCopied, brokenCopied, missed, missedAt, keptAt, equalAt, missingCopied, missingsCopied, framesCopied, Copied}
 use Rattle.copies.proofs.Faces.{equalCorner, finds, Settles, all-settled}
-use Rattle.copies.proofs.Places.{Placed, all-placed, corner-is, final-is, four-slots, slot-below, length-mesh, every-front, every-back, every-piece}
+use Rattle.copies.proofs.Places.{Placed, all-placed, corner-is, final-is, four-slots, slot-below, every-front, every-back, every-piece}
 use Rattle.copies.proofs.Firsts.{first-sound, no-sound, sound-below, broken-above, sound-is, broken-is, every-again}
 
 -- ---- numbers and rows
@@ -431,7 +431,7 @@ module _ (rows : ℕ) (ps : List Float) (w sizes : List ℕ) (ns ts : List Float
 
       -- so of all slots of the face
       everywhere : (f i : ℕ) → HasSlot sizes f i → R f i ≡ Fin f i
-      everywhere f i h = all-settled (λ i. R f i ≡ Fin f i) f (getD mesh f []) (of-face f (omega (arith, h .face, length-mesh ps ns ts 0 sizes))) i (slot-below ps ns ts sizes f i h)
+      everywhere f i h = all-settled (λ i. R f i ≡ Fin f i) f (getD mesh f []) (of-face f (omega (arith, h .face, mesh-length ps ns ts 0 sizes))) i (slot-below ps ns ts sizes f i h)
 
     -- Step 9, by the words, leaves the final readings.
     pub shown : (a : List ℕ) → Shows sizes (reading bs) a₀ a → Shows sizes (finalAt bs ss mesh) a₀ (framesCopied rows (length ss) (length ys) ps w a)

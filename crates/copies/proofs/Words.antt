@@ -15,7 +15,8 @@ use Rattle.table.specs.Columns.{cornerColumn, slotColumn, vertexColumn}
 use Rattle.lists.proofs.Loops.{upTo-none, upTo-more}
 use Rattle.definition.specs.Handed.{vectorAt}
 use Rattle.slots.specs.Slots.{copiedAt, clearedAt}
-use Rattle.copies.specs.Copies.{markedAt, cornerCopied, triangleCopied, brokenCopied, missed, missedAt, keptAt, equalAt, missingCopied}
+use Rattle.records.specs.Fields.{markedAt}
+use Rattle.copies.specs.Copies.{cornerCopied, triangleCopied, brokenCopied, missed, missedAt, keptAt, equalAt, missingCopied}
 
 -- ---- the number of a missing corner
 
@@ -28,6 +29,10 @@ missed-first first missing e = ap (λ (b : Bool). cond b (first - 1) (first + mi
 pub missed-later : (first missing : ℕ) → (missing ≡ 0 → ⊥) → missed first missing ≡ first + missing
 unfolding missed
 missed-later first missing e = ap (λ (b : Bool). cond b (first - 1) (first + missing)) (ne-eqb missing 0 e)
+
+-- the first number by another name
+pub missed-same : (r first first′ missing : ℕ) → r ≡ missed first missing → first ≡ first′ → r ≡ missed first′ missing
+missed-same r first first′ missing e f = e ∙ ap (λ (n : ℕ). missed n missing) f
 
 -- ---- a corner of a degenerate triangle
 

@@ -1,7 +1,7 @@
 -- Step 9 by the words of the work list and the answer list, and what it stands for. Definitions only.
 use Prim.Native.Nat.{ℕ, _+_, _*_, _-_}
 use mathlib.Core.Path.{_≡_}
-use mathlib.Core.Bool.{Bool, cond}
+use mathlib.Core.Bool.{cond}
 use mathlib.Core.List.{List, _++_}
 use lib.Dec.{eqb, ltb}
 use lib.ListN.{length}
@@ -10,21 +10,18 @@ use Rattle.math.specs.declared.Vec3.{Vec3}
 use Rattle.math.specs.Vector.{equals}
 use Rattle.lists.specs.Loops.{upTo}
 use Rattle.table.specs.Table.{cell}
-use Rattle.table.specs.Columns.{cornerColumn, slotColumn, nameColumn, magnitudeColumn, vertexColumn}
+use Rattle.table.specs.Columns.{cornerColumn, slotColumn, nameColumn, vertexColumn}
 use Rattle.definition.specs.declared.Triangle.{Triangle}
 use Rattle.definition.specs.Handed.{meshOf, handed, vectorAt}
 use Rattle.definition.specs.Frames.{trianglesOf}
 use Rattle.definition.specs.Step4Order.{sound, broken}
 use Rattle.definition.specs.Step7Sums.{Brought}
 use Rattle.definition.specs.Step8Slots.{reading}
+use Rattle.records.specs.Fields.{markedAt}
 use Rattle.slots.specs.Slots.{copiedAt, clearedAt}
 use Rattle.view.specs.Records.{Tells}
 use Rattle.view.specs.Weld.{Vertices}
 use Rattle.view.specs.Answer.{Shows, finalAt}
-
--- whether the quad of triangle t is marked
-unfoldable pub markedAt : ℕ → List ℕ → ℕ → Bool
-markedAt rows w t = eqb (cell rows magnitudeColumn (3 * t + 2) w) 1
 
 -- ---- degenerate triangles
 

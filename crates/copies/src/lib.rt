@@ -4,26 +4,10 @@ ghost use mathlib.Core.Path.{_≡_};
 ghost use Prim.Native.Nat.{_+_, _*_, _^_, _≤_, _<_};
 ghost use lib.ListN.{length};
 ghost use Rattle.table.specs.Table.{cell};
-ghost use Rattle.table.specs.Columns.{columns, cornerColumn};
+ghost use Rattle.table.specs.Columns.{columns, cornerColumn, nameColumn};
 ghost use Rattle.definition.specs.Handed.{vectorAt};
 ghost use Rattle.copies.specs.Copies as spec;
 use math::Vec3;
-
-// The word at row r of a column.
-fn word_at(work: &[u32], rows: usize, column: usize, r: usize) -> usize
-    requires { ⌜ (column < columns) × (r < rows) × (columns * rows ≤ length (now work)) ⌝ }
-    ensures { λ v. ⌜ (v ≡ cell rows column r (now (work .entry))) × (v < 2 ^ 32) ⌝ }
-{
-    work[column * rows + r] as usize
-}
-
-// Whether triangle t is of a quad with exactly one degenerate triangle.
-fn is_marked(work: &[u32], rows: usize, t: usize) -> bool
-    requires { ⌜ (3 * t + 3 ≤ rows) × (columns * rows ≤ length (now work)) ⌝ }
-    ensures { λ r. ⌜ r ≡ spec.markedAt rows (now (work .entry)) t ⌝ }
-{
-    word_at(work, rows, table::MAGNITUDE, 3 * t + 2) == 1
-}
 
 // ---- degenerate triangles
 
@@ -32,10 +16,10 @@ fn copy_corner(work: &[u32], rows: usize, sound: usize, r: usize, answer: &mut [
     requires { ⌜ (r < rows) × (3 * sound ≤ rows) × (columns * rows ≤ length (now work)) ⌝ }
     ensures { λ _. ⌜ now (answer .exit) ≡ spec.cornerCopied rows sound (now (work .entry)) r (now (answer .entry)) ⌝ }
 {
-    let first = word_at(work, rows, table::VERTEX, r);
-    let to = word_at(work, rows, table::SLOT, r);
+    let first = work[table::VERTEX * rows + r] as usize;
+    let to = records::slot_at(work, rows, r) as usize;
     if first < 3 * sound {
-        let from = word_at(work, rows, table::SLOT, first);
+        let from = records::slot_at(work, rows, first) as usize;
         slots::copy(answer, from, to);
         return;
     }
@@ -47,7 +31,7 @@ fn copy_triangle(work: &[u32], rows: usize, sound: usize, t: usize, answer: &mut
     requires { ⌜ (3 * t + 3 ≤ rows) × (3 * sound ≤ rows) × (columns * rows ≤ length (now work)) ⌝ }
     ensures { λ _. ⌜ now (answer .exit) ≡ spec.triangleCopied rows sound (now (work .entry)) t (now (answer .entry)) ⌝ }
 {
-    if is_marked(work, rows, t) {
+    if records::is_marked(work, rows, t) {
         return;
     }
     let at = 3 * t;
@@ -82,13 +66,12 @@ fn missed(first: usize, missing: usize) -> usize
     first - 1
 }
 
-// That of triangle t, in the column of corners or in that of slots.
-fn missed_at(work: &[u32], rows: usize, column: usize, t: usize) -> usize
-    requires { ⌜ (column < columns) × (3 * t + 3 ≤ rows) × (columns * rows ≤ length (now work)) ⌝ }
-    ensures { λ r. ⌜ (r ≡ spec.missedAt rows column (now (work .entry)) t) × (r < 2 ^ 33) ⌝ }
+// That of triangle t, from the number of its first corner, or of its slot.
+fn missed_of(work: &[u32], rows: usize, t: usize, first: u32) -> usize
+    requires { ⌜ (3 * t + 3 ≤ rows) × (columns * rows ≤ length (now work)) ⌝ }
+    ensures { λ r. ⌜ (r ≡ spec.missed first (cell rows nameColumn (3 * t + 2) (now (work .entry)))) × (r < 2 ^ 33) ⌝ }
 {
-    let first = word_at(work, rows, column, 3 * t);
-    missed(first, word_at(work, rows, table::NAME, 3 * t + 2))
+    missed(first as usize, records::missing_at(work, rows, t) as usize)
 }
 
 // The position of corner number i: mesh::vector_at for a number that may take 33 bits.
@@ -109,7 +92,7 @@ fn corner_place(work: &[u32], rows: usize, positions: &[f32], r: usize) -> Vec3
     requires { ⌜ (r < rows) × (columns * rows ≤ length (now work)) ⌝ }
     ensures { λ v. ⌜ v ≡ vectorAt (now (positions .entry)) (cell rows cornerColumn r (now (work .entry))) ⌝ }
 {
-    place_at(positions, word_at(work, rows, table::CORNER, r))
+    place_at(positions, records::corner_at(work, rows, r) as usize)
 }
 
 // The row of the first corner of triangle t at a position; its last where it is neither of the others.
@@ -132,7 +115,7 @@ fn equal_at(work: &[u32], rows: usize, positions: &[f32], t: usize) -> usize
     requires { ⌜ (3 * t + 3 ≤ rows) × (columns * rows ≤ length (now work)) ⌝ }
     ensures { λ r. ⌜ (r ≡ spec.equalAt rows (now (positions .entry)) (now (work .entry)) t) × (r < rows) ⌝ }
 {
-    let gone = missed_at(work, rows, table::CORNER, t);
+    let gone = missed_of(work, rows, t, records::corner_at(work, rows, 3 * t));
     kept_at(work, rows, positions, t, place_at(positions, gone))
 }
 
@@ -141,12 +124,12 @@ fn copy_missing(work: &[u32], rows: usize, positions: &[f32], t: usize, answer: 
     requires { ⌜ (3 * t + 3 ≤ rows) × (columns * rows ≤ length (now work)) ⌝ }
     ensures { λ _. ⌜ now (answer .exit) ≡ spec.missingCopied rows (now (positions .entry)) (now (work .entry)) t (now (answer .entry)) ⌝ }
 {
-    if !is_marked(work, rows, t) {
+    if !records::is_marked(work, rows, t) {
         return;
     }
     let row = equal_at(work, rows, positions, t);
-    let kept = word_at(work, rows, table::SLOT, row);
-    let gone = missed_at(work, rows, table::SLOT, t);
+    let kept = records::slot_at(work, rows, row) as usize;
+    let gone = missed_of(work, rows, t, records::slot_at(work, rows, 3 * t));
     slots::copy(answer, kept, gone);
 }
 

@@ -1,4 +1,4 @@
--- The numbers of document 01 that later requests may move, each in one place. (The words of a slot are `slotWords` of crate `tangent`.) Definitions only.
+-- The numbers of document 01 that later requests may move; in code the first two are constants of src/lib.rt. (The words of a slot are `slotWords` of crate `tangent`.) Definitions only.
 use Prim.Native.Nat.{ℕ}
 
 -- refusal 1: 'F is above 65,536'

@@ -9,6 +9,7 @@ use mathlib.Core.Option.{Option, none, some}
 use lib.ListN.{length, getD, drop, drop-of-length-le}
 use lib.Seq.{drop-cons}
 use lib.Ieee.{Float}
+use Rattle.definition.proofs.Lengths.{corners-length}
 use Rattle.definition.specs.Handed.{cornerAt, cornersFrom, meshFrom, used, slotsOf}
 use Rattle.definition.specs.Desk.{finiteCorner, badIn, badCorner, orElse}
 use Rattle.desk.specs.declared.Found.{Found}
@@ -39,10 +40,6 @@ module _ (ps ns ts : List Float) where
   bad-later i (suc n) h e = rw (e, add-one i, one-less n)
 
   -- ---- one face after the other
-  corners-length : (i n : ℕ) → length (cornersFrom ps ns ts i n) ≡ n
-  unfolding cornersFrom
-  corners-length i zero = refl
-  corners-length i (suc n) = ap suc (corners-length (suc i) n)
 
   -- the lowest of a face of n corners, and of the faces of these sizes, from corner number i on
   abbrev pub inFace : ℕ → ℕ → Option ℕ
@@ -57,7 +54,7 @@ module _ (ps ns ts : List Float) where
 
   pub face-first : (i n : ℕ) (sizes : List ℕ) → inFaces i (n ∷ sizes) ≡ orElse (inFace i n) (inFaces (i + n) sizes)
   unfolding badCorner finiteCorner meshFrom
-  face-first i n sizes = rw (corners-length i n)
+  face-first i n sizes = rw (corners-length ps ns ts i n)
 
 -- ---- a face of no slots
 pub takes-none : (n : ℕ) → slotsOf n ≡ 0 → used n ≡ false

@@ -115,7 +115,7 @@ fn decide(
 }
 
 // Somebody else's lists for a mesh: three words of links and three of groups for each sound triangle and one of orientation. 0, 0 and 0: they are accepted.
-// The work list is lent, and 128 words a face of it are cleared; a refusal does not alter it.
+// The work list is lent, and WORK_WORDS words a face of it are cleared; a refusal does not alter it.
 pub fn examine(
     sizes: &[u8],
     positions: &[f32],
@@ -204,7 +204,7 @@ fn hand_out(
 }
 
 // Our own links, groups and orientations of a mesh: three words, three and one for each sound triangle, at the front of the three lists. They must have room for two triangles a face, else the refusal is 9.
-// The work list is lent, and 128 words a face of it are cleared; a refusal alters no list.
+// The work list is lent, and WORK_WORDS words a face of it are cleared; a refusal alters no list.
 pub fn own_links(
     sizes: &[u8],
     positions: &[f32],

@@ -7,6 +7,7 @@ use mathlib.Core.List.{List, [], _∷_}
 use lib.Dec.{eqb}
 use lib.ListN.{length, getD, take}
 use borrow.Author.Tests.{eq-eqb, eqb-true}
+use Rattle.neighbors.proofs.Whole.{digit-one, digit-two, max-lt}
 use Rattle.table.specs.Table.{cell, column}
 use Rattle.lists.specs.Loops.{listOf}
 use Rattle.table.specs.Columns.{columns, vertexColumn, lowerColumn, higherColumn, orderColumn, spareColumn}
@@ -20,15 +21,6 @@ use Rattle.neighbors.specs.Sides.{endRow, lowerEnd, higherEnd, sideColumns, ste
 use Rattle.neighbors.proofs.Sided.{end-lt, sided, counted}
 use Rattle.examiner.specs.Scan.{OrderOf, Reads}
 use Rattle.examiner.proofs.Ranks.{rank-below, rank-rises, rank-steps, rank-found}
-
-digit-one : (a b a′ b′ : ℕ) → b < 4294967296 → b′ < 4294967296 → a * 4294967296 + b ≡ a′ * 4294967296 + b′ → a ≡ a′
-digit-one a b a′ b′ h k e = omega arith
-
-digit-two : (a b a′ b′ : ℕ) → a ≡ a′ → a * 4294967296 + b ≡ a′ * 4294967296 + b′ → b ≡ b′
-digit-two a b a′ b′ p e = omega arith
-
-max-lt : (a b n : ℕ) → a < n → b < n → max a b < n
-max-lt a b n h k = omega arith
 
 module _ (rows tris : ℕ) (w v : List ℕ) (fits : 3 * tris ≤ rows) (long : columns * rows ≤ length w) (few : rows < 4294967295)
     (words : (r : ℕ) → r < rows → cell rows vertexColumn r w < 4294967296) (S : Sorted rows tris w v) where

@@ -6,16 +6,16 @@ use mathlib.Core.Path.{_≡_, refl, sym, ap, _∙_, subst}
 use mathlib.Core.Bool.{Bool, true, false, cond, not, _&&_}
 use mathlib.Core.List.{List, [], _∷_}
 use mathlib.Core.Logic.{_⊎_, inl, inr, ⊎-elim}
-use lib.Dec.{eqb, ltb}
+use lib.Dec.{eqb}
 use lib.Arith.{lt-of-le-ne}
 use lib.ListN.{length, getD, set}
 use lib.Seq.{sets, set-set, set-comm}
-use borrow.Author.Tests.{eqb-true, eqb-false, ltb-true, ltb-false}
+use borrow.Author.Tests.{eqb-true, eqb-false}
 use Rattle.table.specs.Table.{cell, put, column}
 use Rattle.table.specs.Columns.{columns, vertexColumn, linkColumn, orientationColumn, anyColumn, groupColumn, metColumn, beginColumn}
 use Rattle.lists.specs.Loops.{listOf}
 use Rattle.lists.proofs.Loops.{length-listOf}
-use Rattle.table.proofs.Laws.{column-ends}
+use Rattle.table.proofs.Laws.{column-ends, apart}
 use Rattle.view.specs.Frame.{outside, Only}
 use Rattle.view.proofs.Frame.{only-none, only-run, cell-kept}
 use Rattle.groups.specs.Walk.{cornerOf, untouched, adopted, Entered, enter, stopped, marked, zeros, ungrouped, Ready}
@@ -44,14 +44,6 @@ sets-over (a ∷ vs) w p j v h l = step (λ q k. sets-over vs (set w p a) (suc p
         let ne = eqb-false j p e in
         ap (λ (l : List ℕ). sets l (suc p) vs) (set-comm w j p v a ne)
         ∙ again (lt-of-le-ne h (λ q. ne (sym q))) (omega arith)
-
--- two different numbers: one is below the other
-apart : (a b : ℕ) → ((a ≡ b) → ⊥) → (a < b) ⊎ (b < a)
-apart a b ne = go (ltb a b) refl
-  where
-    go : (t : Bool) → ltb a b ≡ t → (a < b) ⊎ (b < a)
-    go true e = inl (ltb-true a b e)
-    go false e = inr (lt-of-le-ne (ltb-false a b e) (λ q. ne (sym q)))
 
 -- ---- the blank list
 

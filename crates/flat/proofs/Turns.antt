@@ -14,7 +14,7 @@ use Rattle.table.specs.Columns.{columns, vertexColumn, linkColumn, orientationC
 use Rattle.lists.specs.Loops.{upTo, listOf}
 use Rattle.lists.proofs.Loops.{length-listOf}
 use Rattle.definition.specs.declared.Triangle.{Triangle}
-use Rattle.definition.specs.Mesh.{Third, one, Spot}
+use Rattle.definition.specs.Mesh.{one, Spot}
 use Rattle.definition.specs.Step5Links.{Link, beyond}
 use Rattle.definition.specs.Step6Groups.{Mark, marks}
 use Rattle.laws.proofs.Closed.{Between}
@@ -25,7 +25,7 @@ use Rattle.view.specs.Frame.{Only}
 use Rattle.view.specs.Weld.{Sharp}
 use Rattle.view.specs.Links.{LinkWord}
 use Rattle.view.proofs.Frame.{only-none, only-trans, only-more, only-run, only-put, cell-kept}
-use Rattle.view.proofs.Rows.{row-lt}
+use Rattle.view.proofs.Rows.{row-fits}
 use Rattle.view.proofs.Groups.{grouping-kept}
 use Rattle.groups.specs.declared.GroupCounts.{GroupCounts}
 use Rattle.groups.specs.Marks.{Asked, Walked}
@@ -119,14 +119,11 @@ only-after rows w u v e O =
 -- what step 6 asks holds of the list with no places
 asked-blank : (rows : ℕ) (ss : List Triangle) (d : Triangle) (ls : List Link) (w : List ℕ) → 3 * length ss ≤ rows → Asked rows ss d ls w → Asked rows ss d ls (blank rows w)
 asked-blank rows ss d ls w fits A = record {
-  welds = λ t₁ t₂ i₁ i₂ h₁ h₂. (λ k. eqb (blank-cell rows vertexColumn (row t₁ i₁) w refl (fit t₁ i₁ h₁) k) (blank-cell rows vertexColumn (row t₂ i₂) w refl (fit t₂ i₂ h₂) k)) ∙ A .welds t₁ t₂ i₁ i₂ h₁ h₂;
-  linked = λ t i h. subst (LinkWord ss d (beyond ls (spotAt ss d t i))) (sym (blank-cell rows linkColumn (row t i) w refl (fit t i h))) (A .linked t i h);
+  welds = λ t₁ t₂ i₁ i₂ h₁ h₂. (λ k. eqb (blank-cell rows vertexColumn (row t₁ i₁) w refl (row-fits rows ss fits t₁ i₁ h₁) k) (blank-cell rows vertexColumn (row t₂ i₂) w refl (row-fits rows ss fits t₂ i₂ h₂) k)) ∙ A .welds t₁ t₂ i₁ i₂ h₁ h₂;
+  linked = λ t i h. subst (LinkWord ss d (beyond ls (spotAt ss d t i))) (sym (blank-cell rows linkColumn (row t i) w refl (row-fits rows ss fits t i h))) (A .linked t i h);
   any = λ t h. ap (λ x. eqb x 0) (blank-cell rows anyColumn t w refl (omega arith)) ∙ A .any t h;
   way = λ t h. blank-cell rows orientationColumn t w refl (omega arith) ∙ A .way t h;
 }
-  where
-    fit : (t : ℕ) (i : Third) → t < length ss → row t i < rows
-    fit t i h = omega (arith, row-lt t (length ss) i h)
 
 -- step 6 by flat walks: what the loop leaves stands for the definition's marks
 pub flat-walked : (rows tris : ℕ) (ss : List Triangle) (d : Triangle) (ls : List Link) → Between ss ls → (w u : List ℕ) (c : GroupCounts) → length ss ≡ tris → 3 * tris ≤ rows → columns * rows ≤ length w → c .groups ≤ 3 * tris → Names ss → Sharp ss d → Asked rows ss d ls w → state (blank rows u) c ≡ upTo (3 * tris) (turn rows) (state (blank rows (cleared rows w)) (record { groups = 0; members = 0 })) → Walked rows ss d ls w u (c .groups) (c .members)

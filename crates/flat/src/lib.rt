@@ -16,8 +16,8 @@ ghost use Rattle.view.specs.Weld.{Sharp};
 ghost use Rattle.groups.specs.Marks.{Asked, Walked};
 ghost use Rattle.groups.specs.Walk as walks;
 ghost use Rattle.flat.specs.Places as spec;
-use groups::GroupCounts;
 use groups::Entry;
+use groups::GroupCounts;
 use neighbors::Link;
 
 // How the walk stands: the side to cross, how many are left with it (the others are stored), and the number of members of all groups so far.

@@ -1,15 +1,12 @@
 -- What step 6 leaves after steps 1 to 5. Assumes nothing.
-use Prim.Native.Nat.{ℕ, _+_, _*_, _≤_, _<_}
+use Prim.Native.Nat.{ℕ, _+_, _*_, _≤_}
 use native.Mathlib.Omega.{arith}
-use mathlib.Core.Path.{_≡_, refl, sym, _∙_, ap, subst}
-use mathlib.Core.Bool.{Bool, not}
-use mathlib.Core.List.{List, [], _∷_, _++_}
-use mathlib.Core.Option.{none}
-use lib.Dec.{eqb}
-use lib.ListN.{length, getD, length-append, List·getD-append}
+use mathlib.Core.Path.{_≡_, refl, sym, _∙_, ap}
+use mathlib.Core.Bool.{not}
+use mathlib.Core.List.{List, _++_}
+use lib.ListN.{length, length-append, List·getD-append}
 use Rattle.tangent.specs.Slot.{flag}
-use Rattle.table.specs.Table.{cell}
-use Rattle.table.specs.Columns.{columns, rowsOf, orientationColumn, anyColumn}
+use Rattle.table.specs.Columns.{rowsOf, orientationColumn}
 use Rattle.definition.specs.declared.Triangle.{Triangle}
 use Rattle.definition.specs.Mesh.{one}
 use Rattle.definition.specs.Handed.{Handed}
@@ -20,8 +17,7 @@ use Rattle.definition.specs.Frames.{trianglesOf}
 use Rattle.definition.specs.Names.{Names}
 use Rattle.laws.proofs.Closed.{Between, links-sound}
 use Rattle.laws.proofs.Laws.{mark}
-use Rattle.view.specs.Frame.{outside, Only}
-use Rattle.view.specs.Records.{Held}
+use Rattle.view.specs.Frame.{Only}
 use Rattle.view.specs.Weld.{Sharp}
 use Rattle.view.specs.Links.{Five}
 use Rattle.view.specs.Groups.{Grouping, InOrder}
@@ -34,8 +30,7 @@ use Rattle.grouped.specs.Links.{linkedColumns, LeftByFive}
 use Rattle.flat.specs.Places.{flatColumns}
 use Rattle.groups.specs.Marks.{Asked, Walked}
 use Rattle.members.specs.Members.{orderColumns}
-use Rattle.grouped.specs.declared.MeshCounts.{MeshCounts}
-use Rattle.grouped.specs.Grouped.{groupedColumns, sixColumns, Six, LeftBySix}
+use Rattle.grouped.specs.Grouped.{groupedColumns, sixColumns, LeftBySix}
 
 -- what step 6 asks is what steps 1 to 5 leave
 pub asked : (rows : ℕ) (mesh : Handed) (xs : List Triangle) (d : Triangle) (w : List ℕ) → Five rows mesh xs d w → Asked rows (sound xs) d (links (sound xs)) w

@@ -7,7 +7,6 @@ ghost use Rattle.definition.specs.Limits.{faceLimit};
 ghost use Rattle.table.specs.Columns.{columns, rowsOf};
 ghost use Rattle.grouped.specs.Links.{LeftByFive};
 ghost use Rattle.grouped.specs.Grouped.{LeftBySix};
-
 use listing::TriangleCounts;
 
 // How many triangles are sound, and how many there are; how many groups there are, and members of them all.
@@ -36,7 +35,7 @@ pub fn link_mesh(
     counts
 }
 
-// Steps 1 to 6; the columns are spoken for where no corner is bad. The walk of step 6 goes up to 2F corners deep for F faces.
+// Steps 1 to 6; the columns are spoken for where no corner is bad.
 pub fn group_mesh(
     sizes: &[u8],
     positions: &[f32],

@@ -32,12 +32,12 @@ use Rattle.view.specs.Frame.{outside, Only}
 use Rattle.view.specs.Rows.{num, row, spotAt}
 use Rattle.view.specs.Weld.{Welds, Sharp}
 use Rattle.view.specs.Links.{LinkWord, Linked}
-use Rattle.view.specs.Groups.{numberOf, Member, Grouping}
+use Rattle.view.specs.Groups.{numberOf, Member, Grouping, Begins}
 use Rattle.view.proofs.Lists.{bool-iff, and-both, every-index}
 use Rattle.view.proofs.Frame.{only-none, only-run, only-more, cell-kept}
-use Rattle.view.proofs.Rows.{row-lt, spot-row}
+use Rattle.view.proofs.Rows.{spot-row, row-fits}
 use Rattle.groups.specs.Walk.{walkColumns, State, ungrouped, turn, cleared}
-use Rattle.groups.specs.Marks.{Fixed, Stands, Faces, Marked, Starts, Begins, Grouped, Asked, Walked}
+use Rattle.groups.specs.Marks.{Fixed, Stands, Faces, Marked, Starts, Grouped, Asked, Walked}
 use Rattle.groups.proofs.Laws.{ungrouped-le}
 use Rattle.groups.proofs.Facing.{any-third, three-or}
 use Rattle.groups.proofs.Turning.{all-turns}
@@ -107,9 +107,6 @@ module _ (rows : ℕ) (ss : List Triangle) (d : Triangle) (ls : List Link) (w : 
   only-cleared : Only (groupColumn ∷ []) rows w u
   only-cleared = only-run (groupColumn ∷ []) rows groupColumn 0 w u (listOf rows (λ _. 0)) refl (omega arith) (omega (arith, length-listOf {S = ℕ} rows (λ _. 0))) refl
 
-  fit : (t : ℕ) (i : Third) → t < length ss → row t i < rows
-  fit t i h = omega (arith, row-lt t (length ss) i h)
-
   kept : (k r : ℕ) → outside (groupColumn ∷ []) k ≡ true → r < rows → cell rows k r u ≡ cell rows k r w
   kept k r e h = cell-kept (groupColumn ∷ []) rows w u only-cleared k r e h
 
@@ -128,15 +125,15 @@ module _ (rows : ℕ) (ss : List Triangle) (d : Triangle) (ls : List Link) (w : 
   none-grouped = record {
     marked = record {
       fixed = record {
-        vertex = λ t₁ t₂ i₁ i₂ h₁ h₂. (λ k. eqb (kept vertexColumn (row t₁ i₁) refl (fit t₁ i₁ h₁) k) (kept vertexColumn (row t₂ i₂) refl (fit t₂ i₂ h₂) k)) ∙ A .welds t₁ t₂ i₁ i₂ h₁ h₂;
-        link = λ t i h. subst (LinkWord ss d (beyond ls (spotAt ss d t i))) (sym (kept linkColumn (row t i) refl (fit t i h))) (A .linked t i h);
+        vertex = λ t₁ t₂ i₁ i₂ h₁ h₂. (λ k. eqb (kept vertexColumn (row t₁ i₁) refl (row-fits rows ss fits t₁ i₁ h₁) k) (kept vertexColumn (row t₂ i₂) refl (row-fits rows ss fits t₂ i₂ h₂) k)) ∙ A .welds t₁ t₂ i₁ i₂ h₁ h₂;
+        link = λ t i h. subst (LinkWord ss d (beyond ls (spotAt ss d t i))) (sym (kept linkColumn (row t i) refl (row-fits rows ss fits t i h))) (A .linked t i h);
         any = λ t h. ap (λ x. eqb x 0) (kept anyColumn t refl (omega arith)) ∙ A .any t h;
       };
       only = only-more (groupColumn ∷ []) walkColumns rows w u refl only-cleared;
       long = full;
       count = refl;
       room = let a = ungrouped-le rows u full in omega arith;
-      group = λ t i h. ap (λ x. eqb x 0) (empty (row t i) (fit t i h));
+      group = λ t i h. ap (λ x. eqb x 0) (empty (row t i) (row-fits rows ss fits t i h));
       faces = λ t h. record { way = getD ss t d .orientation; word = kept orientationColumn t refl (omega arith) ∙ A .way t h; is = facing-first (getD ss t d); own = facing-first (getD ss t d) };
       rest = λ t l r. kept orientationColumn t refl r;
       stands = λ j e h. absurd (omega arith);
@@ -249,10 +246,7 @@ module _ (rows : ℕ) (ss : List Triangle) (d : Triangle) (ls : List Link) (B : 
     order = R .marked .order;
     same = same;
     one-start = one-start;
-    begin = R .begins .begin;
-    begun = R .begins .begun;
-    number = R .begins .number;
-    start = R .begins .start;
+    begins = R .begins;
     free = R .marked .group;
     way = λ t h. let F = R .marked .faces t h in F .word ∙ ap flag (sym (F .own));
     among = among;

@@ -27,7 +27,7 @@ use Rattle.view.specs.Rows.{num, row, spotAt}
 use Rattle.view.specs.Links.{LinkWord}
 use Rattle.view.specs.Groups.{numberOf}
 use Rattle.view.proofs.Frame.{only-none, only-put}
-use Rattle.view.proofs.Rows.{num-lt, row-lt, spot-row}
+use Rattle.view.proofs.Rows.{num-lt, spot-row, row-fits}
 use Rattle.groups.specs.Walk.{walkColumns, untouched, adopted, ungrouped}
 use Rattle.groups.specs.Marks.{Fixed, Stands, Faces, Marked}
 use Rattle.groups.proofs.Laws.{cond-case, adopted-column, only-adopted, marked-grown}
@@ -70,9 +70,6 @@ module _ (rows t o n G : ℕ) (i : Third) (w : List ℕ) where
       ∙ (length-set (adopted rows t o w) (metColumn * rows + n) (row t i) ∙ adopted-length rows t o w)
 
 module _ (rows : ℕ) (ss : List Triangle) (d : Triangle) (ls : List Link) (B : Between ss ls) (N : Names ss) (fits : 3 * length ss ≤ rows) where
-  fit : (t : ℕ) (i : Third) → t < length ss → row t i < rows
-  fit t i h = omega (arith, row-lt t (length ss) i h)
-
   module _ (w₀ : List ℕ) (gs : List Spot) (g : Spot) (q G o : ℕ) (last : length gs ≡ q + 1) (Ge : G ≡ q + 1) (ge : g ≡ getD gs q (spotAt ss d 0 one)) (oe : o ≡ flag (g .tri .orientation)) (ms : List Mark) (w : List ℕ) (n : ℕ) (R : Marked rows ss d ls w₀ ms gs w n)
       (t : ℕ) (i : Third) (h : t < length ss) (go-on : stops ms (g .tri .orientation) (spotAt ss d t i) ≡ false) (zero-at : cell rows groupColumn (row t i) w ≡ 0) (agrees : cell rows orientationColumn t (adopted rows t o w) ≡ o) where
     abbrev u : List ℕ
@@ -92,49 +89,49 @@ module _ (rows : ℕ) (ss : List Triangle) (d : Triangle) (ls : List Link) (B : 
 
     pub vertex-kept : (t′ : ℕ) (i′ : Third) → t′ < length ss → cell rows vertexColumn (row t′ i′) u ≡ cell rows vertexColumn (row t′ i′) w
     vertex-kept t′ i′ h′ =
-        let a = fit t′ i′ h′ in let b = fit t i h in let c = n-lt in
+        let a = row-fits rows ss fits t′ i′ h′ in let b = row-fits rows ss fits t i h in let c = n-lt in
         kept (vertexColumn * rows + row t′ i′) (λ e. omega arith) (λ e. omega arith) (λ e. omega arith)
 
     link-kept : (t′ : ℕ) (i′ : Third) → t′ < length ss → cell rows linkColumn (row t′ i′) u ≡ cell rows linkColumn (row t′ i′) w
     link-kept t′ i′ h′ =
-        let a = fit t′ i′ h′ in let b = fit t i h in let c = n-lt in
+        let a = row-fits rows ss fits t′ i′ h′ in let b = row-fits rows ss fits t i h in let c = n-lt in
         kept (linkColumn * rows + row t′ i′) (λ e. omega arith) (λ e. omega arith) (λ e. omega arith)
 
     any-kept : (t′ : ℕ) → t′ < length ss → cell rows anyColumn t′ u ≡ cell rows anyColumn t′ w
     any-kept t′ h′ =
-        let b = fit t i h in let c = n-lt in
+        let b = row-fits rows ss fits t i h in let c = n-lt in
         kept (anyColumn * rows + t′) (λ e. omega arith) (λ e. omega arith) (λ e. omega arith)
 
     group-kept : (r : ℕ) → r < rows → (r ≡ row t i → ⊥) → cell rows groupColumn r u ≡ cell rows groupColumn r w
     group-kept r h′ ne =
-        let b = fit t i h in let c = n-lt in
+        let b = row-fits rows ss fits t i h in let c = n-lt in
         kept (groupColumn * rows + r) (λ e. ne (omega arith)) (λ e. omega arith) (λ e. omega arith)
 
     way-kept : (t′ : ℕ) → t′ < rows → (t′ ≡ t → ⊥) → cell rows orientationColumn t′ u ≡ cell rows orientationColumn t′ w
     way-kept t′ h′ ne =
-        let b = fit t i h in let c = n-lt in
+        let b = row-fits rows ss fits t i h in let c = n-lt in
         kept (orientationColumn * rows + t′) (λ e. omega arith) (λ e. omega arith) (λ e. ne (omega arith))
 
     met-kept : (j : ℕ) → j < n → cell rows metColumn j u ≡ cell rows metColumn j w
     met-kept j h′ =
-        let b = fit t i h in let c = n-lt in
+        let b = row-fits rows ss fits t i h in let c = n-lt in
         kept (metColumn * rows + j) (λ e. omega arith) (λ e. omega arith) (λ e. omega arith)
 
     group-at : cell rows groupColumn (row t i) u ≡ G
     group-at =
-        let b = fit t i h in let c = R .long in
+        let b = row-fits rows ss fits t i h in let c = R .long in
         let l = length-set (adopted rows t o w) (metColumn * rows + n) (row t i) ∙ adopted-length rows t o w in
         getD-set-same (put rows metColumn n (row t i) (adopted rows t o w)) (groupColumn * rows + row t i) G 0 (omega arith)
 
     met-at : cell rows metColumn n u ≡ row t i
     met-at =
-        let b = fit t i h in let c = n-lt in let k = R .long in let l = adopted-length rows t o w in
+        let b = row-fits rows ss fits t i h in let c = n-lt in let k = R .long in let l = adopted-length rows t o w in
         getD-set-other (put rows metColumn n (row t i) (adopted rows t o w)) (groupColumn * rows + row t i) (metColumn * rows + n) G 0 (λ e. omega arith)
         ∙ getD-set-same (adopted rows t o w) (metColumn * rows + n) (row t i) 0 (omega arith)
 
     way-at : cell rows orientationColumn t u ≡ o
     way-at =
-        let b = fit t i h in let c = n-lt in let l = num-lt i in
+        let b = row-fits rows ss fits t i h in let c = n-lt in let l = num-lt i in
         getD-set-other (put rows metColumn n (row t i) (adopted rows t o w)) (groupColumn * rows + row t i) (orientationColumn * rows + t) G 0 (λ e. omega arith)
         ∙ (getD-set-other (adopted rows t o w) (metColumn * rows + n) (orientationColumn * rows + t) (row t i) 0 (λ e. omega arith) ∙ agrees)
 
@@ -157,7 +154,7 @@ module _ (rows : ℕ) (ss : List Triangle) (d : Triangle) (ls : List Link) (B : 
             let is = ap (λ r. cell rows groupColumn r u) (sym same) ∙ group-at in
             ap (λ x. eqb x 0) is ∙ (ne-eqb G 0 (λ z. omega arith) ∙ sym (ap not (said ∙ (ap (λ b. grouped ms (spotAt ss d t′ i′) || b) e ∙ or-true (grouped ms (spotAt ss d t′ i′))))))
         step false e =
-            ap (λ x. eqb x 0) (group-kept (row t′ i′) (fit t′ i′ h′) (λ z. eqb-false (row t i) (row t′ i′) e (sym z)))
+            ap (λ x. eqb x 0) (group-kept (row t′ i′) (row-fits rows ss fits t′ i′ h′) (λ z. eqb-false (row t i) (row t′ i′) e (sym z)))
             ∙ (R .group t′ i′ h′ ∙ sym (ap not (said ∙ (ap (λ b. grouped ms (spotAt ss d t′ i′) || b) e ∙ or-false (grouped ms (spotAt ss d t′ i′))))))
 
     faces : (t′ : ℕ) → t′ < length ss → Faces (ms ++ (m ∷ [])) (getD ss t′ d) (cell rows orientationColumn t′ u)
@@ -214,7 +211,7 @@ module _ (rows : ℕ) (ss : List Triangle) (d : Triangle) (ls : List Link) (B : 
               member = met-kept j (omega arith) ∙ S .member;
               group = S .group;
               known = S .known;
-              number = group-kept (row (S .tri) (S .at)) (fit (S .tri) (S .at) (S .inside)) (ungrouped-other j e l) ∙ S .number;
+              number = group-kept (row (S .tri) (S .at)) (row-fits rows ss fits (S .tri) (S .at) (S .inside)) (ungrouped-other j e l) ∙ S .number;
               start = S .start;
               way = S .way;
             } in
@@ -226,7 +223,7 @@ module _ (rows : ℕ) (ss : List Triangle) (d : Triangle) (ls : List Link) (B : 
         let S = R .stands j m l in
         let c = R .count in
         ap (λ r. cell rows groupColumn r u) (met-kept j (omega arith) ∙ S .member)
-        ∙ (group-kept (row (S .tri) (S .at)) (fit (S .tri) (S .at) (S .inside)) (ungrouped-other j m l) ∙ ap (λ r. cell rows groupColumn r w) (sym (S .member)))
+        ∙ (group-kept (row (S .tri) (S .at)) (row-fits rows ss fits (S .tri) (S .at) (S .inside)) (ungrouped-other j m l) ∙ ap (λ r. cell rows groupColumn r w) (sym (S .member)))
 
     pub number-new : numberOf rows u (length ms) ≡ G
     number-new = ap (λ r. cell rows groupColumn r u) (ap (λ x. cell rows metColumn x u) (sym (R .count)) ∙ met-at) ∙ group-at
@@ -266,14 +263,14 @@ module _ (rows : ℕ) (ss : List Triangle) (d : Triangle) (ls : List Link) (B : 
 
     only : Only walkColumns rows w₀ u
     only =
-        let a = fit t i h in
+        let a = row-fits rows ss fits t i h in
         only-put walkColumns rows w₀ (put rows metColumn n (row t i) (adopted rows t o w)) groupColumn (row t i) G refl (omega arith) a
         (only-put walkColumns rows w₀ (adopted rows t o w) metColumn n (row t i) refl (omega arith) n-lt (only-adopted rows t o w₀ w (omega arith) (R .only)))
 
     -- a mark leaves the column of where groups begin
     pub begin-kept : column rows beginColumn u ≡ column rows beginColumn w
     begin-kept =
-        let a = fit t i h in
+        let a = row-fits rows ss fits t i h in
         column-set rows beginColumn groupColumn (row t i) G (put rows metColumn n (row t i) (adopted rows t o w)) a
         ∙ (column-set rows beginColumn metColumn n (row t i) (adopted rows t o w) n-lt ∙ adopted-column rows t o w (omega arith) beginColumn refl)
 

@@ -11,6 +11,7 @@ use lib.Dec.{eqb, leb, ltb}
 use lib.ListN.{length, getD, take, length-append, List·getD-append}
 use lib.Seq.{getD-at, take-suc, take-length, getD-set-same, getD-set-other}
 use borrow.Author.Tests.{eq-eqb, ne-eqb, eqb-true, le-leb, lt-leb, lt-ltb, le-ltb, ltb-true, ltb-false}
+use Rattle.view.proofs.Weld.{spots-append}
 use Rattle.laws.proofs.Closed.{Between}
 use Rattle.tangent.specs.Slot.{flag}
 use Rattle.table.specs.Table.{cell, put, column}
@@ -30,13 +31,13 @@ use Rattle.definition.specs.Names.{Names}
 use Rattle.laws.proofs.Mutual.{spot-sym}
 use Rattle.laws.proofs.Laws.{mark, start-marks, start-first, start-grows}
 use Rattle.view.specs.Rows.{num, row, spotAt}
-use Rattle.view.specs.Groups.{numberOf}
+use Rattle.view.specs.Groups.{numberOf, Begins}
 use Rattle.view.specs.Frame.{outside, Only}
 use Rattle.view.specs.Links.{LinkWord}
 use Rattle.view.proofs.Frame.{only-none, only-trans, only-more, only-put, cell-kept}
-use Rattle.view.proofs.Rows.{row-lt, row-div, row-inj, at-inj, spot-row, spot-in}
+use Rattle.view.proofs.Rows.{row-lt, row-div, row-inj, at-inj, spot-row, spot-in, row-fits}
 use Rattle.groups.specs.Walk.{walkColumns, Walk, walk as walkOf, corner, zeros, ungrouped, State, started, begun, turn}
-use Rattle.groups.specs.Marks.{Place, Fixed, Stands, Faces, Marked, Starts, Begins, Grouped}
+use Rattle.groups.specs.Marks.{Place, Fixed, Stands, Faces, Marked, Starts, Grouped}
 use Rattle.groups.proofs.Entering.{Going}
 use Rattle.groups.proofs.Walking.{in-step, fan-le, walk-fuel}
 
@@ -129,9 +130,6 @@ module _ (rows : ℕ) (ss : List Triangle) (d : Triangle) (ls : List Link) (B : 
   -- ---- a store where groups begin
 
   module _ (ms : List Mark) (gs : List Spot) (w u : List ℕ) (n : ℕ) (O : Only (beginColumn ∷ []) rows w u) (R : Marked rows ss d ls w₀ ms gs w n) where
-    fit : (t : ℕ) (i : Third) → t < length ss → row t i < rows
-    fit t i h = omega (arith, row-lt t (length ss) i h)
-
     cell-moved : (k r : ℕ) → outside (beginColumn ∷ []) k ≡ true → r < rows → cell rows k r u ≡ cell rows k r w
     cell-moved k r e h = cell-kept (beginColumn ∷ []) rows w u O k r e h
 
@@ -143,7 +141,7 @@ module _ (rows : ℕ) (ss : List Triangle) (d : Triangle) (ls : List Link) (B : 
     number-moved j e h =
         let S = R .stands j e h in
         let m = cell-moved metColumn j refl (member-lt j h) in
-        ap (λ r. cell rows groupColumn r u) (m ∙ S .member) ∙ (cell-moved groupColumn (row (S .tri) (S .at)) refl (fit (S .tri) (S .at) (S .inside)) ∙ ap (λ r. cell rows groupColumn r w) (sym (S .member)))
+        ap (λ r. cell rows groupColumn r u) (m ∙ S .member) ∙ (cell-moved groupColumn (row (S .tri) (S .at)) refl (row-fits rows ss fits (S .tri) (S .at) (S .inside)) ∙ ap (λ r. cell rows groupColumn r w) (sym (S .member)))
 
     stands-moved : (j : ℕ) (e : Mark) → j < length ms → Stands rows ss d gs u j (getD ms j e)
     stands-moved j e h =
@@ -156,7 +154,7 @@ module _ (rows : ℕ) (ss : List Triangle) (d : Triangle) (ls : List Link) (B : 
           member = cell-moved metColumn j refl (member-lt j h) ∙ S .member;
           group = S .group;
           known = S .known;
-          number = cell-moved groupColumn (row (S .tri) (S .at)) refl (fit (S .tri) (S .at) (S .inside)) ∙ S .number;
+          number = cell-moved groupColumn (row (S .tri) (S .at)) refl (row-fits rows ss fits (S .tri) (S .at) (S .inside)) ∙ S .number;
           start = S .start;
           way = S .way;
         }
@@ -165,15 +163,15 @@ module _ (rows : ℕ) (ss : List Triangle) (d : Triangle) (ls : List Link) (B : 
     unfolding ungrouped
     marked-moved m₀ = record {
       fixed = record {
-        vertex = λ t₁ t₂ i₁ i₂ h₁ h₂. (λ k. eqb (cell-moved vertexColumn (row t₁ i₁) refl (fit t₁ i₁ h₁) k) (cell-moved vertexColumn (row t₂ i₂) refl (fit t₂ i₂ h₂) k)) ∙ R .fixed .vertex t₁ t₂ i₁ i₂ h₁ h₂;
-        link = λ t i h. subst (LinkWord ss d (beyond ls (spotAt ss d t i))) (sym (cell-moved linkColumn (row t i) refl (fit t i h))) (R .fixed .link t i h);
+        vertex = λ t₁ t₂ i₁ i₂ h₁ h₂. (λ k. eqb (cell-moved vertexColumn (row t₁ i₁) refl (row-fits rows ss fits t₁ i₁ h₁) k) (cell-moved vertexColumn (row t₂ i₂) refl (row-fits rows ss fits t₂ i₂ h₂) k)) ∙ R .fixed .vertex t₁ t₂ i₁ i₂ h₁ h₂;
+        link = λ t i h. subst (LinkWord ss d (beyond ls (spotAt ss d t i))) (sym (cell-moved linkColumn (row t i) refl (row-fits rows ss fits t i h))) (R .fixed .link t i h);
         any = λ t h. ap (λ x. eqb x 0) (cell-moved anyColumn t refl (omega arith)) ∙ R .fixed .any t h;
       };
       only = only-trans walkColumns rows w₀ w u (R .only) (only-more (beginColumn ∷ []) walkColumns rows w u refl O);
       long = let a = O .size in let b = R .long in omega arith;
       count = R .count;
       room = subst (λ l. n + zeros l ≤ rows) (sym (O .others groupColumn refl)) (R .room);
-      group = λ t i h. ap (λ x. eqb x 0) (cell-moved groupColumn (row t i) refl (fit t i h)) ∙ R .group t i h;
+      group = λ t i h. ap (λ x. eqb x 0) (cell-moved groupColumn (row t i) refl (row-fits rows ss fits t i h)) ∙ R .group t i h;
       faces = λ t h. subst (Faces ms (getD ss t d)) (sym (cell-moved orientationColumn t refl (omega arith))) (R .faces t h);
       rest = λ t l r. cell-moved orientationColumn t refl r ∙ R .rest t l r;
       stands = stands-moved;
@@ -376,14 +374,6 @@ module _ (rows : ℕ) (ss : List Triangle) (d : Triangle) (ls : List Link) (B : 
     unfolding run
     run-append f b [] k = refl
     run-append f b (x ∷ l) k = run-append f (f b x) l k
-
-    spots-append : (l k : List Triangle) → spots (l ++ k) ≡ spots l ++ spots k
-    unfolding spots
-    spots-append [] k = refl
-    spots-append (t ∷ l) k = ap (λ x. spotT one ∷ spotT two ∷ spotT three ∷ x) (spots-append l k)
-      where
-        spotT : Third → Spot
-        spotT i = record { tri = t; at = i }
 
     abbrev marksTo : ℕ → List Mark
     marksTo n = run (startAt ss ls) [] (spots (take n ss))

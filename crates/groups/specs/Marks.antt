@@ -3,11 +3,11 @@ use Prim.Native.Nat.{ℕ, _+_, _*_, _≤_, _<_}
 use mathlib.Core.Path.{_≡_}
 use mathlib.Core.Bool.{Bool, true, not}
 use mathlib.Core.List.{List, [], _∷_}
-use lib.Dec.{eqb, leb, ltb}
+use lib.Dec.{eqb}
 use lib.ListN.{length, getD}
 use Rattle.tangent.specs.Slot.{flag}
 use Rattle.table.specs.Table.{cell}
-use Rattle.table.specs.Columns.{columns, orientationColumn, anyColumn, groupColumn, metColumn, beginColumn}
+use Rattle.table.specs.Columns.{columns, orientationColumn, anyColumn, groupColumn, metColumn}
 use Rattle.definition.specs.declared.Triangle.{Triangle}
 use Rattle.definition.specs.Mesh.{Third, one, Spot, sameSpot}
 use Rattle.definition.specs.Step5Links.{Link}
@@ -16,7 +16,7 @@ use Rattle.view.specs.Frame.{Only}
 use Rattle.view.specs.Rows.{row, spotAt}
 use Rattle.view.specs.Weld.{Welds}
 use Rattle.view.specs.Links.{Linked}
-use Rattle.view.specs.Groups.{numberOf, Grouping}
+use Rattle.view.specs.Groups.{Grouping, Begins, Ordered, Free}
 use Rattle.groups.specs.Walk.{walkColumns, State, ungrouped}
 
 -- a corner that stands in a row
@@ -59,24 +59,17 @@ pub record Marked (rows : ℕ) (ss : List Triangle) (d : Triangle) (ls : List Li
   pub long : columns * rows ≤ length w
   pub count : n ≡ length ms
   pub room : n + ungrouped rows w ≤ rows
-  pub group : (t : ℕ) (i : Third) → t < length ss → eqb (cell rows groupColumn (row t i) w) 0 ≡ not (grouped ms (spotAt ss d t i))
+  pub group : Free rows ss d ms w
   pub faces : (t : ℕ) → t < length ss → Faces ms (getD ss t d) (cell rows orientationColumn t w)
   pub rest : (t : ℕ) → length ss ≤ t → t < rows → cell rows orientationColumn t w ≡ cell rows orientationColumn t w₀
   pub stands : (j : ℕ) (e : Mark) → j < length ms → Stands rows ss d gs w j (getD ms j e)
-  pub order : (j k : ℕ) → j ≤ k → k < length ms → numberOf rows w j ≤ numberOf rows w k
+  pub order : Ordered rows ms w
 
 -- where groups started: each start is a corner of the triangles, in a group, and no other start
 pub record Starts (ss : List Triangle) (d : Triangle) (ms : List Mark) (gs : List Spot) : Type 0 where
   pub place : (q : ℕ) → q < length gs → Place ss d (getD gs q (spotAt ss d 0 one))
   pub in-group : (q : ℕ) → q < length gs → grouped ms (getD gs q (spotAt ss d 0 one)) ≡ true
   pub apart : (p q : ℕ) → p < length gs → q < length gs → sameSpot (getD gs p (spotAt ss d 0 one)) (getD gs q (spotAt ss d 0 one)) ≡ eqb p q
-
--- where the members of each group begin, among the marks ms
-pub record Begins (rows groups : ℕ) (ms : List Mark) (w : List ℕ) : Type 0 where
-  pub begin : (q j : ℕ) → q < groups → j < length ms → leb (cell rows beginColumn q w) j ≡ ltb q (numberOf rows w j)
-  pub begun : (q : ℕ) → q < groups → cell rows beginColumn q w < length ms
-  pub number : (q : ℕ) → q < groups → numberOf rows w (cell rows beginColumn q w) ≡ q + 1
-  pub start : (q : ℕ) (e : Mark) → q < groups → getD ms (cell rows beginColumn q w) e .spot ≡ getD ms (cell rows beginColumn q w) e .start
 
 -- the state of the whole step
 pub record Grouped (rows : ℕ) (ss : List Triangle) (d : Triangle) (ls : List Link) (w₀ : List ℕ) (ms : List Mark) (gs : List Spot) (s : State) : Type 0 where

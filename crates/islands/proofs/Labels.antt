@@ -14,23 +14,23 @@ use Rattle.weld.specs.Welding.{weldColumns, Welded}
 use Rattle.unions.specs.Unions.{Beyond, Downward, Level, Alone, Settled}
 use Rattle.unions.proofs.Stores.{beyond-trans, alone-level, alone-down}
 use Rattle.islands.specs.Islands.{lowestOf, islandOf}
-use Rattle.islands.specs.Rows.{Names, Stands, Listed, cornerRow, faceRow, vertexRow, listColumns, Woven, Readable, Struck, labelled}
+use Rattle.islands.specs.Rows.{NamesCorner, Stands, FacesListed, cornerRow, faceRow, vertexRow, listColumns, Woven, Readable, Struck, labelled}
 use Rattle.islands.proofs.Meaning.{vertex-low, near, rows-level, given-is}
 use Rattle.islands.proofs.Weaving.{labelled-is}
 
 -- the same rows, with the faces' numbers read elsewhere
-listed-names : (sizes : List ℕ) (f k : ℕ) (C N M : ℕ → ℕ) → ((j : ℕ) → j < k → M j ≡ N j) → Listed sizes f k C N → Listed sizes f k C M
+listed-names : (sizes : List ℕ) (f k : ℕ) (C N M : ℕ → ℕ) → ((j : ℕ) → j < k → M j ≡ N j) → FacesListed sizes f k C N → FacesListed sizes f k C M
 listed-names sizes f k C N M e l = record {
   few = l .few;
-  among = λ r h. subst (λ g. Names sizes g (C r)) (sym (e (r / 4) (omega arith))) (l .among r h);
+  among = λ r h. subst (λ g. NamesCorner sizes g (C r)) (sym (e (r / 4) (omega arith))) (l .among r h);
   all = λ g n h a. let r = l .all g n h a in (r .0, record { row = r .1 .row; face = e (r .0 / 4) (omega (arith, r .1 .row)) ∙ r .1 .face; corner = r .1 .corner });
 }
 
-module _ (mesh : Handed) (k : ℕ) (w u : List ℕ) (l : Listed (mesh .sizes) (length (mesh .sizes)) k (cornerRow (6 * length (mesh .sizes)) w) (faceRow (6 * length (mesh .sizes)) w)) (weld : Welded (6 * length (mesh .sizes)) (4 * k) (mesh .positions) (mesh .normals) (mesh .texture) w u) where
+module _ (mesh : Handed) (k : ℕ) (w u : List ℕ) (l : FacesListed (mesh .sizes) (length (mesh .sizes)) k (cornerRow (6 * length (mesh .sizes)) w) (faceRow (6 * length (mesh .sizes)) w)) (weld : Welded (6 * length (mesh .sizes)) (4 * k) (mesh .positions) (mesh .normals) (mesh .texture) w u) where
   abbrev rows : ℕ
   rows = 6 * length (mesh .sizes)
 
-  moved : Listed (mesh .sizes) (length (mesh .sizes)) k (cornerRow rows w) (faceRow rows u)
+  moved : FacesListed (mesh .sizes) (length (mesh .sizes)) k (cornerRow rows w) (faceRow rows u)
   moved = listed-names (mesh .sizes) (length (mesh .sizes)) k (cornerRow rows w) (faceRow rows w) (faceRow rows u) (λ j h. cell-kept weldColumns rows w u (weld .only) 4 j refl (omega (arith, l .few))) l
 
   pub readable : (x : ℕ) → x ≡ 4 * k → Readable (length (mesh .sizes)) rows x (faceRow rows u) (vertexRow rows u)

@@ -12,14 +12,14 @@ use Rattle.table.specs.Table.{cell, put}
 use Rattle.view.specs.Frame.{Only}
 use Rattle.view.proofs.Frame.{only-none, only-put}
 use Rattle.unions.proofs.Stores.{either}
-use Rattle.islands.specs.Rows.{Names, Stands, Listed, cornerRow, faceRow, listColumns, added}
+use Rattle.islands.specs.Rows.{NamesCorner, Stands, FacesListed, cornerRow, faceRow, listColumns, added}
 use Rattle.islands.proofs.Sizes.{used-three}
 
-pub listed-none : (sizes : List ℕ) (C N : ℕ → ℕ) → Listed sizes 0 0 C N
+pub listed-none : (sizes : List ℕ) (C N : ℕ → ℕ) → FacesListed sizes 0 0 C N
 listed-none sizes C N = record { few = omega arith; among = λ r h. absurd (omega arith); all = λ g n h k. absurd (omega arith) }
 
 -- a face that is not of 3 or 4
-pub listed-skip : (sizes : List ℕ) (f k : ℕ) (C N : ℕ → ℕ) → used (getD sizes f 0) ≡ false → Listed sizes f k C N → Listed sizes (f + 1) k C N
+pub listed-skip : (sizes : List ℕ) (f k : ℕ) (C N : ℕ → ℕ) → used (getD sizes f 0) ≡ false → FacesListed sizes f k C N → FacesListed sizes (f + 1) k C N
 listed-skip sizes f k C N u l = record {
   few = omega (arith, l .few);
   among = l .among;
@@ -35,28 +35,28 @@ record Fresh (k f base size : ℕ) (C N D M : ℕ → ℕ) : Type 0 where
   high : (r : ℕ) → 4 * k ≤ r → r < 4 * (k + 1) → D r < base + size
   every : (i : ℕ) → i < size → (r : ℕ) × (4 * k ≤ r) × (r < 4 * (k + 1)) × (D r ≡ base + i)
 
-module _ (sizes : List ℕ) (f k : ℕ) (C N D M : ℕ → ℕ) (h : f < length sizes) (u : used (getD sizes f 0) ≡ true) (l : Listed sizes f k C N) (s : Fresh k f (cornerCount (take f sizes)) (getD sizes f 0) C N D M) where
-  among-old : (r : ℕ) → r < 4 * k → Names sizes (M (r / 4)) (D r)
-  among-old r i = subst (λ x. Names sizes (M (r / 4)) x) (sym (s .old r i)) (subst (λ g. Names sizes g (C r)) (sym (s .names (r / 4) (omega arith))) (l .among r i))
+module _ (sizes : List ℕ) (f k : ℕ) (C N D M : ℕ → ℕ) (h : f < length sizes) (u : used (getD sizes f 0) ≡ true) (l : FacesListed sizes f k C N) (s : Fresh k f (cornerCount (take f sizes)) (getD sizes f 0) C N D M) where
+  among-old : (r : ℕ) → r < 4 * k → NamesCorner sizes (M (r / 4)) (D r)
+  among-old r i = subst (λ x. NamesCorner sizes (M (r / 4)) x) (sym (s .old r i)) (subst (λ g. NamesCorner sizes g (C r)) (sym (s .names (r / 4) (omega arith))) (l .among r i))
 
-  among-new : (r : ℕ) → 4 * k ≤ r → r < 4 * (k + 1) → Names sizes (M (r / 4)) (D r)
+  among-new : (r : ℕ) → 4 * k ≤ r → r < 4 * (k + 1) → NamesCorner sizes (M (r / 4)) (D r)
   among-new r i j =
       let e : r / 4 ≡ k = omega arith in
-      subst (λ g. Names sizes g (D r)) (sym (ap M e ∙ s .name)) (record { below = h; counts = u; from = s .low r i j; to = s .high r i j })
+      subst (λ g. NamesCorner sizes g (D r)) (sym (ap M e ∙ s .name)) (record { below = h; counts = u; from = s .low r i j; to = s .high r i j })
 
-  among-all : (r : ℕ) → r < 4 * (k + 1) → Names sizes (M (r / 4)) (D r)
+  among-all : (r : ℕ) → r < 4 * (k + 1) → NamesCorner sizes (M (r / 4)) (D r)
   among-all r i = go (decLt r (4 * k))
     where
-      go : Dec (r < 4 * k) → Names sizes (M (r / 4)) (D r)
+      go : Dec (r < 4 * k) → NamesCorner sizes (M (r / 4)) (D r)
       go (yes j) = among-old r j
       go (no j) = among-new r (omega arith) i
 
-  all-old : (g n : ℕ) → g < f → Names sizes g n → (r : ℕ) × Stands (k + 1) D M g n r
+  all-old : (g n : ℕ) → g < f → NamesCorner sizes g n → (r : ℕ) × Stands (k + 1) D M g n r
   all-old g n i a =
       let r = l .all g n i a in
       (r .0, record { row = omega (arith, r .1 .row); face = s .names (r .0 / 4) (omega (arith, r .1 .row)) ∙ r .1 .face; corner = s .old (r .0) (r .1 .row) ∙ r .1 .corner })
 
-  all-new : (n : ℕ) → Names sizes f n → (r : ℕ) × Stands (k + 1) D M f n r
+  all-new : (n : ℕ) → NamesCorner sizes f n → (r : ℕ) × Stands (k + 1) D M f n r
   all-new n a =
       let b = cornerCount (take f sizes) in
       let r = s .every (n - b) (omega (arith, a .from, a .to)) in
@@ -64,11 +64,11 @@ module _ (sizes : List ℕ) (f k : ℕ) (C N D M : ℕ → ℕ) (h : f < length 
       let x : b + (n - b) ≡ n = omega (arith, a .from) in
       (r .0, record { row = r .2; face = ap M e ∙ s .name; corner = r .3 ∙ x })
 
-  listed-fresh : Listed sizes (f + 1) (k + 1) D M
+  listed-fresh : FacesListed sizes (f + 1) (k + 1) D M
   listed-fresh = record {
     few = omega (arith, l .few);
     among = among-all;
-    all = λ g n i a. either g f (λ e. subst (λ x. (r : ℕ) × Stands (k + 1) D M x n r) (sym e) (all-new n (subst (λ x. Names sizes x n) e a))) (λ e. all-old g n (omega arith) a);
+    all = λ g n i a. either g f (λ e. subst (λ x. (r : ℕ) × Stands (k + 1) D M x n r) (sym e) (all-new n (subst (λ x. NamesCorner sizes x n) e a))) (λ e. all-old g n (omega arith) a);
   }
 
 -- ---- the stores
@@ -200,7 +200,7 @@ module _ (rows k f base size : ℕ) (w : List ℕ) (room : 4 * k + 4 ≤ rows) (
       only-put listColumns rows w w4 4 k f refl (omega arith) (omega arith) (put-at w3 3 (base + (size - 1)) (omega arith) (put-at w2 2 (base + 2) (omega arith) (put-at w1 1 (base + 1) (omega arith) o1)))
 
 -- one face of 3 or 4 more
-pub listed-more : (sizes : List ℕ) (rows f k base size : ℕ) (w : List ℕ) → 4 * k + 4 ≤ rows → 21 * rows ≤ length w → f < length sizes → size ≡ getD sizes f 0 → base ≡ cornerCount (take f sizes) → used size ≡ true → Listed sizes f k (cornerRow rows w) (faceRow rows w) → Listed sizes (f + 1) (k + 1) (cornerRow rows (added rows k f base size w)) (faceRow rows (added rows k f base size w))
+pub listed-more : (sizes : List ℕ) (rows f k base size : ℕ) (w : List ℕ) → 4 * k + 4 ≤ rows → 21 * rows ≤ length w → f < length sizes → size ≡ getD sizes f 0 → base ≡ cornerCount (take f sizes) → used size ≡ true → FacesListed sizes f k (cornerRow rows w) (faceRow rows w) → FacesListed sizes (f + 1) (k + 1) (cornerRow rows (added rows k f base size w)) (faceRow rows (added rows k f base size w))
 listed-more sizes rows f k base size w room long h e b u l =
     let t = used-three size u in
     let s = fresh rows k f base size w room long (t .0) (t .1) in

@@ -5,6 +5,7 @@ use mathlib.Core.Path.{_≡_, refl, sym, _∙_, ap, subst}
 use mathlib.Core.Bool.{Bool, true, false, cond, true≢false}
 use mathlib.Core.List.{List, List·Memᴰ}
 use lib.ListN.{length, getD}
+use Rattle.definition.proofs.Lengths.{mesh-length}
 use Rattle.definition.specs.declared.Corner.{Corner}
 use Rattle.definition.specs.Handed.{meshOf, Handed, cornerAt, used}
 use Rattle.definition.specs.Triangles.{usable}
@@ -13,12 +14,12 @@ use Rattle.laws.proofs.Weld.{welded-refl, welded-as}
 use Rattle.view.specs.Weld.{First}
 use Rattle.view.proofs.Weld.{first-one, first-low}
 use Rattle.islands.specs.Islands.{faceAt, touch, touches, Chain, Lowest, counted, noIsland, Given, lowest, other, lowestOf, islandOf}
-use Rattle.islands.specs.Rows.{Names, Stands, Listed}
+use Rattle.islands.specs.Rows.{Stands, FacesListed}
 use Rattle.islands.proofs.Chains.{Shared, touch-shared, shared-touch, touches-counted, touches-sym, counted-below}
 use Rattle.islands.proofs.Agree.{level, lowest-low, lowest-chain}
-use Rattle.islands.proofs.Sizes.{Number, named, number-of, counted-is, mesh-length}
+use Rattle.islands.proofs.Sizes.{Number, named, number-of, counted-is}
 
-module _ (mesh : Handed) (k : ℕ) (C N vs : ℕ → ℕ) (l : Listed (mesh .sizes) (length (mesh .sizes)) k C N) (v : (r : ℕ) → r < 4 * k → First (λ j. welded (cornerAt (mesh .positions) (mesh .normals) (mesh .texture) (C r)) (cornerAt (mesh .positions) (mesh .normals) (mesh .texture) (C j))) (vs r)) where
+module _ (mesh : Handed) (k : ℕ) (C N vs : ℕ → ℕ) (l : FacesListed (mesh .sizes) (length (mesh .sizes)) k C N) (v : (r : ℕ) → r < 4 * k → First (λ j. welded (cornerAt (mesh .positions) (mesh .normals) (mesh .texture) (C r)) (cornerAt (mesh .positions) (mesh .normals) (mesh .texture) (C j))) (vs r)) where
   abbrev faces : List (List Corner)
   faces = meshOf mesh
 

@@ -9,12 +9,13 @@ use lib.Dec.{eqb}
 use lib.ListN.{length, getD, take}
 use lib.Ieee.{Float}
 use borrow.Author.Tests.{eqb-true}
+use Rattle.definition.proofs.Lengths.{corners-length}
 use Rattle.definition.specs.declared.Corner.{Corner}
 use Rattle.definition.specs.Handed.{cornerAt, cornersFrom, meshFrom, used, slotsOf, cornerCount}
 use Rattle.definition.specs.Triangles.{usable}
 use Rattle.unions.proofs.Stores.{either}
 use Rattle.islands.specs.Islands.{faceAt, counted}
-use Rattle.islands.specs.Rows.{Names}
+use Rattle.islands.specs.Rows.{NamesCorner}
 
 pub used-or : {P : Type 0} (n : ℕ) → used n ≡ true → (n ≡ 3 → P) → (n ≡ 4 → P) → P
 unfolding used
@@ -47,11 +48,6 @@ used-three n e = used-or n e (λ q. (omega arith, omega arith)) (λ q. (omega ar
 -- ---- corners of a face
 
 module _ (ps ns ts : List Float) where
-  pub corners-length : (i n : ℕ) → length (cornersFrom ps ns ts i n) ≡ n
-  unfolding cornersFrom
-  corners-length i zero = refl
-  corners-length i (suc n) = ap suc (corners-length (suc i) n)
-
   usable-all : (i n : ℕ) → used n ≡ true → usable (cornersFrom ps ns ts i n) ≡ cornersFrom ps ns ts i n
   unfolding usable cornersFrom
   usable-all i n e = used-or n e
@@ -92,22 +88,17 @@ module _ (ps ns ts : List Float) where
 
   pub counted-is : (sizes : List ℕ) (g : ℕ) → g < length sizes → counted (meshFrom ps ns ts 0 sizes) g ≡ used (getD sizes g 0)
   unfolding counted
-  counted-is sizes g h = ap used (ap length (face-is sizes g h) ∙ corners-length (cornerCount (take g sizes)) (getD sizes g 0))
-
-  pub mesh-length : (i : ℕ) (sizes : List ℕ) → length (meshFrom ps ns ts i sizes) ≡ length sizes
-  unfolding meshFrom
-  mesh-length i [] = refl
-  mesh-length i (n ∷ sizes) = ap suc (mesh-length (i + n) sizes)
+  counted-is sizes g h = ap used (ap length (face-is sizes g h) ∙ corners-length ps ns ts (cornerCount (take g sizes)) (getD sizes g 0))
 
   -- a number of a face's corner is a corner of the face
-  pub named : (sizes : List ℕ) (g n : ℕ) → Names sizes g n → List·Memᴰ (cornerAt ps ns ts n) (usable (faceAt (meshFrom ps ns ts 0 sizes) g))
+  pub named : (sizes : List ℕ) (g n : ℕ) → NamesCorner sizes g n → List·Memᴰ (cornerAt ps ns ts n) (usable (faceAt (meshFrom ps ns ts 0 sizes) g))
   named sizes g n k =
       subst (λ l. List·Memᴰ (cornerAt ps ns ts n) l) (sym (ap usable (face-is sizes g (k .below)) ∙ usable-all (cornerCount (take g sizes)) (getD sizes g 0) (k .counts)))
       (into (cornerCount (take g sizes)) (getD sizes g 0) n (k .from) (k .to))
 
   -- a corner of a face has a number
   pub record Number (sizes : List ℕ) (g : ℕ) (c : Corner) (n : ℕ) : Type 0 where
-    pub names : Names sizes g n
+    pub names : NamesCorner sizes g n
     pub is : cornerAt ps ns ts n ≡ c
 
   pub number-of : (sizes : List ℕ) (g : ℕ) (c : Corner) → counted (meshFrom ps ns ts 0 sizes) g ≡ true → g < length sizes → List·Memᴰ c (usable (faceAt (meshFrom ps ns ts 0 sizes) g)) → (n : ℕ) × Number sizes g c n

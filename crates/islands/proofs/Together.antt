@@ -9,7 +9,7 @@ use lib.Dec.{eqb}
 use lib.ListN.{length, getD}
 use lib.Seq.{ext-getD}
 use lib.Ieee.{Float}
-use borrow.Author.Tests.{eq-eqb}
+use borrow.Author.Tests.{eq-eqb, not-true}
 use Rattle.tangent.specs.declared.Reading.{Reading}
 use Rattle.definition.specs.declared.Corner.{Corner}
 use Rattle.definition.specs.declared.Triangle.{Triangle}
@@ -127,11 +127,7 @@ clash q m c e =
     let k : q (s .0) ≡ q (t .0) = c (s .0) (t .0) h in
     let z : q (0 + s .0) ≡ q (s .0) = ap q (omega arith) in
     let y : q (0 + t .0) ≡ q (t .0) = ap q (omega arith) in
-    true≢false (sym (s .1 .passes) ∙ z ∙ k ∙ sym y ∙ flip (q (0 + t .0)) (t .1 .passes))
-  where
-    flip : (b : Bool) → not b ≡ true → b ≡ false
-    flip true e = absurd (false≢true e)
-    flip false e = refl
+    true≢false (sym (s .1 .passes) ∙ z ∙ k ∙ sym y ∙ not-true (q (0 + t .0)) (t .1 .passes))
 
 is-false : (b : Bool) → (b ≡ true → ⊥) → b ≡ false
 is-false true h = absurd (h refl)

@@ -13,7 +13,7 @@ use Rattle.unions.specs.Unions.{Beyond, Downward, Level}
 use Rattle.islands.specs.Islands.{noIsland, islandOf}
 
 -- n is the number of a corner of face g, which is of 3 or 4
-pub record Names (sizes : List ℕ) (g n : ℕ) : Type 0 where
+pub record NamesCorner (sizes : List ℕ) (g n : ℕ) : Type 0 where
   pub below : g < length sizes
   pub counts : used (getD sizes g 0) ≡ true
   pub from : cornerCount (take g sizes) ≤ n
@@ -26,10 +26,10 @@ pub record Stands (k : ℕ) (C N : ℕ → ℕ) (g n r : ℕ) : Type 0 where
   pub corner : C r ≡ n
 
 -- the first f faces are listed: k of them are of 3 or 4, N has their numbers, and C the numbers of their corners, four rows a face
-pub record Listed (sizes : List ℕ) (f k : ℕ) (C N : ℕ → ℕ) : Type 0 where
+pub record FacesListed (sizes : List ℕ) (f k : ℕ) (C N : ℕ → ℕ) : Type 0 where
   pub few : k ≤ f
-  pub among : (r : ℕ) → r < 4 * k → Names sizes (N (r / 4)) (C r)
-  pub all : (g n : ℕ) → g < f → Names sizes g n → (r : ℕ) × Stands k C N g n r
+  pub among : (r : ℕ) → r < 4 * k → NamesCorner sizes (N (r / 4)) (C r)
+  pub all : (g n : ℕ) → g < f → NamesCorner sizes g n → (r : ℕ) × Stands k C N g n r
 
 -- the columns of the work list: the corner at a row, the face at a row, the face of a corner's row, the vertex of a corner's row
 abbrev pub cornerRow : ℕ → List ℕ → ℕ → ℕ

@@ -42,7 +42,7 @@ fn list_face(work: &mut [u32], rows: usize, k: usize, face: u32, base: u32, size
 // All faces; the result is how many are of 3 or 4.
 fn list_faces(sizes: &[u8], work: &mut [u32]) -> usize
     requires { ⌜ (length (now sizes) ≤ faceLimit) × (columns * rowsOf (length (now sizes)) ≤ length (now work)) ⌝ }
-    ensures { λ k. ⌜ spec.Listed (now (sizes .entry)) (length (now (sizes .entry))) k (spec.cornerRow (rowsOf (length (now (sizes .entry)))) (now (work .exit))) (spec.faceRow (rowsOf (length (now (sizes .entry)))) (now (work .exit))) × Only spec.listColumns (rowsOf (length (now (sizes .entry)))) (now (work .entry)) (now (work .exit)) ⌝ }
+    ensures { λ k. ⌜ spec.FacesListed (now (sizes .entry)) (length (now (sizes .entry))) k (spec.cornerRow (rowsOf (length (now (sizes .entry)))) (now (work .exit))) (spec.faceRow (rowsOf (length (now (sizes .entry)))) (now (work .exit))) × Only spec.listColumns (rowsOf (length (now (sizes .entry)))) (now (work .entry)) (now (work .exit)) ⌝ }
 {
     let rows = 6 * sizes.len();
     let mut k: usize = 0;
@@ -82,12 +82,15 @@ fn unite_rows(work: &[u32], rows: usize, n: usize, labels: &mut [u32], count: us
 
 // ---- labels
 
+// What a face that is not of 3 or 4 is given in place of an island's number.
+const NO_ISLAND: u32 = 0xffff_ffff;
+
 // What a face of a size is given: its number where it is of 3 or 4, FFFFFFFF else.
 fn given(size: u8, label: u32) -> u32
     ensures { λ r. ⌜ r ≡ cond (used size) label noIsland ⌝ }
 {
     if mesh::slots_of(size) == 0 {
-        return 0xffff_ffff;
+        return NO_ISLAND;
     }
     label
 }

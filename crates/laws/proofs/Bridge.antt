@@ -2,14 +2,14 @@
 use Prim.Native.Nat.{ℕ, zero, suc, _+_, _*_, _<_}
 use native.Mathlib.Omega.{arith}
 use mathlib.Core.Path.{_≡_, refl, sym, _∙_, ap}
-use mathlib.Core.Bool.{Bool, true, false, cond, not, _&&_, _||_, Bool·beq}
+use mathlib.Core.Bool.{Bool, false, cond, not, _&&_, _||_}
 use mathlib.Core.List.{List, [], _∷_, _++_, map, flatMap}
 use lib.Dec.{eqb, eqb·zero-suc, eqb·suc-zero, eqb·suc-suc}
 use lib.ListN.{length, getD, length-append, length-map, replicate}
 use lib.Ieee.{Float}
-use borrow.Author.Tests.{eq-eqb, ne-eqb}
+use borrow.Author.Tests.{ne-eqb}
 use Rattle.laws.proofs.Laws.{tri-refl}
-use Rattle.bits.proofs.Bools.{beq-refl, beq-sym}
+use Rattle.bits.proofs.Bools.{beq-sym}
 use Rattle.tangent.specs.declared.Reading.{Reading}
 use Rattle.tangent.specs.Slot as slot
 use Rattle.tangent.specs.Slot.{slotWords}

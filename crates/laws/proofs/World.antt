@@ -1,7 +1,7 @@
 -- One mesh's triangles inside a larger mesh, where its faces have other numbers: what the names and the corners say. Assumes nothing.
 use Prim.Native.Nat.{ℕ, zero, suc}
 use mathlib.Core.Path.{_≡_, refl, sym, _∙_, ap}
-use mathlib.Core.Bool.{Bool, true, false, _&&_, Bool·beq}
+use mathlib.Core.Bool.{false, Bool·beq}
 use lib.Dec.{eqb, eqb·zero-suc, eqb·suc-zero, eqb·suc-suc}
 use lib.Ieee.{Float, binary32, toBits}
 use Rattle.math.specs.declared.Vec3.{Vec3}

@@ -16,7 +16,8 @@ use Rattle.definition.specs.Handed.{handed, cornerAt, cornersFrom, cornerCount,
 use Rattle.definition.specs.Step1Cut.{cut02}
 use Rattle.definition.specs.Triangles.{make, settled, pair, nook, quad, pieces}
 use Rattle.view.specs.Records.{From}
-use Rattle.listing.specs.Listing.{Small, One, Done, Added, pick}
+use Rattle.records.specs.Stored.{Small}
+use Rattle.listing.specs.Listing.{One, Done, Added, pick}
 use Rattle.listing.proofs.Laws.{added-none, added-trans}
 
 -- a triangle of face f, whose corners stand from number `base` on

@@ -17,7 +17,7 @@ use Rattle.definition.specs.Triangles.{pair, quad, pieces, triangles}
 use Rattle.definition.specs.Frames.{numbered}
 use Rattle.listing.specs.Listing.{Added, pick, restFrom, piecesOf, pieceCount}
 use Rattle.listing.proofs.Laws.{added-none}
-use Rattle.listing.proofs.Whole.{split-length}
+use Rattle.listing.proofs.Whole.{split-length, few-cond}
 
 more : (l : List ℕ) (i : ℕ) → i < length l → pieceCount (take (suc i) l) ≡ pieceCount (take i l) + piecesOf (getD l i 0)
 unfolding pieceCount
@@ -35,17 +35,13 @@ pub pieces-none : (l : List ℕ) → 0 ≡ pieceCount (take 0 l)
 unfolding pieceCount
 pieces-none l = refl
 
-two-cond : (b : Bool) (l k : List Triangle) → length l ≤ 2 → length k ≤ 2 → length (cond b l k) ≤ 2
-two-cond true l k p q = p
-two-cond false l k p q = q
-
 of-face : (ps ns ts : List Float) (f i n : ℕ) → length (pieces f (cornersFrom ps ns ts i n)) ≤ piecesOf n
 unfolding pieces quad pair cornersFrom piecesOf
 of-face ps ns ts f i zero = zero-le
 of-face ps ns ts f i (suc zero) = zero-le
 of-face ps ns ts f i (suc (suc zero)) = zero-le
 of-face ps ns ts f i (suc (suc (suc zero))) = omega arith
-of-face ps ns ts f i (suc (suc (suc (suc zero)))) = two-cond (cut02 _ _ _ _) _ _ (omega arith) (omega arith)
+of-face ps ns ts f i (suc (suc (suc (suc zero)))) = few-cond (cut02 _ _ _ _) _ _ (omega arith) (omega arith)
 of-face ps ns ts f i (suc (suc (suc (suc (suc n))))) = zero-le
 
 of-all : (ps ns ts : List Float) (f i : ℕ) (sizes : List ℕ) → length (restFrom ps ns ts f i sizes) ≤ pieceCount sizes

@@ -51,7 +51,7 @@ split-length (x ∷ xs) = go (x .degenerate) (split-length xs)
     go true e = omega arith
     go false e = omega arith
 
-few-cond : (b : Bool) (l k : List Triangle) → length l ≤ 2 → length k ≤ 2 → length (cond b l k) ≤ 2
+pub few-cond : (b : Bool) (l k : List Triangle) → length l ≤ 2 → length k ≤ 2 → length (cond b l k) ≤ 2
 few-cond true l k p q = p
 few-cond false l k p q = q
 

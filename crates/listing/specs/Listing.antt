@@ -1,14 +1,12 @@
--- What is stored of a triangle, and what the list of triangles is in columns. Definitions only.
-use Prim.Native.Nat.{ℕ, _+_, _*_, _≤_, _<_}
+-- What the list of triangles is in columns. Definitions only.
+use Prim.Native.Nat.{ℕ, _+_, _*_, _≤_}
 use mathlib.Core.Path.{_≡_}
 use mathlib.Core.Bool.{Bool, Bool·beq, cond}
 use mathlib.Core.List.{List, [], _∷_, _++_}
-use lib.Dec.{T, eqb}
+use lib.Dec.{eqb}
 use lib.ListN.{length, take}
-use lib.Ieee.{Float, binary32, fits}
-use Rattle.tangent.specs.declared.RawTangentSpace.{RawTangentSpace}
-use Rattle.tangent.specs.Slot.{flag}
-use Rattle.table.specs.Columns.{rowsOf, cornerColumn, slotColumn, nameColumn, sColumn, tColumn, magnitudeColumn, orientationColumn, anyColumn}
+use lib.Ieee.{Float}
+use Rattle.table.specs.Columns.{rowsOf}
 use Rattle.definition.specs.declared.Triangle.{Triangle}
 use Rattle.lists.specs.Lists.{keep}
 use Rattle.definition.specs.Handed.{handed, Handed, meshFrom, cornerCount, slotCount}
@@ -16,49 +14,7 @@ use Rattle.definition.specs.Triangles.{triangles}
 use Rattle.definition.specs.Step4Order.{sound, broken}
 use Rattle.definition.specs.Frames.{trianglesOf, numbered}
 use Rattle.view.specs.Frame.{Only}
-use Rattle.view.specs.Stores.{Entry, storing}
-use Rattle.view.specs.Records.{numbers, names, threeOf, lengths, From, Held, recordColumns}
-
--- ---- words
-
--- what is stored of triangle number t: the numbers of its corners and slots, its names
-abbrev pub placeEntries : ℕ → ℕ → ℕ → Triangle → List Entry
-placeEntries t base slot x =
-    record { column = cornerColumn; row = 3 * t; words = numbers base x }
-    ∷ record { column = slotColumn; row = 3 * t; words = numbers slot x }
-    ∷ record { column = nameColumn; row = 3 * t; words = names x }
-    ∷ []
-
--- its tangent and its mark
-abbrev pub tangentEntries : ℕ → RawTangentSpace → Bool → List Entry
-tangentEntries t g m =
-    record { column = sColumn; row = 3 * t; words = threeOf (g .s) }
-    ∷ record { column = tColumn; row = 3 * t; words = threeOf (g .t) }
-    ∷ record { column = magnitudeColumn; row = 3 * t; words = lengths g m }
-    ∷ []
-
--- its orientation and `group_with_any`
-abbrev pub flagEntries : ℕ → Bool → Bool → List Entry
-flagEntries t way any =
-    record { column = orientationColumn; row = t; words = flag way ∷ [] }
-    ∷ record { column = anyColumn; row = t; words = flag any ∷ [] }
-    ∷ []
-
--- the work list with triangle number t stored, whose face's corners start at number base and slots at number slot
-unfoldable pub stored : ℕ → ℕ → ℕ → ℕ → Triangle → List ℕ → List ℕ
-stored rows t base slot x w = storing rows (flagEntries t (x .orientation) (x .any)) (storing rows (tangentEntries t (x .tangent) (x .marked)) (storing rows (placeEntries t base slot x) w))
-
--- a number that single precision holds
-abbrev pub Fits : Float → Type 0
-Fits x = T (fits binary32 x)
-
--- the numbers of the corners, from base on, are words
-pub record Small (base : ℕ) (x : Triangle) : Type 0 where
-  pub a : base + x .a .which < 4294967296
-  pub b : base + x .b .which < 4294967296
-  pub c : base + x .c .which < 4294967296
-
--- ---- the list
+use Rattle.view.specs.Records.{From, Held, recordColumns}
 
 -- those that are degenerate, or those that aren't
 unfoldable pub pick : Bool → List Triangle → List Triangle

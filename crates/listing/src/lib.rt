@@ -1,131 +1,17 @@
 // The triangles of all faces in columns of the work list: sound ones first, then degenerate ones, each in slot order (steps 1 to 3, and the order of step 4).
 // Carried over from mikktspace.rs (generate_triangle_info_list, degen_prologue) of the Rust crate bevy_mikktspace and ALTERED: written anew in Rattle. See NOTICE.
 ghost use mathlib.Core.Path.{_≡_};
-ghost use mathlib.Core.List.{List, [], _∷_};
-ghost use Prim.Native.Nat.{ℕ, _+_, _*_, _<_, _≤_};
-ghost use lib.ListN.{length, take};
-ghost use lib.Seq.{sets};
-ghost use Rattle.bits.specs.Word.{word};
-ghost use Rattle.math.specs.Held.{HeldVec};
-ghost use Rattle.tangent.specs.Slot.{flag};
-ghost use Rattle.tangent.specs.Held.{HeldSpace};
+ghost use mathlib.Core.List.{[], _∷_};
+ghost use Prim.Native.Nat.{_+_, _*_, _<_, _≤_};
+ghost use lib.ListN.{length};
 ghost use Rattle.definition.specs.Handed.{handed, cornerAt, cornersFrom};
 ghost use Rattle.definition.specs.Limits.{faceLimit};
 ghost use Rattle.definition.specs.Triangles.{nook, pieces};
-ghost use Rattle.table.specs.Columns.{columns, rowsOf, sColumn, tColumn, magnitudeColumn};
-ghost use Rattle.table.specs.Table.{put};
-ghost use Rattle.view.specs.Stores.{storing};
-ghost use Rattle.view.specs.Records.{numbers, names, threeOf, lengths};
+ghost use Rattle.table.specs.Columns.{columns, rowsOf};
+ghost use Rattle.records.specs.Stored.{Small};
 ghost use Rattle.listing.specs.Listing as spec;
 use definition::Kept;
 use definition::Triangle;
-use math::Vec3;
-use tangent::RawTangentSpace;
-
-// ---- one triangle's words
-
-// 1 for true, and 0 else.
-fn word_of(b: bool) -> u32
-    ensures { λ r. ⌜ r ≡ flag b ⌝ }
-{
-    if b { 1 } else { 0 }
-}
-
-// Three words from a place on.
-fn put_three(work: &mut [u32], at: usize, x: u32, y: u32, z: u32)
-    requires { ⌜ at + 3 ≤ length (now work) ⌝ }
-    ensures { λ _. ⌜ now (work .exit) ≡ sets (now (work .entry)) at (x ∷ y ∷ z ∷ []) ⌝ }
-{
-    work[at] = x;
-    work[at + 1] = y;
-    work[at + 2] = z;
-}
-
-// The numbers of a triangle's corners, or of their slots, where those of its face start at number base.
-fn put_numbers(work: &mut [u32], at: usize, base: u32, x: Triangle)
-    requires { ⌜ (at + 3 ≤ length (now work)) × spec.Small base x ⌝ }
-    ensures { λ _. ⌜ now (work .exit) ≡ sets (now (work .entry)) at (numbers base x) ⌝ }
-{
-    let a = x.a;
-    let b = x.b;
-    let c = x.c;
-    put_three(work, at, base + a.which, base + b.which, base + c.which);
-}
-
-// Its face, whether it is the second of it, the corner it misses.
-fn put_names(work: &mut [u32], at: usize, x: Triangle)
-    requires { ⌜ at + 3 ≤ length (now work) ⌝ }
-    ensures { λ _. ⌜ now (work .exit) ≡ sets (now (work .entry)) at (names x) ⌝ }
-{
-    let second = word_of(x.second);
-    put_three(work, at, x.face, second, x.missing);
-}
-
-// A vector's three numbers.
-fn put_vec(work: &mut [u32], at: usize, v: Vec3)
-    requires { ⌜ at + 3 ≤ length (now work) ⌝ }
-    ensures { λ _. ⌜ (now (work .exit) ≡ sets (now (work .entry)) at (threeOf v)) × HeldVec v ⌝ }
-{
-    let x = bits::word(v.x);
-    let y = bits::word(v.y);
-    let z = bits::word(v.z);
-    put_three(work, at, x, y, z);
-}
-
-// The two magnitudes, and whether the quad is marked.
-fn put_lengths(work: &mut [u32], at: usize, g: RawTangentSpace, m: bool)
-    requires { ⌜ at + 3 ≤ length (now work) ⌝ }
-    ensures { λ _. ⌜ (now (work .exit) ≡ sets (now (work .entry)) at (lengths g m)) × spec.Fits (g .«s_magnitude») × spec.Fits (g .«t_magnitude») ⌝ }
-{
-    let x = bits::word(g.s_magnitude);
-    let y = bits::word(g.t_magnitude);
-    let z = word_of(m);
-    put_three(work, at, x, y, z);
-}
-
-// The tangent in its three columns.
-fn put_tangent(work: &mut [u32], rows: usize, t: usize, g: RawTangentSpace, m: bool)
-    requires { ⌜ (3 * t + 3 ≤ rows) × (columns * rows ≤ length (now work)) ⌝ }
-    ensures { λ _. ⌜ (now (work .exit) ≡ storing rows (spec.tangentEntries t g m) (now (work .entry))) × HeldSpace g ⌝ }
-{
-    let s = g.s;
-    let v = g.t;
-    put_vec(work, table::TANGENT_S * rows + 3 * t, s);
-    put_vec(work, table::TANGENT_T * rows + 3 * t, v);
-    put_lengths(work, table::MAGNITUDE * rows + 3 * t, g, m);
-}
-
-// The names and numbers in their three columns.
-fn put_places(work: &mut [u32], rows: usize, t: usize, base: u32, slot: u32, x: Triangle)
-    requires { ⌜ (3 * t + 3 ≤ rows) × (columns * rows ≤ length (now work)) × spec.Small base x × spec.Small slot x ⌝ }
-    ensures { λ _. ⌜ now (work .exit) ≡ storing rows (spec.placeEntries t base slot x) (now (work .entry)) ⌝ }
-{
-    put_numbers(work, table::CORNER * rows + 3 * t, base, x);
-    put_numbers(work, table::SLOT * rows + 3 * t, slot, x);
-    put_names(work, table::NAME * rows + 3 * t, x);
-}
-
-// The orientation and `group_with_any`, at the triangle's own row.
-fn put_flags(work: &mut [u32], rows: usize, t: usize, way: bool, any: bool)
-    requires { ⌜ (3 * t + 3 ≤ rows) × (columns * rows ≤ length (now work)) ⌝ }
-    ensures { λ _. ⌜ now (work .exit) ≡ storing rows (spec.flagEntries t way any) (now (work .entry)) ⌝ }
-{
-    let a = word_of(way);
-    let f = word_of(any);
-    work[table::ORIENTATION * rows + t] = a;
-    work[table::ANY * rows + t] = f;
-}
-
-// A triangle, whole.
-fn store(work: &mut [u32], rows: usize, t: usize, base: u32, slot: u32, x: Triangle)
-    requires { ⌜ (3 * t + 3 ≤ rows) × (columns * rows ≤ length (now work)) × spec.Small base x × spec.Small slot x ⌝ }
-    ensures { λ _. ⌜ (now (work .exit) ≡ spec.stored rows t base slot x (now (work .entry))) × HeldSpace (x .tangent) ⌝ }
-{
-    let g = x.tangent;
-    put_places(work, rows, t, base, slot, x);
-    put_tangent(work, rows, t, g, x.marked);
-    put_flags(work, rows, t, x.orientation, x.any);
-}
 
 // ---- the triangles of a face
 
@@ -139,11 +25,11 @@ fn add_one(
     slot: u32,
     x: Triangle,
 ) -> usize
-    requires { ⌜ (3 * (tris + length (spec.pick want (x ∷ []))) ≤ rows) × (columns * rows ≤ length (now work)) × spec.Small base x × spec.Small slot x ⌝ }
+    requires { ⌜ (3 * (tris + length (spec.pick want (x ∷ []))) ≤ rows) × (columns * rows ≤ length (now work)) × Small base x × Small slot x ⌝ }
     ensures { λ r. ⌜ (r ≡ tris + length (spec.pick want (x ∷ []))) × spec.One rows want tris r base slot x (now (work .entry)) (now (work .exit)) ⌝ }
 {
     if x.degenerate == want {
-        store(work, rows, tris, base, slot, x);
+        records::store(work, rows, tris, base, slot, x);
         return tris + 1;
     }
     tris

@@ -1,6 +1,6 @@
 -- The laws of `upTo` and `listOf`. Assumes nothing.
 use mathlib.Core.Path.{_≡_, refl, sym, ap, _∙_, subst}
-use mathlib.Core.List.{List, [], _∷_, _++_, append-nil}
+use mathlib.Core.List.{[], _∷_, _++_}
 use Prim.Native.Nat.{ℕ, zero, suc, _+_, _≤_, _<_}
 use native.Mathlib.Nat.{le-refl, eq-or-lt-of-le, le-of-suc-le-suc}
 use mathlib.Core.Logic.{⊎-elim}

@@ -21,7 +21,7 @@ module _ (rows : ℕ) (ss : List Triangle) (d : Triangle) (ms : List Mark) (grou
   plain q = step (ltb q groups) refl
     where
       step : (x : Bool) → ltb q groups ≡ x → cond x (min (cell rows beginColumn q w) count) count ≡ cond x (cell rows beginColumn q w) count
-      step true h = let a = G .begun q (ltb-true q groups h) in omega arith
+      step true h = let a = G .begins .begun q (ltb-true q groups h) in omega arith
       step false h = refl
 
   -- they rise
@@ -32,8 +32,8 @@ module _ (rows : ℕ) (ss : List Triangle) (d : Triangle) (ms : List Mark) (grou
       step true h true k =
           let a = ltb-true q groups h in
           let c = ltb-true (suc q) groups k in
-          leb-true (cell rows beginColumn q w) (cell rows beginColumn (suc q) w) (G .begin q (cell rows beginColumn (suc q) w) a (G .begun (suc q) c) ∙ lt-ltb q (numberOf rows w (cell rows beginColumn (suc q) w)) (omega (arith, G .number (suc q) c)))
-      step true h false k = omega (arith, G .begun q (ltb-true q groups h))
+          leb-true (cell rows beginColumn q w) (cell rows beginColumn (suc q) w) (G .begins .begin q (cell rows beginColumn (suc q) w) a (G .begins .begun (suc q) c) ∙ lt-ltb q (numberOf rows w (cell rows beginColumn (suc q) w)) (omega (arith, G .begins .number (suc q) c)))
+      step true h false k = omega (arith, G .begins .begun q (ltb-true q groups h))
       step false h true k = let a = ltb-false q groups h in let c = ltb-true (suc q) groups k in absurd (omega arith)
       step false h false k = omega arith
 
@@ -41,7 +41,7 @@ module _ (rows : ℕ) (ss : List Triangle) (d : Triangle) (ms : List Mark) (grou
   below q = step (ltb q groups) refl
     where
       step : (x : Bool) → ltb q groups ≡ x → cond x (cell rows beginColumn q w) count ≤ count
-      step true k = omega (arith, G .begun q (ltb-true q groups k))
+      step true k = omega (arith, G .begins .begun q (ltb-true q groups k))
       step false k = omega arith
 
   pub begin-last : beginAt rows groups count w groups ≡ count
@@ -57,9 +57,9 @@ module _ (rows : ℕ) (ss : List Triangle) (d : Triangle) (ms : List Mark) (grou
       step : (x : Bool) → ltb 0 groups ≡ x → (y : Bool) → ltb 0 count ≡ y → cond x (cell rows beginColumn 0 w) count ≡ 0
       step true h y k =
           let a = ltb-true 0 groups h in
-          let b = G .begun 0 a in
+          let b = G .begins .begun 0 a in
           let z : 0 < length ms = omega arith in
-          let f = leb-true (cell rows beginColumn 0 w) 0 (G .begin 0 0 a z ∙ lt-ltb 0 (numberOf rows w 0) (G .member 0 e z .some)) in
+          let f = leb-true (cell rows beginColumn 0 w) 0 (G .begins .begin 0 0 a z ∙ lt-ltb 0 (numberOf rows w 0) (G .member 0 e z .some)) in
           omega arith
       step false h true k =
           let a = ltb-false 0 groups h in
@@ -77,13 +77,13 @@ module _ (rows : ℕ) (ss : List Triangle) (d : Triangle) (ms : List Mark) (grou
       step : (x : Bool) → ltb q groups ≡ x → cond x (cell rows beginColumn q w) count ≤ j → (y : Bool) → ltb (suc q) groups ≡ y → j < cond y (cell rows beginColumn (suc q) w) count → numberOf rows w j ≡ q + 1
       step false k f y m g = let a = ltb-false q groups k in absurd (omega arith)
       step true k f y m g =
-          let above : q < numberOf rows w j = ltb-true q (numberOf rows w j) (sym (G .begin q j h inside) ∙ le-leb (cell rows beginColumn q w) j f) in
+          let above : q < numberOf rows w j = ltb-true q (numberOf rows w j) (sym (G .begins .begin q j h inside) ∙ le-leb (cell rows beginColumn q w) j f) in
           let most = G .member j e inside .known in
           last y m g above most
         where
           last : (y : Bool) → ltb (suc q) groups ≡ y → j < cond y (cell rows beginColumn (suc q) w) count → q < numberOf rows w j → numberOf rows w j ≤ groups → numberOf rows w j ≡ q + 1
           last true m g a b =
-              let c = G .begin (suc q) j (ltb-true (suc q) groups m) inside in
+              let c = G .begins .begin (suc q) j (ltb-true (suc q) groups m) inside in
               let n = ltb-false (suc q) (numberOf rows w j) (sym c ∙ lt-leb (cell rows beginColumn (suc q) w) j g) in
               omega arith
           last false m g a b = let c = ltb-false (suc q) groups m in omega arith
@@ -98,9 +98,9 @@ module _ (rows : ℕ) (ss : List Triangle) (d : Triangle) (ms : List Mark) (grou
       (few, first q n (ltb q groups) refl, last q n few (ltb (q + 1) groups) refl)
     where
       first : (q : ℕ) → numberOf rows w j ≡ q + 1 → (x : Bool) → ltb q groups ≡ x → cond x (cell rows beginColumn q w) count ≤ j
-      first q n true k = leb-true (cell rows beginColumn q w) j (G .begin q j (ltb-true q groups k) l ∙ lt-ltb q (numberOf rows w j) (omega arith))
+      first q n true k = leb-true (cell rows beginColumn q w) j (G .begins .begin q j (ltb-true q groups k) l ∙ lt-ltb q (numberOf rows w j) (omega arith))
       first q n false k = absurd (omega (arith, n, ltb-false q groups k, G .member j e l .known))
 
       last : (q : ℕ) → numberOf rows w j ≡ q + 1 → q < groups → (x : Bool) → ltb (q + 1) groups ≡ x → j < cond x (cell rows beginColumn (q + 1) w) count
-      last q n f true k = leb-false (cell rows beginColumn (q + 1) w) j (G .begin (q + 1) j (ltb-true (q + 1) groups k) l ∙ le-ltb (q + 1) (numberOf rows w j) (omega arith))
+      last q n f true k = leb-false (cell rows beginColumn (q + 1) w) j (G .begins .begin (q + 1) j (ltb-true (q + 1) groups k) l ∙ le-ltb (q + 1) (numberOf rows w j) (omega arith))
       last q n f false k = omega (arith, all)

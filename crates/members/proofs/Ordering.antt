@@ -159,26 +159,26 @@ module _ (rows : ℕ) (ss : List Triangle) (d : Triangle) (groups : ℕ) (w : Li
     -- the members between are those of the group
     in-group : (j : ℕ) → f ≤ j → j < e → j < length ms → numberOf rows w j ≡ q + 1
     in-group j lo hi h =
-        let a = ltb-true q (numberOf rows w j) (sym (G .begin q j hq h) ∙ le-leb f j lo) in
+        let a = ltb-true q (numberOf rows w j) (sym (G .begins .begin q j hq h) ∙ le-leb f j lo) in
         step (ltb (q + 1) groups) refl hi a
       where
         step : (x : Bool) → ltb (q + 1) groups ≡ x → j < cond x (cell rows beginColumn (q + 1) w) (length ms) → q < numberOf rows w j → numberOf rows w j ≡ q + 1
-        step true z l a = let c = ltb-false (q + 1) (numberOf rows w j) (sym (G .begin (q + 1) j (ltb-true (q + 1) groups z) h) ∙ lt-leb (cell rows beginColumn (q + 1) w) j l) in omega arith
+        step true z l a = let c = ltb-false (q + 1) (numberOf rows w j) (sym (G .begins .begin (q + 1) j (ltb-true (q + 1) groups z) h) ∙ lt-leb (cell rows beginColumn (q + 1) w) j l) in omega arith
         step false z l a = let c = ltb-false (q + 1) groups z in let k = G .member j some-mark h .known in omega arith
 
     -- and no others are
     group-in : (j : ℕ) → j < length ms → numberOf rows w j ≡ q + 1 → (f ≤ j) × (j < e)
-    group-in j h z = (leb-true f j (G .begin q j hq h ∙ lt-ltb q (numberOf rows w j) (omega arith)), step (ltb (q + 1) groups) refl)
+    group-in j h z = (leb-true f j (G .begins .begin q j hq h ∙ lt-ltb q (numberOf rows w j) (omega arith)), step (ltb (q + 1) groups) refl)
       where
         step : (x : Bool) → ltb (q + 1) groups ≡ x → j < cond x (cell rows beginColumn (q + 1) w) (length ms)
-        step true y = leb-false (cell rows beginColumn (q + 1) w) j (G .begin (q + 1) j (ltb-true (q + 1) groups y) h ∙ le-ltb (q + 1) (numberOf rows w j) (omega arith))
+        step true y = leb-false (cell rows beginColumn (q + 1) w) j (G .begins .begin (q + 1) j (ltb-true (q + 1) groups y) h ∙ le-ltb (q + 1) (numberOf rows w j) (omega arith))
         step false y = h
 
     ends-in : e ≤ length ms
     ends-in = step (ltb (q + 1) groups) refl
       where
         step : (x : Bool) → ltb (q + 1) groups ≡ x → cond x (cell rows beginColumn (q + 1) w) (length ms) ≤ length ms
-        step true z = omega (arith, G .begun (q + 1) (ltb-true (q + 1) groups z))
+        step true z = omega (arith, G .begins .begun (q + 1) (ltb-true (q + 1) groups z))
         step false z = omega arith
 
     -- those members, sorted by their rows, are the rows of the group in rising order

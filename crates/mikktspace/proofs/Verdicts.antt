@@ -1,5 +1,5 @@
 -- The desk's verdict as the code has it: a number of 0 is no refusal. Assumes nothing.
-use Prim.Native.Nat.{ℕ, _+_, _*_, _≤_, _<_, min}
+use Prim.Native.Nat.{ℕ, _+_, _*_, _≤_, min}
 use native.Mathlib.Omega.{arith}
 use mathlib.Core.Path.{_≡_, refl, sym, ap, _∙_}
 use mathlib.Core.List.{List, _++_}
@@ -7,7 +7,7 @@ use mathlib.Core.Option.{Option, none, some}
 use lib.ListN.{length, take, drop, replicate}
 use lib.Seq.{take-all, drop-drop}
 use Rattle.definition.specs.Limits.{faceLimit, workWords}
-use Rattle.definition.specs.Handed.{slotCount, call}
+use Rattle.definition.specs.Handed.{slotCount}
 use Rattle.definition.specs.Desk.{Row, verdict, Shown}
 use Rattle.definition.specs.Outcome.{Result, answered}
 use Rattle.table.specs.Columns.{columns, rowsOf}

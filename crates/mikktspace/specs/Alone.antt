@@ -1,6 +1,5 @@
 -- What the desk says of a mesh alone, for calls that have no threshold and no answer list. Definitions only.
 use Prim.Native.Nat.{ℕ, _*_}
-use mathlib.Core.List.{List}
 use mathlib.Core.Option.{Option}
 use Rattle.bits.specs.Single.{zeroᶠ}
 use Rattle.tangent.specs.Slot.{slotWords}

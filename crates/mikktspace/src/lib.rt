@@ -59,7 +59,7 @@ fn make_frames(
     slots as u32
 }
 
-// Tangent frames of a mesh: faces of these sizes, their corners' positions, normals and texture coordinates, at a threshold for the cosine of an angle. Ten words for each slot are written to the answer list; the work list is lent, and 128 words a face of it are cleared.
+// Tangent frames of a mesh: faces of these sizes, their corners' positions, normals and texture coordinates, at a threshold for the cosine of an angle. Ten words for each slot are written to the answer list; the work list is lent, and WORK_WORDS words a face of it are cleared.
 // A refusal (a number from 1 to 6) alters neither list.
 pub fn generate_tangent_space(
     sizes: &[u8],
@@ -84,14 +84,6 @@ pub fn generate_tangent_space(
     if v.number != 0 {
         return said(v.number, v.place, 0);
     }
-    let slots = make_frames(
-        sizes,
-        positions,
-        normals,
-        texture,
-        work,
-        answer,
-        threshold,
-    );
+    let slots = make_frames(sizes, positions, normals, texture, work, answer, threshold);
     said(0, 0, slots)
 }

@@ -19,7 +19,7 @@ use Rattle.definition.specs.Step5Links.{Link, linked, beyond}
 use Rattle.definition.specs.Names.{Names}
 use Rattle.view.specs.Rows.{row, spotAt}
 use Rattle.view.specs.Links.{LinkWord, nowhere, towards, Linked}
-use Rattle.view.proofs.Rows.{row-lt, spot-row}
+use Rattle.view.proofs.Rows.{spot-row, row-fits}
 
 -- whether there is one
 unfoldable pub isSome : Option Spot → Bool
@@ -43,9 +43,6 @@ word-some nowhere = refl
 word-some (towards u j h) = ne-eqb (suc (row u j)) 0 (λ e. omega arith)
 
 module _ (rows : ℕ) (ss : List Triangle) (d : Triangle) (N : Names ss) (fits : 3 * length ss ≤ rows) where
-  fit : (t : ℕ) (i : Third) → t < length ss → row t i < rows
-  fit t i h = omega (arith, row-lt t (length ss) i h)
-
   -- what the search asks: the word is 0 exactly where the side is not linked
   pub unlinked-word : (ls : List Link) (w : List ℕ) → Linked rows ss d ls w → (t : ℕ) (i : Third) → t < length ss → eqb (cell rows linkColumn (row t i) w) 0 ≡ not (linked ls (spotAt ss d t i))
   unlinked-word ls w L t i h = word-some (L t i h) ∙ ap not (sym (linked-some ls (spotAt ss d t i)))
@@ -69,10 +66,10 @@ module _ (rows : ℕ) (ss : List Triangle) (d : Triangle) (N : Names ss) (fits :
     link-more t′ i′ h′ = step (eqb (row t i) (row t′ i′)) refl (eqb (row u j) (row t′ i′)) refl
       where
         a : row t i < rows
-        a = fit t i h
+        a = row-fits rows ss fits t i h
 
         b : row u j < rows
-        b = fit u j k
+        b = row-fits rows ss fits u j k
 
         at₁ : cell rows linkColumn (row t i) w₂ ≡ row u j + 1
         at₁ =

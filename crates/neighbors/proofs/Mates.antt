@@ -27,7 +27,7 @@ use Rattle.view.specs.Weld.{Sharp}
 use Rattle.view.specs.Links.{LinkWord, nowhere, Linked}
 use Rattle.view.proofs.Lists.{bool-iff, and-both, first-not}
 use Rattle.view.proofs.Frame.{only-none, only-put, cell-kept}
-use Rattle.view.proofs.Rows.{row-is, tri-lt, row-lt}
+use Rattle.view.proofs.Rows.{row-is, tri-lt, row-fits}
 use Rattle.neighbors.specs.declared.Link.{Link}
 use Rattle.neighbors.specs.declared.Link.the-variants.{To, Nothing}
 use Rattle.neighbors.specs.Links.{sameEnds, suits, seek, mateFrom, mateOf, join, turn}
@@ -68,16 +68,13 @@ ends-opposite x y x′ y′ n n′ =
 
 module _ (rows : ℕ) (ss : List Triangle) (d : Triangle) (N : Names ss) (fits : 3 * length ss ≤ rows) (os : List ℕ) (K : ℕ → ℕ) (P : Ordered ss os K)
     (sharp : Sharp ss d) where
-  fit : (t : ℕ) (i : Third) → t < length ss → row t i < rows
-  fit t i h = omega (arith, row-lt t (length ss) i h)
-
   -- storing links leaves what is known of the sides
   sides-kept : (w u : List ℕ) → Sides rows ss d os K w → Only (linkColumn ∷ []) rows w u → Sides rows ss d os K u
   unfolding sameEnds
   sides-kept w u S O = record {
     vertex = λ t₁ t₂ i₁ i₂ h₁ h₂. (λ k. eqb (start-kept t₁ i₁ h₁ k) (start-kept t₂ i₂ h₂ k)) ∙ S .vertex t₁ t₂ i₁ i₂ h₁ h₂;
-    lower = λ t i h. cell-kept (linkColumn ∷ []) rows w u O lowerColumn (row t i) refl (fit t i h) ∙ (S .lower t i h ∙ (λ k. min (sym (start-kept t i h) k) (sym (start-kept t (after i) h) k)));
-    higher = λ t i h. cell-kept (linkColumn ∷ []) rows w u O higherColumn (row t i) refl (fit t i h) ∙ (S .higher t i h ∙ (λ k. max (sym (start-kept t i h) k) (sym (start-kept t (after i) h) k)));
+    lower = λ t i h. cell-kept (linkColumn ∷ []) rows w u O lowerColumn (row t i) refl (row-fits rows ss fits t i h) ∙ (S .lower t i h ∙ (λ k. min (sym (start-kept t i h) k) (sym (start-kept t (after i) h) k)));
+    higher = λ t i h. cell-kept (linkColumn ∷ []) rows w u O higherColumn (row t i) refl (row-fits rows ss fits t i h) ∙ (S .higher t i h ∙ (λ k. max (sym (start-kept t i h) k) (sym (start-kept t (after i) h) k)));
     order = λ a h. cell-kept (linkColumn ∷ []) rows w u O orderColumn a refl (let c = P .all in omega arith) ∙ S .order a h;
     keys = λ r s h k. S .keys r s h k ∙ sym (λ z. eqb (kept lowerColumn refl r h z) (kept lowerColumn refl s k z) && eqb (kept higherColumn refl r h z) (kept higherColumn refl s k z));
   }
@@ -86,7 +83,7 @@ module _ (rows : ℕ) (ss : List Triangle) (d : Triangle) (N : Names ss) (fits :
       kept k e r h = cell-kept (linkColumn ∷ []) rows w u O k r e (omega arith)
 
       start-kept : (t : ℕ) (i : Third) → t < length ss → cell rows vertexColumn (row t i) u ≡ cell rows vertexColumn (row t i) w
-      start-kept t i h = cell-kept (linkColumn ∷ []) rows w u O vertexColumn (row t i) refl (fit t i h)
+      start-kept t i h = cell-kept (linkColumn ∷ []) rows w u O vertexColumn (row t i) refl (row-fits rows ss fits t i h)
 
   -- ---- what the search asks of a later side
 

@@ -1,11 +1,10 @@
 -- The sides in their columns before the sort: what each turn stores, and all of them. Assumes nothing.
 use Prim.Native.Nat.{ℕ, zero, suc, _+_, _*_, _-_, _%_, _≤_, _<_, min, max}
-use native.Mathlib.Nat.{eq-or-lt-of-le, div-add-mod, mod-lt, mul-add-mod-self-left, mod-eq-of-lt}
+use native.Mathlib.Nat.{div-add-mod, mod-lt, mul-add-mod-self-left, mod-eq-of-lt}
 use native.Mathlib.Omega.{arith}
-use mathlib.Core.Path.{_≡_, refl, sym, _∙_, ap, subst}
+use mathlib.Core.Path.{_≡_, refl, sym, _∙_, ap}
 use mathlib.Core.Bool.{Bool, true, false, cond}
 use mathlib.Core.List.{List, [], _∷_}
-use mathlib.Core.Logic.{⊎-elim}
 use lib.Dec.{eqb}
 use lib.ListN.{length, getD, take, length-set}
 use lib.Seq.{getD-set-same, getD-set-other, getD-take, ext-getD, length-take-le}

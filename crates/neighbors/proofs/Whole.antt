@@ -33,10 +33,10 @@ use Rattle.neighbors.proofs.Sided.{end-lt, end-is, sided, counted}
 
 -- ---- two digits
 
-digit-one : (a b a′ b′ : ℕ) → b < 4294967296 → b′ < 4294967296 → a * 4294967296 + b ≡ a′ * 4294967296 + b′ → a ≡ a′
+pub digit-one : (a b a′ b′ : ℕ) → b < 4294967296 → b′ < 4294967296 → a * 4294967296 + b ≡ a′ * 4294967296 + b′ → a ≡ a′
 digit-one a b a′ b′ h k e = omega arith
 
-digit-two : (a b a′ b′ : ℕ) → a ≡ a′ → a * 4294967296 + b ≡ a′ * 4294967296 + b′ → b ≡ b′
+pub digit-two : (a b a′ b′ : ℕ) → a ≡ a′ → a * 4294967296 + b ≡ a′ * 4294967296 + b′ → b ≡ b′
 digit-two a b a′ b′ p e = omega arith
 
 -- equal numbers are equal digits
@@ -52,7 +52,7 @@ two-digits a b a′ b′ h k =
     let q = eqb-true b b′ (and-right (eqb a a′) (eqb b b′) e) in
     eq-eqb (a * 2 ^ 32 + b) (a′ * 2 ^ 32 + b′) (λ z. p z * 2 ^ 32 + q z))
 
-max-lt : (a b n : ℕ) → a < n → b < n → max a b < n
+pub max-lt : (a b n : ℕ) → a < n → b < n → max a b < n
 max-lt a b n h k = omega arith
 
 -- ---- the three parts of the step

@@ -1,11 +1,10 @@
 -- A call is accepted exactly where no row of the table applies. Assumes nothing.
-use Prim.Native.Nat.{ℕ, _≤_, _<_}
+use Prim.Native.Nat.{ℕ}
 use native.Mathlib.Omega.{arith}
 use mathlib.Core.Path.{_≡_, refl, ap}
 use mathlib.Core.Bool.{Bool, true, false, cond, _||_, true≢false}
 use mathlib.Core.List.{List, [], _∷_}
 use mathlib.Core.Option.{Option, none, some}
-use lib.ListN.{length}
 use Rattle.lists.specs.Lists.{first, has}
 use Rattle.definition.specs.Desk.{atDesk, Row, verdict}
 use Rattle.definition.specs.Outcome.{accepted, answered, outcome}

@@ -6,11 +6,11 @@ use mathlib.Core.Path.{_≡_, sym, _∙_, ap, subst}
 use mathlib.Core.Bool.{Bool, true, false, cond, false≢true}
 use mathlib.Core.List.{List, [], _∷_, flatMap}
 use lib.ListN.{length, getD, List·getD-map}
+use Rattle.definition.proofs.Lengths.{mesh-length}
 use Rattle.tangent.specs.Slot as slot
 use Rattle.definition.specs.Frames.{frames}
 use Rattle.islands.specs.Together.{picked, rank, Closed}
 use Rattle.islands.proofs.Agree.{touching}
-use Rattle.islands.proofs.Sizes.{mesh-length}
 use Rattle.islands.proofs.Together.{closed-frames}
 use Rattle.definition.specs.Handed.{Call, meshOf}
 use Rattle.promises.specs.PublicCall.{remains}

@@ -7,6 +7,7 @@ use mathlib.Core.List.{List, [], _∷_, _++_}
 use mathlib.Core.Option.{Option, none, some}
 use lib.ListN.{length, getD, take, drop, replicate, length-append, length-drop, length-replicate}
 use lib.Seq.{take-at, drop-at}
+use Rattle.definition.proofs.Lengths.{mesh-length}
 use Rattle.tangent.specs.declared.Reading.{Reading}
 use Rattle.tangent.specs.declared.Reading.the-variants.{Absent}
 use Rattle.tangent.specs.Slot.{slotWords, words}
@@ -28,7 +29,6 @@ use Rattle.laws.proofs.Verdict.{fine, InTable, Numbered}
 use Rattle.laws.proofs.Bridge.{answer-length}
 use Rattle.view.specs.Answer.{slotNumber, HasSlot, Shows, finalAt}
 use Rattle.view.proofs.Answer.{slot-words, frames-shown}
-use Rattle.copies.proofs.Places.{length-mesh}
 use Rattle.promises.specs.Calls.{leaves, readingAt}
 use Rattle.promises.specs.Demand1.{Refused, SlotTells, Taken, Promised}
 use Rattle.promises.proofs.Acceptance.{verdictOf, numbered as numbers-of}
@@ -89,7 +89,7 @@ module _ (x : Call) where
   unfolding finalAt readingAt frames framesOf
   reading-is f i h =
       let q : f ≡ 0 + f = omega arith in
-      ap (λ (l : List Reading). getD l i Absent) (sym (frames-at bs ss 0 f mesh f q (subst (λ (n : ℕ). f < n) (sym (length-mesh (x .mesh .positions) (x .mesh .normals) (x .mesh .texture) 0 sizes)) (h .face))))
+      ap (λ (l : List Reading). getD l i Absent) (sym (frames-at bs ss 0 f mesh f q (subst (λ (n : ℕ). f < n) (sym (mesh-length (x .mesh .positions) (x .mesh .normals) (x .mesh .texture) 0 sizes)) (h .face))))
 
   slot-tells : (f i : ℕ) → HasSlot sizes f i → (a : List ℕ) → a ≡ answerWords (frames (x .threshold) mesh) ++ drop (slotWords * slotCount sizes) (x .answer) → SlotTells (take slotWords (drop (slotWords * slotNumber sizes f i) a)) (readingAt x f i)
   unfolding frames framesOf words

@@ -1,5 +1,5 @@
 -- Request E10: the promises of the examiner, and that our own lists are accepted. Assumes nothing.
-use Prim.Native.Nat.{ℕ, zero, suc, _+_, _*_, _≤_, _<_}
+use Prim.Native.Nat.{ℕ, zero, suc, _+_, _*_, _≤_}
 use native.Mathlib.Omega.{arith}
 use mathlib.Core.Path.{_≡_, refl, sym, subst, ap, _∙_}
 use mathlib.Core.Bool.{Bool, true, false, cond, not, _||_, true≢false}
@@ -9,6 +9,7 @@ use lib.Dec.{eqb, ltb}
 use lib.ListN.{length, take}
 use lib.Ieee.{ofBits}
 use borrow.Author.Tests.{ltb-true, lt-ltb, eqb-true}
+use Rattle.apart.proofs.Putting.{slots-few}
 use Rattle.definition.specs.Frames.{trianglesOf}
 use Rattle.bits.specs.Word.{isFinite}
 use Rattle.bits.specs.Single.{zeroᶠ}
@@ -63,11 +64,6 @@ slots-of n = go (eqb n 3) (eqb n 4) refl refl
     go true b e f = let x = eqb-true n 3 e in omega arith
     go false true e f = let x = eqb-true n 4 f in omega arith
     go false false e f = omega arith
-
-slots-few : (sizes : List ℕ) → slotCount sizes ≤ 4 * length sizes
-unfolding slotCount
-slots-few [] = omega arith
-slots-few (n ∷ l) = let a = slots-few l in let b = slots-of n in omega arith
 
 abbrev rowOf : ℕ → Bool → ℕ → Row
 rowOf k b i = record { number = k; applies = b; place = i }

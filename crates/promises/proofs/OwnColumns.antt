@@ -243,8 +243,8 @@ module _ (rows : ℕ) (ss : List Triangle) (d : Triangle) (groups : ℕ) (w : Li
       let n : numberOf rows w j ≡ q + 1 = omega (arith, M .some) in
       let l : q < groups = omega (arith, M .known, n) in
       let b : ℕ = cell rows beginColumn q w in
-      let B = G .member b e₀ (G .begun q l) in
-      let s : getD ms b e₀ .spot ≡ getD ms j e₀ .spot = G .start q e₀ l ∙ (G .one-start b j e₀ (G .begun q l) h (G .number q l ∙ sym n) ∙ sym e) in
+      let B = G .member b e₀ (G .begins .begun q l) in
+      let s : getD ms b e₀ .spot ≡ getD ms j e₀ .spot = G .begins .start q e₀ l ∙ (G .one-start b j e₀ (G .begins .begun q l) h (G .begins .number q l ∙ sym n) ∙ sym e) in
       start (B .member ∙ (same-row ss d N (B .tri) (M .tri) (B .at) (M .at) (B .inside) (M .inside) (sym (B .is) ∙ (s ∙ M .is)) ∙ sym (M .member)))
 
   -- a link of a side of the earlier member p, at row r, to a side of member j's triangle
@@ -373,7 +373,7 @@ module _ (rows : ℕ) (mesh : Handed) (xs : List Triangle) (d : Triangle) (c : M
         is-member = λ r h ne. let m = member-of rows ss d (c .groups) u (links ss) (links-sound ss) (six .five .names) G r h ne in (m .0, subst (λ k. m .0 < k) (sym (six .members)) (m .1), m .2);
         begins = λ j h.
             let M = G .member j e₁ (met-at j h) in
-            let b = G .begun (numberOf rows u j - 1) (omega (arith, M .some, M .known)) in
+            let b = G .begins .begun (numberOf rows u j - 1) (omega (arith, M .some, M .known)) in
             subst (λ k. cell rows beginColumn (numberOf rows u j - 1) u < k) (sym (six .members)) b;
       }
 

@@ -32,8 +32,7 @@ use Rattle.view.specs.Groups.{numberOf, Grouping}
 use Rattle.view.proofs.Lists.{listOf-same}
 use Rattle.view.proofs.Rows.{row-is, tri-lt, row-lt, row-inj, at-inj}
 use Rattle.members.proofs.Ordering.{member-of}
-use Rattle.grouped.specs.declared.MeshCounts.{MeshCounts}
-use Rattle.grouped.specs.Grouped.{Six, LeftBySix}
+use Rattle.grouped.specs.Grouped.{Six}
 use Rattle.asked.proofs.Fits.{ordered}
 use Rattle.examine.specs.declared.Owned as outcome
 use Rattle.examine.specs.Contract.{refusal, soundOf, tooShort, front, Withheld, HandedOut}
@@ -64,8 +63,8 @@ module _ (rows : ℕ) (ss : List Triangle) (d : Triangle) (groups : ℕ) (w : Li
           let k = G .member (suc j) e h .known in
           let q : a < groups = omega arith in
           let b = cell rows beginColumn a w in
-          let n = G .number a q in
-          let i = G .begun a q in
+          let n = G .begins .number a q in
+          let i = G .begins .begun a q in
           ordered b (suc j)
           (λ m. let o = G .order b j (omega arith) (omega arith) in omega arith)
           (λ m. let o = ap (numberOf rows w) m in omega arith)
@@ -78,8 +77,8 @@ module _ (rows : ℕ) (ss : List Triangle) (d : Triangle) (groups : ℕ) (w : Li
       let s = M .some in
       let k = M .known in
       let q : 0 < groups = omega arith in
-      let n = G .number 0 q in
-      let o = G .order 0 (cell rows beginColumn 0 w) (omega arith) (G .begun 0 q) in
+      let n = G .begins .number 0 q in
+      let o = G .order 0 (cell rows beginColumn 0 w) (omega arith) (G .begins .begun 0 q) in
       omega arith
   number-is (suc j) h = go (sameSpot (getD ms j e .start) (getD ms (suc j) e .start)) (G .same j (suc j) e (omega arith) h) (number-is j (omega arith))
     where

@@ -2,7 +2,7 @@
 use mathlib.Core.Path.{_≡_}
 use mathlib.Core.Bool.{false}
 use mathlib.Core.List.{List, [], _∷_, _++_}
-use lib.ListN.{length, take}
+use lib.ListN.{take}
 use Rattle.lists.specs.Lists.{has}
 use Rattle.definition.specs.Desk.{atDesk, Row, table}
 use Rattle.definition.specs.Handed.{Call, slotCount}

@@ -1,8 +1,10 @@
 // An estimate of a root: a polynomial for each of 16 parts. The answer does not hang on it, since `certain` tells whether it is the nearest number.
 ghost use Prim.Native.Nat.{_<_, _≤_, _^_};
 
-// All times 2 ^ 12: the root at the last number of a part, raised by a half, and how it falls towards the first, by the powers of the way there.
+// All times `CURVE_UNIT`, 2 ^ 12: the root at the last number of a part, raised by a half, and how it falls towards the first, by the powers of the way there.
 struct Curve(u64, u32, u32, u32, u32);
+
+const CURVE_UNIT: u64 = 4096;
 
 // Eight parts for n = m * 2 ^ 24, then eight for m * 2 ^ 23. This is no array, since a constant array is stored anew whenever a function with it is called.
 fn part(i: u32) -> Curve {
@@ -44,5 +46,5 @@ pub fn estimate(m: u32, odd: u32) -> u64
     let third = (p.3 as u64) + share(p.4 as u64, u);
     let second = (p.2 as u64) + share(third, u);
     let first = (p.1 as u64) + share(second, u);
-    std::num::wrapping_sub_u64(p.0, share(first, u)) / 4096 % 33554432
+    std::num::wrapping_sub_u64(p.0, share(first, u)) / CURVE_UNIT % 33554432
 }

@@ -17,7 +17,7 @@ fn reach_one(work: &[u32], rows: usize, answer: &mut [u32], r: usize, g: RawTang
     requires { ⌜ (r < rows) × (columns * rows ≤ length (now work)) ⌝ }
     ensures { λ _. ⌜ now (answer .exit) ≡ spec.reachWith rows (now (work .entry)) g r (now (answer .entry)) ⌝ }
 {
-    let slot = work[table::SLOT * rows + r] as usize;
+    let slot = records::slot_at(work, rows, r) as usize;
     let orientation = work[table::ORIENTATION * rows + r / 3] == 1;
     slots::reach(answer, slot, g, orientation);
 }
@@ -91,7 +91,14 @@ fn reach_group(
 }
 
 // Group number q + 1.
-fn reach_at(work: &mut [u32], rows: usize, threshold: f32, answer: &mut [u32], q: usize, s: GroupCounts)
+fn reach_at(
+    work: &mut [u32],
+    rows: usize,
+    threshold: f32,
+    answer: &mut [u32],
+    q: usize,
+    s: GroupCounts,
+)
     requires { ⌜ (q < s .groups) × (s .groups ≤ rows) × (s .members ≤ rows) × (columns * rows ≤ length (now work)) × Ranged rows (s .members) (now work) ⌝ }
     ensures { λ _. ⌜ (now (answer .exit) ≡ spec.reachGroup rows threshold (beginOf rows (s .groups) (s .members) (now (work .entry)) q) (beginOf rows (s .groups) (s .members) (now (work .entry)) (q + 1)) (now (work .entry)) (now (answer .entry))) × Only (joinedColumn ∷ []) rows (now (work .entry)) (now (work .exit)) ⌝ }
 {

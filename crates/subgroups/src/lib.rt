@@ -31,8 +31,8 @@ fn peer_at(work: &[u32], rows: usize, r: usize) -> Peer
     requires { ⌜ (r < rows) × (columns * rows ≤ length (now work)) ⌝ }
     ensures { λ p. ⌜ p ≡ spec.peerAt rows r (now (work .entry)) ⌝ }
 {
-    let any = work[table::ANY * rows + r / 3] == 1;
-    let face = work[table::NAME * rows + 3 * (r / 3)];
+    let any = records::is_any(work, rows, r / 3);
+    let face = records::face_at(work, rows, r / 3);
     let s = contributions::s_at(work, rows, r);
     let t = contributions::t_at(work, rows, r);
     Peer { any, face, s, t }
@@ -46,10 +46,11 @@ fn joins(work: &[u32], rows: usize, threshold: f32, m: Peer, r: usize) -> bool
     if m.any {
         return true;
     }
-    if work[table::ANY * rows + r / 3] == 1 {
+    if records::is_any(work, rows, r / 3) {
         return true;
     }
-    if m.face == work[table::NAME * rows + 3 * (r / 3)] {
+    let face = records::face_at(work, rows, r / 3);
+    if m.face == face {
         return true;
     }
     if threshold < m.s.dot(contributions::s_at(work, rows, r)) {
@@ -98,7 +99,7 @@ fn add_row(work: &[u32], rows: usize, r: usize, z: Sum) -> Sum
     requires { ⌜ (r < rows) × (columns * rows ≤ length (now work)) ⌝ }
     ensures { λ y. ⌜ y ≡ spec.addRow rows (now (work .entry)) r z ⌝ }
 {
-    if work[table::ANY * rows + r / 3] == 1 { // it brings nothing
+    if records::is_any(work, rows, r / 3) { // it brings nothing
         return z;
     }
     let s = contributions::s_at(work, rows, r);
@@ -106,8 +107,8 @@ fn add_row(work: &[u32], rows: usize, r: usize, z: Sum) -> Sum
     let g = RawTangentSpace {
         s,
         t,
-        s_magnitude: bits::number(work[table::MAGNITUDE * rows + 3 * (r / 3)]),
-        t_magnitude: bits::number(work[table::MAGNITUDE * rows + (3 * (r / 3) + 1)]),
+        s_magnitude: records::s_magnitude_at(work, rows, r / 3),
+        t_magnitude: records::t_magnitude_at(work, rows, r / 3),
     };
     let angle = bits::number(work[table::OPENING * rows + r]);
     sums::weigh(z, angle, g)
@@ -168,7 +169,7 @@ fn absorb(work: &[u32], rows: usize, r: usize, b: Span) -> Span
     requires { ⌜ (r < rows) × (columns * rows ≤ length (now work)) ⌝ }
     ensures { λ y. ⌜ y ≡ spans.absorbed rows (now (work .entry)) r b ⌝ }
 {
-    if work[table::ANY * rows + r / 3] == 1 {
+    if records::is_any(work, rows, r / 3) {
         return b;
     }
     let p = b.s;

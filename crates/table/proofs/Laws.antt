@@ -21,7 +21,7 @@ pub column-ends : (k n rows : ℕ) → k < n → k * rows + rows ≤ n * rows
 column-ends k n rows h = subst (λ (m : ℕ). m ≤ n * rows) (suc-mul k rows) (mul-le-mul-right rows h)
 
 -- two different numbers: one is below the other
-apart : (a b : ℕ) → ((a ≡ b) → ⊥) → (a < b) ⊎ (b < a)
+pub apart : (a b : ℕ) → ((a ≡ b) → ⊥) → (a < b) ⊎ (b < a)
 apart a b ne = go (ltb a b) refl
   where
     go : (t : Bool) → ltb a b ≡ t → (a < b) ⊎ (b < a)

@@ -35,7 +35,7 @@ absent-alone (Single u o) e = absurd (first-word u o e)
 absent-alone (Combined u o) e = absurd (first-word u o e)
 
 -- ---- from a reading to its words and back
-vector-back : (v : Vec3) → HeldVec v → vectorOf (word (v .x)) (word (v .y)) (word (v .z)) ≡ v
+pub vector-back : (v : Vec3) → HeldVec v → vectorOf (word (v .x)) (word (v .y)) (word (v .z)) ≡ v
 unfolding vectorOf
 vector-back v h = λ i. record { x = number-word (v .x) (h .x-held) i; y = number-word (v .y) (h .y-held) i; z = number-word (v .z) (h .z-held) i }
 

@@ -21,7 +21,7 @@ use Rattle.view.specs.Groups.{numberOf, Member, Grouping, beginAt, InOrd
 use Rattle.view.proofs.Frame.{apart, cell-kept}
 use Rattle.laws.proofs.Part.{keep-same}
 use Rattle.view.proofs.Lists.{index-every}
-use Rattle.view.proofs.Rows.{row-lt}
+use Rattle.view.proofs.Rows.{row-fits}
 
 -- the columns of the groups
 abbrev pub groupColumns : List ℕ
@@ -31,20 +31,17 @@ module _ (rows : ℕ) (ss : List Triangle) (d : Triangle) (ms : List Mark) (grou
   kept : (k r : ℕ) → outside groupColumns k ≡ false → r < rows → cell rows k r u ≡ cell rows k r w
   kept k r e h = cell-kept ks rows w u O k r (apart groupColumns ks c k e) h
 
-  fit : (t : ℕ) (i : Third) → t < length ss → row t i < rows
-  fit t i h = omega (arith, row-lt t (length ss) i h)
-
   -- the numbers of the members stand
   number-kept : (j : ℕ) (e : Mark) → j < length ms → numberOf rows u j ≡ numberOf rows w j
   number-kept j e h =
       let M = G .member j e h in
-      ap (λ r. cell rows groupColumn r u) (kept metColumn j refl (omega (arith, h, G .few)) ∙ M .member) ∙ (kept groupColumn (row (M .tri) (M .at)) refl (fit (M .tri) (M .at) (M .inside)) ∙ ap (λ r. cell rows groupColumn r w) (sym (M .member)))
+      ap (λ r. cell rows groupColumn r u) (kept metColumn j refl (omega (arith, h, G .few)) ∙ M .member) ∙ (kept groupColumn (row (M .tri) (M .at)) refl (row-fits rows ss fits (M .tri) (M .at) (M .inside)) ∙ ap (λ r. cell rows groupColumn r w) (sym (M .member)))
 
   begin-kept : (q : ℕ) → q < groups → cell rows beginColumn q u ≡ cell rows beginColumn q w
   begin-kept q h = kept beginColumn q refl (omega arith)
 
   group-kept : (t : ℕ) (i : Third) → t < length ss → cell rows groupColumn (row t i) u ≡ cell rows groupColumn (row t i) w
-  group-kept t i h = kept groupColumn (row t i) refl (fit t i h)
+  group-kept t i h = kept groupColumn (row t i) refl (row-fits rows ss fits t i h)
 
   pub grouping-kept : Mark → Grouping rows ss d ms groups u
   grouping-kept m₀ = record {
@@ -65,10 +62,13 @@ module _ (rows : ℕ) (ss : List Triangle) (d : Triangle) (ms : List Mark) (grou
     order = λ j k l h. subst (λ x. x ≤ numberOf rows u k) (sym (number-kept j m₀ (omega arith))) (subst (λ x. numberOf rows w j ≤ x) (sym (number-kept k m₀ h)) (G .order j k l h));
     same = λ j k e h l. (λ z. eqb (number-kept j e h z) (number-kept k e l z)) ∙ G .same j k e h l;
     one-start = λ j k e h l z. G .one-start j k e h l (sym (number-kept j e h) ∙ (z ∙ number-kept k e l));
-    begin = λ q j h l. (λ z. leb (begin-kept q h z) j) ∙ (G .begin q j h l ∙ ap (ltb q) (sym (number-kept j m₀ l)));
-    begun = λ q h. subst (λ x. x < length ms) (sym (begin-kept q h)) (G .begun q h);
-    number = λ q h. ap (numberOf rows u) (begin-kept q h) ∙ (number-kept (cell rows beginColumn q w) m₀ (G .begun q h) ∙ G .number q h);
-    start = λ q e h. subst (λ x. getD ms x e .spot ≡ getD ms x e .start) (sym (begin-kept q h)) (G .start q e h);
+    begins =
+        record {
+          begin = λ q j h l. (λ z. leb (begin-kept q h z) j) ∙ (G .begins .begin q j h l ∙ ap (ltb q) (sym (number-kept j m₀ l)));
+          begun = λ q h. subst (λ x. x < length ms) (sym (begin-kept q h)) (G .begins .begun q h);
+          number = λ q h. ap (numberOf rows u) (begin-kept q h) ∙ (number-kept (cell rows beginColumn q w) m₀ (G .begins .begun q h) ∙ G .begins .number q h);
+          start = λ q e h. subst (λ x. getD ms x e .spot ≡ getD ms x e .start) (sym (begin-kept q h)) (G .begins .start q e h);
+        };
     free = λ t i h. ap (λ x. eqb x 0) (group-kept t i h) ∙ G .free t i h;
     way = λ t h. kept orientationColumn t refl (omega arith) ∙ G .way t h;
     among = λ j e t h l. G .among j e t h l ∙ sym (λ z. eqb (group-kept t one l z) (number-kept j e h z) || (eqb (group-kept t two l z) (number-kept j e h z) || eqb (group-kept t three l z) (number-kept j e h z)));

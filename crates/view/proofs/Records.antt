@@ -7,7 +7,8 @@ use mathlib.Core.List.{List, [], _∷_}
 use lib.Dec.{eqb}
 use lib.ListN.{length, getD, take, drop}
 use lib.Seq.{getD-take, getD-drop}
-use Rattle.bits.specs.Word.{word, number}
+use Rattle.tangent.proofs.Slots.{vector-back}
+use Rattle.bits.specs.Word.{number}
 use Rattle.bits.proofs.Back.{number-word}
 use Rattle.math.specs.declared.Vec3.{Vec3}
 use Rattle.math.specs.Held.{HeldVec}
@@ -20,13 +21,13 @@ use Rattle.definition.specs.Mesh.{Third, one, two, three, kept, cornerOf}
 use Rattle.definition.specs.Handed.{Handed, cornerAt, slotCount}
 use Rattle.view.specs.Frame.{outside, Only, disjoint}
 use Rattle.view.specs.Rows.{num, row, spotAt}
-use Rattle.view.specs.Records.{part, numbers, threeOf, lengths, names, Stored, Held, recordColumns, Told, Tells, toldColumns}
+use Rattle.view.specs.Records.{threeWords, numbers, threeOf, lengths, names, Stored, Held, recordColumns, Told, Tells, toldColumns}
 use Rattle.view.proofs.Frame.{apart, cell-kept}
 use Rattle.view.proofs.Rows.{num-lt}
 
 -- a word of the three
-pub part-cell : (rows k t j : ℕ) (w : List ℕ) → j < 3 → 3 * t + 3 ≤ rows → cell rows k (3 * t + j) w ≡ getD (part rows k t w) j 0
-unfolding part
+pub part-cell : (rows k t j : ℕ) (w : List ℕ) → j < 3 → 3 * t + 3 ≤ rows → cell rows k (3 * t + j) w ≡ getD (threeWords rows k t w) j 0
+unfolding threeWords
 part-cell rows k t j w h r = sym (getD-take 3 (drop (3 * t) (column rows k w)) j 0 h ∙ getD-drop (3 * t) (column rows k w) j 0 ∙ getD-column rows w k (3 * t + j) (omega arith))
 
 pub flag-zero : (b : Bool) → eqb (flag b) 0 ≡ not b
@@ -43,7 +44,7 @@ pub flag-same : (a b : Bool) → flag a ≡ flag b → a ≡ b
 flag-same a b e = sym (flag-one a) ∙ (ap (λ (x : ℕ). eqb x 1) e ∙ flag-one b)
 
 -- numbers in the three words, by corner
-pub number-at : (rows k t base : ℕ) (w : List ℕ) (x : Triangle) → 3 * t + 3 ≤ rows → part rows k t w ≡ numbers base x → (i : Third) → cell rows k (row t i) w ≡ base + kept x i .which
+pub number-at : (rows k t base : ℕ) (w : List ℕ) (x : Triangle) → 3 * t + 3 ≤ rows → threeWords rows k t w ≡ numbers base x → (i : Third) → cell rows k (row t i) w ≡ base + kept x i .which
 unfolding num kept
 number-at rows k t base w x room e one = part-cell rows k t 0 w (omega arith) room ∙ ap (λ (l : List ℕ). getD l 0 0) e
 number-at rows k t base w x room e two = part-cell rows k t 1 w (omega arith) room ∙ ap (λ (l : List ℕ). getD l 1 0) e
@@ -65,7 +66,7 @@ module _ (rows : ℕ) (mesh : Handed) (xs : List Triangle) (d : Triangle) (w : L
 
   -- stores in other columns leave the triangles
   pub held-kept : 3 * length xs ≤ rows → (ks : List ℕ) (u : List ℕ) → disjoint recordColumns ks ≡ true → Only ks rows w u → Held rows mesh xs d u
-  unfolding part
+  unfolding threeWords
   held-kept fits ks u c O t h =
       let S = H t h in
       record {
@@ -86,12 +87,7 @@ module _ (rows : ℕ) (mesh : Handed) (xs : List Triangle) (d : Triangle) (w : L
 
 -- ---- what is told of a triangle, whatever its orientation
 
--- a held vector from its three words
-pub vector-back : (v : Vec3) → HeldVec v → vectorOf (word (v .x)) (word (v .y)) (word (v .z)) ≡ v
-unfolding vectorOf
-vector-back v h = λ k. record { x = number-word (v .x) (h .x-held) k; y = number-word (v .y) (h .y-held) k; z = number-word (v .z) (h .z-held) k }
-
-three-back : (rows k t : ℕ) (w : List ℕ) (v : Vec3) → 3 * t + 3 ≤ rows → part rows k t w ≡ threeOf v → HeldVec v → vectorOf (cell rows k (3 * t) w) (cell rows k (3 * t + 1) w) (cell rows k (3 * t + 2) w) ≡ v
+three-back : (rows k t : ℕ) (w : List ℕ) (v : Vec3) → 3 * t + 3 ≤ rows → threeWords rows k t w ≡ threeOf v → HeldVec v → vectorOf (cell rows k (3 * t) w) (cell rows k (3 * t + 1) w) (cell rows k (3 * t + 2) w) ≡ v
 three-back rows k t w v room e h =
     (λ z.
     vectorOf (((ap (λ (n : ℕ). cell rows k n w) (zero-more t)) ∙ (part-cell rows k t 0 w (omega arith) room ∙ ap (λ (l : List ℕ). getD l 0 0) e)) z)
@@ -118,7 +114,7 @@ told-stored rows mesh w t x room S = record {
   loose = S .loose;
 }
   where
-    first : (k : ℕ) → cell rows k (3 * t) w ≡ getD (part rows k t w) 0 0
+    first : (k : ℕ) → cell rows k (3 * t) w ≡ getD (threeWords rows k t w) 0 0
     first k = let e : 3 * t ≡ 3 * t + 0 = omega arith in ap (λ (n : ℕ). cell rows k n w) e ∙ part-cell rows k t 0 w (omega arith) room
 
 -- stores in other columns leave what is told

@@ -48,6 +48,10 @@ tri-lt r n h = let a = div-add-mod r 3 in omega arith
 pub row-lt : (t n : ℕ) (i : Third) → t < n → row t i < 3 * n
 row-lt t n i h = let a = num-lt i in omega arith
 
+-- so it is one of the rows, where the triangles have room
+pub row-fits : (rows : ℕ) (ss : List Triangle) → 3 * length ss ≤ rows → (t : ℕ) (i : Third) → t < length ss → row t i < rows
+row-fits rows ss fits t i h = omega (arith, row-lt t (length ss) i h)
+
 pub row-div : (t : ℕ) (i : Third) → row t i / 3 ≡ t
 row-div t i = mul-add-div {m = 3} (omega arith) t (num i) ∙ (ap (λ n. t + n) (div-eq-of-lt (num-lt i)) ∙ add-zero t)
 

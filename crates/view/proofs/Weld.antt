@@ -93,7 +93,7 @@ module _ (rows : ℕ) (xs : List Triangle) (d : Triangle) (w : List ℕ) (W : Ve
 
 -- ---- sound triangles first, then degenerate ones
 
-spots-append : (xs ys : List Triangle) → spots (xs ++ ys) ≡ spots xs ++ spots ys
+pub spots-append : (xs ys : List Triangle) → spots (xs ++ ys) ≡ spots xs ++ spots ys
 unfolding spots
 spots-append [] ys = refl
 spots-append (x ∷ xs) ys = ap (λ l. record { tri = x; at = one } ∷ record { tri = x; at = two } ∷ record { tri = x; at = three } ∷ l) (spots-append xs ys)

@@ -35,23 +35,36 @@ pub record Member (rows : ℕ) (ss : List Triangle) (d : Triangle) (groups : ℕ
   -- what is welded to the start is welded to the member's own corner
   pub vertex : (c : Corner) → welded (cornerOf (m .start)) c ≡ welded (cornerOf (m .spot)) c
 
--- the columns stand for the marks ms, of so many groups
-pub record Grouping (rows : ℕ) (ss : List Triangle) (d : Triangle) (ms : List Mark) (groups : ℕ) (w : List ℕ) : Type 0 where
-  pub few : length ms ≤ rows
-  -- members stand in the order made, group by group
-  pub member : (j : ℕ) (e : Mark) → j < length ms → Member rows ss d groups w j (getD ms j e)
-  pub order : (j k : ℕ) → j ≤ k → k < length ms → numberOf rows w j ≤ numberOf rows w k
-  -- equal numbers, one group
-  pub same : (j k : ℕ) (e : Mark) → j < length ms → k < length ms → eqb (numberOf rows w j) (numberOf rows w k) ≡ sameSpot (getD ms j e .start) (getD ms k e .start)
-  pub one-start : (j k : ℕ) (e : Mark) → j < length ms → k < length ms → numberOf rows w j ≡ numberOf rows w k → getD ms j e .start ≡ getD ms k e .start
+-- where the members of each group begin, among the marks ms
+pub record Begins (rows groups : ℕ) (ms : List Mark) (w : List ℕ) : Type 0 where
   -- the members of group number q + 1 begin where the column says: those from there on are of that group or a later one
   pub begin : (q j : ℕ) → q < groups → j < length ms → leb (cell rows beginColumn q w) j ≡ ltb q (numberOf rows w j)
   -- the first of them is there, has that number, and is the corner at which the group started
   pub begun : (q : ℕ) → q < groups → cell rows beginColumn q w < length ms
   pub number : (q : ℕ) → q < groups → numberOf rows w (cell rows beginColumn q w) ≡ q + 1
   pub start : (q : ℕ) (e : Mark) → q < groups → getD ms (cell rows beginColumn q w) e .spot ≡ getD ms (cell rows beginColumn q w) e .start
+
+-- members stand in the order made, group by group
+abbrev pub Ordered : ℕ → List Mark → List ℕ → Type 0
+Ordered rows ms w = (j k : ℕ) → j ≤ k → k < length ms → numberOf rows w j ≤ numberOf rows w k
+
+-- a corner's word is 0 exactly where it is in no group
+abbrev pub Free : ℕ → List Triangle → Triangle → List Mark → List ℕ → Type 0
+Free rows ss d ms w = (t : ℕ) (i : Third) → t < length ss → eqb (cell rows groupColumn (row t i) w) 0 ≡ not (grouped ms (spotAt ss d t i))
+
+-- the columns stand for the marks ms, of so many groups
+pub record Grouping (rows : ℕ) (ss : List Triangle) (d : Triangle) (ms : List Mark) (groups : ℕ) (w : List ℕ) : Type 0 where
+  pub few : length ms ≤ rows
+  -- members stand in the order made, group by group
+  pub member : (j : ℕ) (e : Mark) → j < length ms → Member rows ss d groups w j (getD ms j e)
+  pub order : Ordered rows ms w
+  -- equal numbers, one group
+  pub same : (j k : ℕ) (e : Mark) → j < length ms → k < length ms → eqb (numberOf rows w j) (numberOf rows w k) ≡ sameSpot (getD ms j e .start) (getD ms k e .start)
+  pub one-start : (j k : ℕ) (e : Mark) → j < length ms → k < length ms → numberOf rows w j ≡ numberOf rows w k → getD ms j e .start ≡ getD ms k e .start
+  -- where the members of each group begin
+  pub begins : Begins rows groups ms w
   -- a corner's word is 0 exactly where it is in no group
-  pub free : (t : ℕ) (i : Third) → t < length ss → eqb (cell rows groupColumn (row t i) w) 0 ≡ not (grouped ms (spotAt ss d t i))
+  pub free : Free rows ss d ms w
   -- the final orientation of each triangle: of a `group_with_any` one that of the group that touched it first, or its own where none did
   pub way : (t : ℕ) → t < length ss → cell rows orientationColumn t w ≡ flag (facing ms (getD ss t d) (getD ss t d .orientation))
   -- whether a triangle has a corner in member j's group

@@ -18,8 +18,8 @@ use Rattle.definition.specs.Handed.{Handed, cornerAt, cornerCount, slotCount}
 use Rattle.view.specs.Rows.{row}
 
 -- the three words of triangle t in column k
-unfoldable pub part : ℕ → ℕ → ℕ → List ℕ → List ℕ
-part rows k t w = take 3 (drop (3 * t) (column rows k w))
+unfoldable pub threeWords : ℕ → ℕ → ℕ → List ℕ → List ℕ
+threeWords rows k t w = take 3 (drop (3 * t) (column rows k w))
 
 -- the numbers of its corners, or of their slots, where those of its face start at number `base`
 abbrev pub numbers : ℕ → Triangle → List ℕ
@@ -44,12 +44,12 @@ pub record From (ps ns ts : List Float) (base : ℕ) (x : Triangle) : Type 0 whe
 
 -- the columns hold x as triangle number t, for the lists handed in
 pub record Stored (rows : ℕ) (mesh : Handed) (w : List ℕ) (t : ℕ) (x : Triangle) : Type 0 where
-  pub corner : part rows cornerColumn t w ≡ numbers (cornerCount (take (x .face) (mesh .sizes))) x
-  pub slot : part rows slotColumn t w ≡ numbers (slotCount (take (x .face) (mesh .sizes))) x
-  pub name : part rows nameColumn t w ≡ names x
-  pub along : part rows sColumn t w ≡ threeOf (x .tangent .s)
-  pub up : part rows tColumn t w ≡ threeOf (x .tangent .t)
-  pub long : part rows magnitudeColumn t w ≡ lengths (x .tangent) (x .marked)
+  pub corner : threeWords rows cornerColumn t w ≡ numbers (cornerCount (take (x .face) (mesh .sizes))) x
+  pub slot : threeWords rows slotColumn t w ≡ numbers (slotCount (take (x .face) (mesh .sizes))) x
+  pub name : threeWords rows nameColumn t w ≡ names x
+  pub along : threeWords rows sColumn t w ≡ threeOf (x .tangent .s)
+  pub up : threeWords rows tColumn t w ≡ threeOf (x .tangent .t)
+  pub long : threeWords rows magnitudeColumn t w ≡ lengths (x .tangent) (x .marked)
   pub way : cell rows orientationColumn t w ≡ flag (x .orientation)
   pub loose : cell rows anyColumn t w ≡ flag (x .any)
   pub from : From (mesh .positions) (mesh .normals) (mesh .texture) (cornerCount (take (x .face) (mesh .sizes))) x

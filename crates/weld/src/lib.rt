@@ -89,7 +89,12 @@ fn corner_of(
     requires { ⌜ (r < rows) × (columns * rows ≤ length (now work)) ⌝ }
     ensures { λ c. ⌜ c ≡ spec.cornerIn (now (positions .entry)) (now (normals .entry)) (now (texture .entry)) (column rows cornerColumn (now (work .entry))) r ⌝ }
 {
-    mesh::corner_at(positions, normals, texture, work[table::CORNER * rows + r])
+    mesh::corner_at(
+        positions,
+        normals,
+        texture,
+        records::corner_at(work, rows, r),
+    )
 }
 
 // The first row of a chain whose corner has the bits of c, and one; 0 where there is none.

@@ -25,21 +25,12 @@ angle-is x p = ap (λ (b : Bool). cond b nan (ofInt binary32 (pos (topDigits (am
 returns : tie.Need-returns
 returns c = let e = unlike-itself (c .before .args .x) (c .if1 .taken) in e ∙ sym angle-nan ∙ ap angle (sym e)
 
-cut-requires : tie.Need-cut-requires
-cut-requires c κs = search needs
-
 amended-requires : tie.Need-amended-requires
 unfolding ofBits neg
 amended-requires c κs =
     let s = c .before .before in
     let i = subst (λ (y : Float). T (le minusOneᶠ y) × T (le y oneᶠ)) (sym (c .cut .ensures)) (cut-in (s .args .x) (like-itself (s .args .x) (c .before .if1 .left))) in
     (s .pre, i .0, i .1)
-
-top-digits-requires : tie.Need-top-digits-requires
-top-digits-requires c κs = search needs
-
-nearest-u32-to-f32-requires : tie.Need-nearest-u32-to-f32-requires
-nearest-u32-to-f32-requires c κs = search needs
 
 returns-2 : tie.Need-returns-2
 returns-2 c =
@@ -51,4 +42,7 @@ returns-2 c =
     ∙ sym (angle-is (s .args .x) (like-itself (s .args .x) (a .before .before .if1 .left)))
 
 pub acos-by-spec : {M : Type 1} → statement M
-acos-by-spec = tie.close (tie.spec returns cut-requires amended-requires top-digits-requires nearest-u32-to-f32-requires returns-2)
+acos-by-spec =
+    tie.close
+    (tie.spec
+    returns (λ c κs. search needs) amended-requires (λ c κs. search needs) (λ c κs. search needs) returns-2)

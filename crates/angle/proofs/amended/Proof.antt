@@ -27,17 +27,11 @@ doubled c =
     let w = c .before .before .without-sign in
     close (c .before .before .before .args .x) (w .result) (c .half .result) (w .ensures) (c .before .if1 .taken) (c .half .ensures .0)
 
-without-sign-requires : tie.Need-without-sign-requires
-without-sign-requires c κs = search needs
-
 half-requires : tie.Need-half-requires
 unfolding ofBits neg
 half-requires c κs =
     let s = c .before .before in
     (s .pre .0, T-is (c .if1 .taken), subst (λ (a : Float). T (le a oneᶠ)) (sym (c .before .without-sign .ensures)) (unit (s .args .x) (s .pre .1) (s .pre .2) .1))
-
-mul-result : tie.Need-mul-result
-mul-result c = search needs
 
 -- 2B where x is negative, and 2 ^ 30 - 2B elsewhere
 below : (x : Float) (b r : ℕ) → lt x zeroᶠ ≡ true → r ≡ 2 * b → r ≡ doubledWay x b
@@ -49,17 +43,8 @@ above x b r h e = e ∙ sym (ap (λ (t : Bool). cond t (2 * b) (2 ^ 30 - 2 * b))
 returns : tie.Need-returns
 returns c = below (c .before .before .before .before .args .x) (c .before .half .result) _ (c .if2 .taken) (omega arith) ∙ sym (doubled (c .before))
 
-mul-result-2 : tie.Need-mul-result-2
-mul-result-2 c = search needs
-
-sub-result : tie.Need-sub-result
-sub-result c = search needs
-
 returns-2 : tie.Need-returns-2
 returns-2 c = above (c .before .before .before .before .args .x) (c .before .half .result) _ (c .if2 .left) (omega arith) ∙ sym (doubled (c .before))
-
-plain-requires : tie.Need-plain-requires
-plain-requires c κs = search needs
 
 returns-3 : tie.Need-returns-3
 returns-3 c = c .plain .ensures ∙ sym (wide (c .before .before .before .args .x) (c .before .before .without-sign .result) (c .before .before .without-sign .ensures) (c .before .if1 .left))
@@ -67,4 +52,6 @@ returns-3 c = c .plain .ensures ∙ sym (wide (c .before .before .before .args .
 pub amended-spec : {M : Type 1} → statement M
 amended-spec =
     tie.close
-    (tie.spec without-sign-requires half-requires mul-result returns mul-result-2 sub-result returns-2 plain-requires returns-3)
+    (tie.spec
+    (λ c κs. search needs) half-requires (λ c. search needs) returns (λ c. search needs) (λ c. search needs) returns-2
+    (λ c κs. search needs) returns-3)

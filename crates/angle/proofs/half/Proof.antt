@@ -18,9 +18,6 @@ w-is : (c : tie.After-sqrt) → c .sqrt .result ≡ W (c .before .args .a)
 unfolding ofBits neg
 w-is c = c .sqrt .ensures
 
-sqrt-requires : tie.Need-sqrt-requires
-sqrt-requires c κs = search needs
-
 plain-requires : tie.Need-plain-requires
 unfolding ofBits neg
 plain-requires c κs =
@@ -35,4 +32,7 @@ returns c =
     (e, subst (λ (n : ℕ). n ≤ 2 ^ 29) (sym e) (half-turn (W (s .args .a)) (small s)))
 
 pub half-spec : {M : Type 1} → statement M
-half-spec = tie.close (tie.spec sqrt-requires plain-requires returns)
+half-spec =
+    tie.close
+    (tie.spec
+    (λ c κs. search needs) plain-requires returns)

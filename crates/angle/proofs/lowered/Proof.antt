@@ -29,11 +29,11 @@ sub-k c = omega (arith, not-yet c)
 loop-less : tie.Need-loop-less Inv-loop μ-loop
 loop-less c = omega (arith, not-yet c)
 
-loop-again : tie.Need-loop-again Inv-loop μ-loop
-loop-again c = omega arith
-
 returns : tie.Need-returns Inv-loop μ-loop
 returns c = (c .before .before .loop .inv, subst (λ (x : ℕ). c .before .before .before .args .u ≤ x) (c .before .entry .ensures) (c .if1 .left))
 
 pub lowered-spec : {M : Type 1} → statement M
-lowered-spec = tie.close (tie.spec Inv-loop μ-loop loop-holds entry-requires sub-k loop-less loop-again returns)
+lowered-spec =
+    tie.close
+    (tie.spec
+    Inv-loop μ-loop loop-holds entry-requires sub-k loop-less (λ c. omega arith) returns)

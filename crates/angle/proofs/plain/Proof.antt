@@ -5,20 +5,11 @@ use Rattle.angle.specs.Angle.{wayOf}
 use Rattle.angle.proofs.plain.Statement.{statement}
 use Rattle.angle.proofs.plain.Tie as tie
 
-offset-requires : tie.Need-offset-requires
-offset-requires c κs = search needs
-
-guess-requires : tie.Need-guess-requires
-guess-requires c κs = search needs
-
-place-requires : tie.Need-place-requires
-place-requires c κs = search needs
-
-way-requires : tie.Need-way-requires
-way-requires c κs = search needs
-
 returns : tie.Need-returns
 returns c = c .way .ensures ∙ ap wayOf (sym (c .before .before .before .offset .ensures .0))
 
 pub plain-spec : {M : Type 1} → statement M
-plain-spec = tie.close (tie.spec offset-requires guess-requires place-requires way-requires returns)
+plain-spec =
+    tie.close
+    (tie.spec
+    (λ c κs. search needs) (λ c κs. search needs) (λ c κs. search needs) (λ c κs. search needs) returns)

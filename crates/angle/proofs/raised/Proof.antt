@@ -17,9 +17,6 @@ abbrev μ-loop : tie.MeasureT-loop
 loop-holds : tie.Need-loop-holds Inv-loop μ-loop
 loop-holds c = (c .pre .1, c .pre .2)
 
-add-entry : tie.Need-add-entry Inv-loop μ-loop
-add-entry c = omega arith
-
 entry-requires : tie.Need-entry-requires Inv-loop μ-loop
 entry-requires c κs = (c .before .before .pre .0, omega arith)
 
@@ -28,12 +25,6 @@ returns c =
     let l = c .before .before .before .loop in
     let u = c .before .before .before .before .args .u in
     found u (l .k) (l .inv .0) (l .inv .1) (λ h. subst (λ (x : ℕ). x < u) (c .before .entry .ensures ∙ ap C (add-one (l .k))) (c .if1 .taken))
-
-add-k : tie.Need-add-k Inv-loop μ-loop
-add-k c = omega arith
-
-loop-less : tie.Need-loop-less Inv-loop μ-loop
-loop-less c = omega arith
 
 loop-again : tie.Need-loop-again Inv-loop μ-loop
 loop-again c = (omega arith, subst (λ (x : ℕ). c .before .before .before .before .args .u ≤ x) (c .before .entry .ensures) (c .if1 .left))
@@ -44,4 +35,8 @@ returns-2 c =
     found (c .before .before .args .u) (l .k) (l .inv .0) (l .inv .1) (λ h. absurd (not-le-of-lt h (c .loop-test .left)))
 
 pub raised-spec : {M : Type 1} → statement M
-raised-spec = tie.close (tie.spec Inv-loop μ-loop loop-holds add-entry entry-requires returns add-k loop-less loop-again returns-2)
+raised-spec =
+    tie.close
+    (tie.spec
+    Inv-loop μ-loop loop-holds (λ c. omega arith) entry-requires returns (λ c. omega arith) (λ c. omega arith) loop-again
+    returns-2)

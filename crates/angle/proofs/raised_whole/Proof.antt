@@ -19,9 +19,6 @@ whole-nan = refl
 returns : tie.Need-returns
 returns c = ap wholeOf (unlike-itself (c .before .args .x) (c .if1 .taken)) ∙ whole-nan
 
-cut-requires : tie.Need-cut-requires
-cut-requires c κs = search needs
-
 offset-requires : tie.Need-offset-requires
 unfolding ofBits neg
 offset-requires c κs =
@@ -32,4 +29,7 @@ returns-2 : tie.Need-returns-2
 returns-2 c = sym (ap towardZero (c .before .cut .ensures)) ∙ c .offset .ensures .0
 
 pub raised-whole-spec : {M : Type 1} → statement M
-raised-whole-spec = tie.close (tie.spec returns cut-requires offset-requires returns-2)
+raised-whole-spec =
+    tie.close
+    (tie.spec
+    returns (λ c κs. search needs) offset-requires returns-2)

@@ -32,9 +32,6 @@ one-island-requires c κs =
     let s = start (i .before) in
     (omega (arith, i .loop-test .taken), s .pre .0, s .pre .1, room-kept _ _ _ _ _ _ _ _ _ _ _ (v .1 .past .size) (v .2) (v .3) (s .pre .2))
 
-add-t : tie.Need-add-t Inv-loop μ-loop
-add-t c = search needs
-
 loop-less : tie.Need-loop-less Inv-loop μ-loop
 loop-less c = let i = c .before .before .before .before .before .before .before .before .before .before .before .before .before .before .before .before in omega (arith, i .loop-test .taken)
 
@@ -73,5 +70,5 @@ pub all-islands-spec : {M : Type 1} → statement M
 all-islands-spec =
     tie.close
     (tie.spec
-    Inv-loop μ-loop loop-holds one-island-requires add-t loop-less loop-again same-length same-length-2 same-length-3
-    same-length-4 same-length-5 returns)
+    Inv-loop μ-loop loop-holds one-island-requires (λ c. search needs) loop-less loop-again same-length same-length-2
+    same-length-3 same-length-4 same-length-5 returns)

@@ -22,9 +22,6 @@ loop-holds c = (omega arith, refl, refl)
 slice-write-xs : tie.Need-slice-write-xs Inv-loop μ-loop
 slice-write-xs c = omega (arith, c .loop-test .taken, c .before .loop .inv .2, c .before .before .pre)
 
-add-k : tie.Need-add-k Inv-loop μ-loop
-add-k c = search needs
-
 loop-less : tie.Need-loop-less Inv-loop μ-loop
 loop-less c = omega (arith, c .loop-test .taken)
 
@@ -34,11 +31,11 @@ loop-again c =
     let a = c .before .before .args in
     (omega (arith, c .loop-test .taken), ap (λ v. set v (l .k) 0) (l .inv .1) ∙ cleared-more 0 0 (l .k) (a .xs .now) (omega (arith, l .inv .2, c .before .before .pre, c .loop-test .taken)), simp length-set (l .inv .2))
 
-same-length : tie.Need-same-length Inv-loop μ-loop
-same-length c = search needs
-
 returns : tie.Need-returns Inv-loop μ-loop
 returns c = let e : c .before .loop .k ≡ c .before .before .args .count = omega (arith, c .before .loop .inv .0, c .loop-test .left) in c .before .loop .inv .1 ∙ ap (λ n. cleared 0 n (now (c .before .before .args .xs))) e
 
 pub clear-sizes-spec : {M : Type 1} → statement M
-clear-sizes-spec = tie.close (tie.spec Inv-loop μ-loop loop-holds slice-write-xs add-k loop-less loop-again same-length returns)
+clear-sizes-spec =
+    tie.close
+    (tie.spec
+    Inv-loop μ-loop loop-holds slice-write-xs (λ c. search needs) loop-less loop-again (λ c. search needs) returns)

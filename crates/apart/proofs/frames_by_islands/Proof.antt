@@ -28,12 +28,6 @@ accepted c =
     let a = start j .args in
     no-refusal (shown (handed (now (a .sizes)) (now (a .positions)) (now (a .normals)) (now (a .texture))) (a .threshold) (length (now (a .answer))) (length (now (a .work)))) (let e = ap (λ x. x .number) (j .judge .ensures) in omega (arith, e, c .if1 .left))
 
-judge-requires : tie.Need-judge-requires
-judge-requires c κs = search needs
-
-said-requires : tie.Need-said-requires
-said-requires c κs = search needs
-
 returns : tie.Need-returns
 returns c =
     let j = c .before .before .before in
@@ -44,9 +38,6 @@ returns c =
 
 is-short-requires : tie.Need-is-short-requires
 is-short-requires c κs = fine _ (accepted c) .few
-
-said-requires-2 : tie.Need-said-requires-2
-said-requires-2 c κs = search needs
 
 returns-2 : tie.Need-returns-2
 unfolding short
@@ -64,30 +55,6 @@ make-frames-requires c κs =
     let i = x .before in
     (accepted (i .before), sym (i .is-short .ensures) ∙ x .if2 .left)
 
-said-requires-3 : tie.Need-said-requires-3
-said-requires-3 c κs = search needs
-
-same-length : tie.Need-same-length
-same-length c = search needs
-
-same-length-2 : tie.Need-same-length-2
-same-length-2 c = search needs
-
-same-length-3 : tie.Need-same-length-3
-same-length-3 c = search needs
-
-same-length-4 : tie.Need-same-length-4
-same-length-4 c = search needs
-
-same-length-5 : tie.Need-same-length-5
-same-length-5 c = search needs
-
-same-length-6 : tie.Need-same-length-6
-same-length-6 c = search needs
-
-same-length-7 : tie.Need-same-length-7
-same-length-7 c = search needs
-
 returns-3 : tie.Need-returns-3
 unfolding short
 returns-3 c =
@@ -103,6 +70,6 @@ pub frames-by-islands-spec : {M : Type 1} → statement M
 frames-by-islands-spec =
     tie.close
     (tie.spec
-    judge-requires said-requires returns is-short-requires said-requires-2 returns-2 make-frames-requires
-    said-requires-3 same-length same-length-2 same-length-3 same-length-4 same-length-5 same-length-6 same-length-7
-    returns-3)
+    (λ c κs. search needs) (λ c κs. search needs) returns is-short-requires (λ c κs. search needs) returns-2 make-frames-requires
+    (λ c κs. search needs) (λ c. search needs) (λ c. search needs) (λ c. search needs) (λ c. search needs) (λ c. search needs)
+    (λ c. search needs) (λ c. search needs) returns-3)

@@ -21,9 +21,6 @@ start c = c .before .before .before .before .before .before .before .before .bef
 add-next : tie.Need-add-next Inv-loop μ-loop
 add-next c = let s = c .before .before .before .before .before .before .before in omega (arith, s .pre .0, s .pre .1 .fits .few)
 
-mul-next : tie.Need-mul-next Inv-loop μ-loop
-mul-next c = search needs
-
 shared-slice-read-next : tie.Need-shared-slice-read-next Inv-loop μ-loop
 shared-slice-read-next c = let s = c .before .before .before .before .before .before .before .before in omega (arith, s .pre .0, s .pre .1 .long)
 
@@ -38,9 +35,6 @@ sub-size c = omega (arith, c .loop-test .taken)
 
 shared-slice-read-size : tie.Need-shared-slice-read-size Inv-loop μ-loop
 shared-slice-read-size c = let i = c .before in let s = start (i .before) in let k = safe _ _ (s .pre .1) _ (s .pre .0) _ _ (s .pre .2) _ _ _ _ _ _ (i .before .loop .inv) (i .loop-test .taken) in omega (arith, k .below, k .is)
-
-mul-base : tie.Need-mul-base Inv-loop μ-loop
-mul-base c = search needs
 
 sub-base : tie.Need-sub-base Inv-loop μ-loop
 sub-base c = let i = c .before in let s = start (i .before) in let k = safe _ _ (s .pre .1) _ (s .pre .0) _ _ (s .pre .2) _ _ _ _ _ _ (i .before .loop .inv) (i .loop-test .taken) in omega (arith, k .is)
@@ -104,6 +98,6 @@ pub gather-spec : {M : Type 1} → statement M
 gather-spec =
     tie.close
     (tie.spec
-    Inv-loop μ-loop add-next mul-next shared-slice-read-next loop-holds cast-f sub-size shared-slice-read-size mul-base
-    sub-base add-base mul-base-2 shared-slice-read-base cast-base gather-face-requires add-k cast-c add-c sub-next
-    mul-next-2 shared-slice-read-next-2 loop-less loop-again same-length same-length-2 returns)
+    Inv-loop μ-loop add-next (λ c. search needs) shared-slice-read-next loop-holds cast-f sub-size shared-slice-read-size
+    (λ c. search needs) sub-base add-base mul-base-2 shared-slice-read-base cast-base gather-face-requires add-k cast-c add-c
+    sub-next mul-next-2 shared-slice-read-next-2 loop-less loop-again same-length same-length-2 returns)

@@ -24,20 +24,11 @@ start c = c .before .before .before .before .before .before
 cleared : (c : tie.After-slice-known2 Inv-loop μ-loop) → Past 0 (2 * start c .args .count) (now (start c .args .order)) (c .before .before .clear-first .last .0)
 cleared c = subst (λ l. Past 0 (2 * start c .args .count) (now (start c .args .order)) l) (sym (c .before .before .clear-first .ensures)) (cleared-past 0 0 (2 * start c .args .count) (now (start c .args .order)) (start c .pre .1))
 
-mul-clear-first : tie.Need-mul-clear-first Inv-loop μ-loop
-mul-clear-first c = search needs
-
-clear-first-requires : tie.Need-clear-first-requires Inv-loop μ-loop
-clear-first-requires c κs = search needs
-
 loop-holds : tie.Need-loop-holds Inv-loop μ-loop
 loop-holds c =
     let f = c .before .before in
     let s = f .before .before .before .before in
     (omega arith, linked-none _ _ _ (λ x h. subst (λ l. lib.ListN.getD l x 0 ≡ 0) (sym (f .clear-first .ensures)) (cleared-low 0 0 (2 * s .args .count) (now (s .args .order)) x h)), past-none 0 _ _)
-
-sub-i : tie.Need-sub-i Inv-loop μ-loop
-sub-i c = search needs
 
 link-face-requires : tie.Need-link-face-requires Inv-loop μ-loop
 link-face-requires c κs =
@@ -48,9 +39,6 @@ link-face-requires c κs =
     let t = i .loop-test .taken in
     let e : (l .i - 1) + 1 ≡ l .i = omega (arith, t) in
     (omega (arith, l .inv .0, t), s .pre .0, omega (arith, s .pre .1, cleared k .size, l .inv .2 .size), s .pre .2, subst (λ n. Linked (s .args .count) (labelAt (now (s .args .labels))) n (l .order)) (sym e) (l .inv .1))
-
-loop-less : tie.Need-loop-less Inv-loop μ-loop
-loop-less c = search needs
 
 loop-again : tie.Need-loop-again Inv-loop μ-loop
 loop-again c =
@@ -74,14 +62,5 @@ pub link-faces-spec : {M : Type 1} → statement M
 link-faces-spec =
     tie.close
     (tie.spec
-    Inv-loop
-    μ-loop
-    mul-clear-first
-    clear-first-requires
-    loop-holds
-    sub-i
-    link-face-requires
-    loop-less
-    loop-again
-    same-length
-    returns)
+    Inv-loop μ-loop (λ c. search needs) (λ c κs. search needs) loop-holds (λ c. search needs) link-face-requires
+    (λ c. search needs) loop-again same-length returns)

@@ -51,32 +51,8 @@ clear-own-requires c κs =
     let k = i .all-islands .ensures .2 in
     (fits s .0 .few, p .prepare .ensures .1 .long, omega (arith, k .sizes .size, long s .sizes), omega (arith, k .numbers .size, long s .numbers), omega (arith, k .frames .size, long s .frames))
 
-slots-before-requires : tie.Need-slots-before-requires
-slots-before-requires c κs = search needs
-
-cast-result : tie.Need-cast-result
-cast-result c = search needs
-
-same-length : tie.Need-same-length
-same-length c = search needs
-
 same-length-2 : tie.Need-same-length-2
 same-length-2 c = prepared (c .before .before .before .before .before .before .before .before .before .before .before .before .before .before .before .before .before .before .before .before .before .before .before .before) .prepare .kept .1 .1 .1 .1 .0
-
-same-length-3 : tie.Need-same-length-3
-same-length-3 c = search needs
-
-same-length-4 : tie.Need-same-length-4
-same-length-4 c = search needs
-
-same-length-5 : tie.Need-same-length-5
-same-length-5 c = search needs
-
-same-length-6 : tie.Need-same-length-6
-same-length-6 c = search needs
-
-same-length-7 : tie.Need-same-length-7
-same-length-7 c = search needs
 
 returns : tie.Need-returns
 returns c =
@@ -95,5 +71,5 @@ pub make-frames-spec : {M : Type 1} → statement M
 make-frames-spec =
     tie.close
     (tie.spec
-    prepare-requires all-islands-requires clear-own-requires slots-before-requires cast-result same-length same-length-2
-    same-length-3 same-length-4 same-length-5 same-length-6 same-length-7 returns)
+    prepare-requires all-islands-requires clear-own-requires (λ c κs. search needs) (λ c. search needs) (λ c. search needs)
+    same-length-2 (λ c. search needs) (λ c. search needs) (λ c. search needs) (λ c. search needs) (λ c. search needs) returns)

@@ -12,20 +12,8 @@ begin c = c .before .before .before .before .before .before .before .before .bef
 abbrev gathered : tie.After-make → tie.After-gather
 gathered c = c .before .before .before .before .before .before .before .before .before
 
-add-if1 : tie.Need-add-if1
-add-if1 c = search needs
-
-mul-if1 : tie.Need-mul-if1
-mul-if1 c = search needs
-
-shared-slice-read-if1 : tie.Need-shared-slice-read-if1
-shared-slice-read-if1 c = search needs
-
 returns : tie.Need-returns
 returns c = let s = c .before .before .before .before .before .before .before .before .before .before .before .before in (nothing-put _ _ _ (s .pre .1) _ (s .pre .0) (c .if1 .taken) _, refl, kept-none _ _ _ _)
-
-gather-requires : tie.Need-gather-requires
-gather-requires c κs = search needs
 
 make-requires : tie.Need-make-requires
 make-requires c κs = let g = c .before .before .before .before .before .before .before .before in let s = begin g in fit _ _ _ (s .pre .1) (s .pre .2) _ (s .pre .0) _ _ _ _ _ (s .pre .3) _ _ _ _ (g .gather .ensures .0) (g .gather .ensures .1) (g .gather .ensures .2)
@@ -36,21 +24,6 @@ scatter-requires c κs =
     let g = gathered m in
     let s = begin g in
     (s .pre .1 .fits .few, s .pre .0, s .pre .1 .long, s .pre .3 .answer, scene _ _ _ (s .pre .1) (s .pre .2) _ (s .pre .0) _ _ _ _ _ (s .pre .3) _ _ _ _ (g .gather .ensures .0) (g .gather .ensures .1) (g .gather .ensures .2) _ _ (m .make .ensures .0) (m .make .ensures .1))
-
-same-length : tie.Need-same-length
-same-length c = search needs
-
-same-length-2 : tie.Need-same-length-2
-same-length-2 c = search needs
-
-same-length-3 : tie.Need-same-length-3
-same-length-3 c = search needs
-
-same-length-4 : tie.Need-same-length-4
-same-length-4 c = search needs
-
-same-length-5 : tie.Need-same-length-5
-same-length-5 c = search needs
 
 returns-2 : tie.Need-returns-2
 returns-2 c =
@@ -64,5 +37,5 @@ pub one-island-spec : {M : Type 1} → statement M
 one-island-spec =
     tie.close
     (tie.spec
-    add-if1 mul-if1 shared-slice-read-if1 returns gather-requires make-requires scatter-requires same-length
-    same-length-2 same-length-3 same-length-4 same-length-5 returns-2)
+    (λ c. search needs) (λ c. search needs) (λ c. search needs) returns (λ c κs. search needs) make-requires scatter-requires
+    (λ c. search needs) (λ c. search needs) (λ c. search needs) (λ c. search needs) (λ c. search needs) returns-2)

@@ -7,30 +7,6 @@ use borrow.Author.Needs.{needs}
 use Rattle.apart.proofs.prepare.Statement.{statement}
 use Rattle.apart.proofs.prepare.Tie as tie
 
-label-requires : tie.Need-label-requires
-label-requires c κs = search needs
-
-mul-clear-first : tie.Need-mul-clear-first
-mul-clear-first c = search needs
-
-clear-first-requires : tie.Need-clear-first-requires
-clear-first-requires c κs = search needs
-
-start-faces-requires : tie.Need-start-faces-requires
-start-faces-requires c κs = search needs
-
-link-faces-requires : tie.Need-link-faces-requires
-link-faces-requires c κs = search needs
-
-same-length : tie.Need-same-length
-same-length c = search needs
-
-same-length-2 : tie.Need-same-length-2
-same-length-2 c = search needs
-
-same-length-3 : tie.Need-same-length-3
-same-length-3 c = search needs
-
 returns : tie.Need-returns
 returns c =
     let k = c .before .before in
@@ -47,5 +23,5 @@ pub prepare-spec : {M : Type 1} → statement M
 prepare-spec =
     tie.close
     (tie.spec
-    label-requires mul-clear-first clear-first-requires start-faces-requires link-faces-requires same-length
-    same-length-2 same-length-3 returns)
+    (λ c κs. search needs) (λ c. search needs) (λ c κs. search needs) (λ c κs. search needs) (λ c κs. search needs)
+    (λ c. search needs) (λ c. search needs) (λ c. search needs) returns)

@@ -20,9 +20,6 @@ start c = c .before .before .before .before .before .before
 add-next : tie.Need-add-next Inv-loop μ-loop
 add-next c = let s = c .before .before .before .before in omega (arith, s .pre .0, s .pre .1)
 
-mul-next : tie.Need-mul-next Inv-loop μ-loop
-mul-next c = search needs
-
 shared-slice-read-next : tie.Need-shared-slice-read-next Inv-loop μ-loop
 shared-slice-read-next c = let s = c .before .before .before .before .before in omega (arith, s .pre .1, s .pre .2)
 
@@ -40,9 +37,6 @@ shared-slice-read-z c = let i = c .before in let s = start (i .before) in let k 
 
 cast-z : tie.Need-cast-z Inv-loop μ-loop
 cast-z c = let i = c .before in let s = start (i .before) in let k = safe _ _ _ _ (s .pre .1) (s .pre .4) _ (s .pre .3) _ _ _ _ (i .before .loop .inv (s .pre .4)) (i .loop-test .taken) (slots-few _) in omega (arith, k .small)
-
-mul-to : tie.Need-mul-to Inv-loop μ-loop
-mul-to c = search needs
 
 sub-to : tie.Need-sub-to Inv-loop μ-loop
 sub-to c = let i = c .before in let s = start (i .before) in let k = safe _ _ _ _ (s .pre .1) (s .pre .4) _ (s .pre .3) _ _ _ _ (i .before .loop .inv (s .pre .4)) (i .loop-test .taken) (slots-few _) in omega (arith, k .is)
@@ -105,6 +99,6 @@ pub scatter-spec : {M : Type 1} → statement M
 scatter-spec =
     tie.close
     (tie.spec
-    Inv-loop μ-loop add-next mul-next shared-slice-read-next loop-holds cast-f sub-z shared-slice-read-z cast-z mul-to
-    sub-to add-to mul-to-2 shared-slice-read-to cast-to mul-copy-words mul-copy-words-2 mul-copy-words-3
+    Inv-loop μ-loop add-next (λ c. search needs) shared-slice-read-next loop-holds cast-f sub-z shared-slice-read-z cast-z
+    (λ c. search needs) sub-to add-to mul-to-2 shared-slice-read-to cast-to mul-copy-words mul-copy-words-2 mul-copy-words-3
     copy-words-requires add-c sub-next mul-next-2 shared-slice-read-next-2 loop-less loop-again same-length returns)

@@ -49,29 +49,8 @@ abbrev μ-loop : tie.MeasureT-loop
 loop-holds : tie.Need-loop-holds Inv-loop μ-loop
 loop-holds c = let a = c .before .before .args in record { within = omega arith; corners = corners-none (now (a .sizes)); slots = slots-none (now (a .sizes)); few = omega arith; low = omega arith; begun = begun-none _ _; past = past-none 0 _ _ }
 
-shared-slice-read-size : tie.Need-shared-slice-read-size Inv-loop μ-loop
-shared-slice-read-size c = search needs
-
-mul-order : tie.Need-mul-order Inv-loop μ-loop
-mul-order c = search needs
-
-add-order : tie.Need-add-order Inv-loop μ-loop
-add-order c = search needs
-
-mul-order-2 : tie.Need-mul-order-2 Inv-loop μ-loop
-mul-order-2 c = search needs
-
 slice-write-order : tie.Need-slice-write-order Inv-loop μ-loop
 slice-write-order c = let g = c .before .before .loop .inv in let s = c .before .before .before .before .before in omega (arith, g .past .size, s .pre .1, c .before .loop-test .taken)
-
-mul-order-3 : tie.Need-mul-order-3 Inv-loop μ-loop
-mul-order-3 c = search needs
-
-add-order-2 : tie.Need-add-order-2 Inv-loop μ-loop
-add-order-2 c = search needs
-
-mul-order-4 : tie.Need-mul-order-4 Inv-loop μ-loop
-mul-order-4 c = search needs
 
 slice-write-order-2 : tie.Need-slice-write-order-2 Inv-loop μ-loop
 slice-write-order-2 c = let g = c .before .before .loop .inv in let s = c .before .before .before .before .before in simp length-set (omega (arith, g .past .size, s .pre .1, c .before .loop-test .taken))
@@ -82,20 +61,8 @@ cast-corners c = omega (arith, c .shared-slice-known2 .given (c .before .before 
 add-corners : tie.Need-add-corners Inv-loop μ-loop
 add-corners c = let g = c .before .before .loop .inv in let s = c .before .before .before .before .before in omega (arith, g .few, s .pre .0, c .before .loop-test .taken, c .shared-slice-known2 .given (c .before .before .loop .f))
 
-slots-of-requires : tie.Need-slots-of-requires Inv-loop μ-loop
-slots-of-requires c κs = search needs
-
-cast-slots : tie.Need-cast-slots Inv-loop μ-loop
-cast-slots c = search needs
-
 add-slots : tie.Need-add-slots Inv-loop μ-loop
 add-slots c = let l = c .before .before .before in let s = l .before .before .before in omega (arith, l .loop .inv .low, s .pre .0, c .before .before .loop-test .taken, c .slots-of .ensures .1)
-
-add-f : tie.Need-add-f Inv-loop μ-loop
-add-f c = search needs
-
-loop-less : tie.Need-loop-less Inv-loop μ-loop
-loop-less c = search needs
 
 loop-again : tie.Need-loop-again Inv-loop μ-loop
 loop-again c =
@@ -117,6 +84,6 @@ pub start-faces-spec : {M : Type 1} → statement M
 start-faces-spec =
     tie.close
     (tie.spec
-    Inv-loop μ-loop loop-holds shared-slice-read-size mul-order add-order mul-order-2 slice-write-order mul-order-3
-    add-order-2 mul-order-4 slice-write-order-2 cast-corners add-corners slots-of-requires cast-slots add-slots add-f
-    loop-less loop-again same-length returns)
+    Inv-loop μ-loop loop-holds (λ c. search needs) (λ c. search needs) (λ c. search needs) (λ c. search needs) slice-write-order
+    (λ c. search needs) (λ c. search needs) (λ c. search needs) slice-write-order-2 cast-corners add-corners
+    (λ c κs. search needs) (λ c. search needs) add-slots (λ c. search needs) (λ c. search needs) loop-again same-length returns)

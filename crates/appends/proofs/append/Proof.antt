@@ -33,12 +33,6 @@ told : (c : tie.After-are-next) → let a = c .before .before .before .before .b
 unfolding firstTorn recordsOf
 told c = c .are-next .ensures
 
-writable-requires : tie.Need-writable-requires
-writable-requires c κs = search needs
-
-refused-requires : tie.Need-refused-requires
-refused-requires c κs = search needs
-
 returns : tie.Need-returns
 unfolding afterAppend notAdded
 returns c =
@@ -51,15 +45,6 @@ cast-count : tie.Need-cast-count
 unfolding recordsOf
 cast-count c = omega (arith, few-records (c .before .before .before .before .args .records .now) (can c))
 
-blocks-for-requires : tie.Need-blocks-for-requires
-blocks-for-requires c κs = search needs
-
-mul-if2 : tie.Need-mul-if2
-mul-if2 c = search needs
-
-refused-requires-2 : tie.Need-refused-requires-2
-refused-requires-2 c κs = search needs
-
 returns-2 : tie.Need-returns-2
 unfolding afterAppend notAdded cardBytes recordsOf
 returns-2 c =
@@ -68,12 +53,6 @@ returns-2 c =
     let a = e .before .before .before .before .args in
     ap (λ (r : Appended). afterAppend r (a .lent .now)) (c .refused2 .ensures)
     ∙ sym (added-2 (a .total) (a .long) (a .records .now) (a .lent .now) (can e) (omega (arith, t .if2 .taken, t .before .blocks-for .ensures .0)))
-
-overfull-requires : tie.Need-overfull-requires
-overfull-requires c κs = search needs
-
-refused-requires-3 : tie.Need-refused-requires-3
-refused-requires-3 c κs = search needs
 
 returns-3 : tie.Need-returns-3
 unfolding afterAppend notAdded
@@ -89,9 +68,6 @@ unfolding firstTorn
 are-next-requires c =
     let a = c .before .before .before .before .before .before .before .before .args in
     omega (arith, torn-among (a .total) (a .long) (within c), blocks-le (a .total))
-
-refused-requires-4 : tie.Need-refused-requires-4
-refused-requires-4 c κs = search needs
 
 returns-4 : tie.Need-returns-4
 unfolding afterAppend notAdded
@@ -116,12 +92,6 @@ cast-t16 c =
     let f = c .before .before .before .before .before .before .before .before .before in
     omega (arith, f .blocks-for .ensures .1, few-records (f .before .before .before .before .before .args .records .now) (can (f .before)))
 
-mul-t11 : tie.Need-mul-t11
-mul-t11 c = search needs
-
-same-length : tie.Need-same-length
-same-length c = search needs
-
 returns-5 : tie.Need-returns-5
 unfolding afterAppend nowAdded firstTorn placeOf cardBytes recordsOf
 returns-5 c =
@@ -137,6 +107,6 @@ pub append-spec : {M : Type 1} → statement M
 append-spec =
     tie.close
     (tie.spec
-    writable-requires refused-requires returns cast-count blocks-for-requires mul-if2 refused-requires-2 returns-2
-    overfull-requires refused-requires-3 returns-3 are-next-requires refused-requires-4 returns-4 put-blocks-requires
-    cast-t16 mul-t11 same-length returns-5)
+    (λ c κs. search needs) (λ c κs. search needs) returns cast-count (λ c κs. search needs) (λ c. search needs)
+    (λ c κs. search needs) returns-2 (λ c κs. search needs) (λ c κs. search needs) returns-3 are-next-requires
+    (λ c κs. search needs) returns-4 put-blocks-requires cast-t16 (λ c. search needs) (λ c. search needs) returns-5)

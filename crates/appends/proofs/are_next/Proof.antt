@@ -5,16 +5,12 @@ use borrow.Author.Needs.{needs}
 use Rattle.appends.proofs.are_next.Statement.{statement}
 use Rattle.appends.proofs.are_next.Tie as tie
 
-mul-end : tie.Need-mul-end
-mul-end c = search needs
-
-add-end : tie.Need-add-end
-add-end c = search needs
-
 returns : tie.Need-returns
 unfolding areNext
 returns c = refl
 
 pub are-next-spec : {M : Type 1} → statement M
-are-next-spec = tie.close (tie.spec
-    mul-end add-end returns)
+are-next-spec =
+    tie.close
+    (tie.spec
+    (λ c. search needs) (λ c. search needs) returns)

@@ -10,20 +10,11 @@ use borrow.Author.Needs.{needs}
 use Rattle.appends.proofs.next_block.Statement.{statement}
 use Rattle.appends.proofs.next_block.Tie as tie
 
-overfull-requires : tie.Need-overfull-requires
-overfull-requires c κs = search needs
-
 returns : tie.Need-returns
 unfolding afterNext
 returns c =
     let a = c .before .before .args in
     sym (following-by (a .total) (a .long) true (sym (c .before .overfull .ensures) ∙ c .if1 .taken))
-
-wanted-requires : tie.Need-wanted-requires
-wanted-requires c κs = search needs
-
-mul-t6 : tie.Need-mul-t6
-mul-t6 c = search needs
 
 returns-2 : tie.Need-returns-2
 unfolding afterNext firstTorn placeOf
@@ -34,5 +25,7 @@ returns-2 c =
     ∙ sym (following-by (a .total) (a .long) false (sym (e .before .overfull .ensures) ∙ e .if1 .left))
 
 pub next-block-spec : {M : Type 1} → statement M
-next-block-spec = tie.close (tie.spec
-    overfull-requires returns wanted-requires mul-t6 returns-2)
+next-block-spec =
+    tie.close
+    (tie.spec
+    (λ c κs. search needs) returns (λ c κs. search needs) (λ c. search needs) returns-2)

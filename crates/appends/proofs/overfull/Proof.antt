@@ -8,16 +8,12 @@ use borrow.Author.Needs.{needs}
 use Rattle.appends.proofs.overfull.Statement.{statement}
 use Rattle.appends.proofs.overfull.Tie as tie
 
-blocks-for-requires : tie.Need-blocks-for-requires
-blocks-for-requires c κs = search needs
-
-mul-result : tie.Need-mul-result
-mul-result c = search needs
-
 returns : tie.Need-returns
 unfolding overfull
 returns c = ap (λ (k : ℕ). ltb (blockBytes * k) (c .before .args .long)) (c .blocks-for .ensures .0)
 
 pub overfull-spec : {M : Type 1} → statement M
-overfull-spec = tie.close (tie.spec
-    blocks-for-requires mul-result returns)
+overfull-spec =
+    tie.close
+    (tie.spec
+    (λ c κs. search needs) (λ c. search needs) returns)

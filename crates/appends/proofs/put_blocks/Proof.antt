@@ -25,19 +25,10 @@ cast-blocks-for : tie.Need-cast-blocks-for Inv-loop μ-loop
 unfolding recordsOf
 cast-blocks-for c = omega (arith, c .before .before .pre .1)
 
-blocks-for-requires : tie.Need-blocks-for-requires Inv-loop μ-loop
-blocks-for-requires c κs = search needs
-
 loop-holds : tie.Need-loop-holds Inv-loop μ-loop
 loop-holds c =
     let a = c .before .before .before .args in
     (omega arith, joined-none (a .lent .now) 0 (λ k. blockOf (a .total) (a .b + k) (part (roomWords * k) (usedWords (a .total) (a .b + k)) (a .records .now))), refl)
-
-add-put-block : tie.Need-add-put-block Inv-loop μ-loop
-add-put-block c = search needs
-
-mul-put-block : tie.Need-mul-put-block Inv-loop μ-loop
-mul-put-block c = search needs
 
 put-block-requires : tie.Need-put-block-requires Inv-loop μ-loop
 unfolding cardBytes recordsOf
@@ -49,12 +40,6 @@ put-block-requires c κs =
     let f = follows (a .total) (a .b) (recordsOf (a .records .now)) (s .pre .0) in
     let h : l .i < blocksFor (recordsOf (a .records .now)) = omega (arith, e .blocks-for .ensures .0, c .before .loop-test .taken) in
     (omega (arith, h, s .pre .3, l .inv .2), next-called (a .total) (a .b) (recordsOf (a .records .now)) (l .i) f h, next-fit (a .total) (a .b) (a .records .now) f (l .i) h)
-
-add-i : tie.Need-add-i Inv-loop μ-loop
-add-i c = search needs
-
-loop-less : tie.Need-loop-less Inv-loop μ-loop
-loop-less c = search needs
 
 loop-again : tie.Need-loop-again Inv-loop μ-loop
 unfolding recordsOf
@@ -72,9 +57,6 @@ loop-again c =
       p .put-block .kept .0 ∙ l .inv .2,
     )
 
-same-length : tie.Need-same-length Inv-loop μ-loop
-same-length c = search needs
-
 returns : tie.Need-returns Inv-loop μ-loop
 unfolding cardBytes blocksFrom recordsOf
 returns c =
@@ -91,5 +73,5 @@ pub put-blocks-spec : {M : Type 1} → statement M
 put-blocks-spec =
     tie.close
     (tie.spec
-    Inv-loop μ-loop cast-blocks-for blocks-for-requires loop-holds add-put-block mul-put-block put-block-requires
-    add-i loop-less loop-again same-length returns)
+    Inv-loop μ-loop cast-blocks-for (λ c κs. search needs) loop-holds (λ c. search needs) (λ c. search needs) put-block-requires
+    (λ c. search needs) (λ c. search needs) loop-again (λ c. search needs) returns)

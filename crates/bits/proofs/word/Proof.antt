@@ -13,8 +13,8 @@ returns c = sym (ap (toBits binary32) (unlike-itself (c .before .args .x) (c .if
 float-to-bits-result : tie.Need-float-to-bits-result
 float-to-bits-result c = like-itself (c .before .args .x) (c .if1 .left)
 
-returns-2 : tie.Need-returns-2
-returns-2 c = search needs
-
 pub word-spec : {M : Type 1} → statement M
-word-spec = tie.close (tie.spec returns float-to-bits-result returns-2)
+word-spec =
+    tie.close
+    (tie.spec
+    returns float-to-bits-result (λ c. search needs))

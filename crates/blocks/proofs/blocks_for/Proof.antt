@@ -6,16 +6,12 @@ use borrow.Author.Needs.{needs}
 use Rattle.blocks.proofs.blocks_for.Statement.{statement}
 use Rattle.blocks.proofs.blocks_for.Tie as tie
 
-sub-result : tie.Need-sub-result
-sub-result c = search needs
-
-add-result : tie.Need-add-result
-add-result c = search needs
-
 returns : tie.Need-returns
 unfolding blocksFor
 returns c = (refl, omega arith)
 
 pub blocks-for-spec : {M : Type 1} → statement M
-blocks-for-spec = tie.close (tie.spec
-    sub-result add-result returns)
+blocks-for-spec =
+    tie.close
+    (tie.spec
+    (λ c. search needs) (λ c. search needs) returns)

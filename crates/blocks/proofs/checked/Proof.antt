@@ -10,18 +10,6 @@ use borrow.Author.Needs.{needs}
 use Rattle.blocks.proofs.checked.Statement.{statement}
 use Rattle.blocks.proofs.checked.Tie as tie
 
-add-word-at : tie.Need-add-word-at
-add-word-at c = search needs
-
-word-at-requires : tie.Need-word-at-requires
-word-at-requires c κs = search needs
-
-sum-at-requires : tie.Need-sum-at-requires
-sum-at-requires c κs = search needs
-
-complement-requires : tie.Need-complement-requires
-complement-requires c κs = search needs
-
 returns : tie.Need-returns
 unfolding checked checkWord
 returns c =
@@ -32,5 +20,6 @@ returns c =
 
 pub checked-spec : {M : Type 1} → statement M
 checked-spec =
-    tie.close (tie.spec
-    add-word-at word-at-requires sum-at-requires complement-requires returns)
+    tie.close
+    (tie.spec
+    (λ c. search needs) (λ c κs. search needs) (λ c κs. search needs) (λ c κs. search needs) returns)

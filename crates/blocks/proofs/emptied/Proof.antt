@@ -24,23 +24,11 @@ loop-holds c =
     let a = c .before .args in
     (omega arith, every-none (λ k. eqb (wordAt (a .card .now) (a .p + k)) 0))
 
-add-word-at : tie.Need-add-word-at Inv-loop μ-loop
-add-word-at c = search needs
-
-word-at-requires : tie.Need-word-at-requires Inv-loop μ-loop
-word-at-requires c κs = search needs
-
 returns : tie.Need-returns Inv-loop μ-loop
 returns c =
     let l = c .before .before .before .loop in
     let a = c .before .before .before .before .before .args in
     sym (every-fails (a .count) (l .i) (λ k. eqb (wordAt (a .card .now) (a .p + k)) 0) (omega arith) (ap (λ w. eqb w 0) (sym (c .before .word-at .ensures)) ∙ ne-eqb _ _ (c .if1 .taken)))
-
-add-i : tie.Need-add-i Inv-loop μ-loop
-add-i c = search needs
-
-loop-less : tie.Need-loop-less Inv-loop μ-loop
-loop-less c = search needs
 
 loop-again : tie.Need-loop-again Inv-loop μ-loop
 loop-again c =
@@ -58,4 +46,5 @@ pub emptied-spec : {M : Type 1} → statement M
 emptied-spec =
     tie.close
     (tie.spec
-    Inv-loop μ-loop loop-holds add-word-at word-at-requires returns add-i loop-less loop-again returns-2)
+    Inv-loop μ-loop loop-holds (λ c. search needs) (λ c κs. search needs) returns (λ c. search needs) (λ c. search needs)
+    loop-again returns-2)

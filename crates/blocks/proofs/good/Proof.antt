@@ -43,29 +43,11 @@ returns c =
     let a = c .before .before .args in
     good-none (a .total) (a .b) (a .card .now) (omega (arith, c .if1 .taken))
 
-mul-p : tie.Need-mul-p
-mul-p c = search needs
-
-records-used-requires : tie.Need-records-used-requires
-records-used-requires c κs = search needs
-
-header-requires : tie.Need-header-requires
-header-requires c κs = search needs
-
-headed-requires : tie.Need-headed-requires
-headed-requires c κs = search needs
-
 returns-2 : tie.Need-returns-2
 returns-2 c =
     let i = c .before .before .before .before in
     let a = i .before .before .args in
     bad-header (a .total) (a .b) (a .card .now) (i .if1 .left) (sym (headed-is (c .before)) ∙ not-true _ (c .if2 .taken))
-
-add-records-marked : tie.Need-add-records-marked
-add-records-marked c = search needs
-
-records-marked-requires : tie.Need-records-marked-requires
-records-marked-requires c κs = search needs
 
 returns-3 : tie.Need-returns-3
 returns-3 c =
@@ -73,24 +55,6 @@ returns-3 c =
     let i = e .before .before .before .before in
     let a = i .before .before .args in
     bad-mark (a .total) (a .b) (a .card .now) (i .if1 .left) (sym (headed-is (e .before)) ∙ not-false _ (e .if2 .left)) (sym (marked-is (c .before)) ∙ not-true _ (c .if3 .taken))
-
-add-emptied : tie.Need-add-emptied
-add-emptied c = search needs
-
-mul-emptied : tie.Need-mul-emptied
-mul-emptied c = search needs
-
-add-emptied-2 : tie.Need-add-emptied-2
-add-emptied-2 c = search needs
-
-mul-emptied-2 : tie.Need-mul-emptied-2
-mul-emptied-2 c = search needs
-
-sub-emptied : tie.Need-sub-emptied
-sub-emptied c = search needs
-
-emptied-requires : tie.Need-emptied-requires
-emptied-requires c κs = search needs
 
 returns-4 : tie.Need-returns-4
 returns-4 c =
@@ -100,9 +64,6 @@ returns-4 c =
     let a = i .before .before .args in
     bad-rest (a .total) (a .b) (a .card .now) (i .if1 .left) (sym (headed-is (e .before)) ∙ not-false _ (e .if2 .left)) (sym (marked-is (m .before)) ∙ not-false _ (m .if3 .left))
     (sym (emptied-is (c .before)) ∙ not-true _ (c .if4 .taken))
-
-checked-requires : tie.Need-checked-requires
-checked-requires c κs = search needs
 
 returns-5 : tie.Need-returns-5
 unfolding blockAt
@@ -120,6 +81,6 @@ pub good-spec : {M : Type 1} → statement M
 good-spec =
     tie.close
     (tie.spec
-    returns mul-p records-used-requires header-requires headed-requires returns-2 add-records-marked records-marked-requires returns-3
-    add-emptied mul-emptied add-emptied-2 mul-emptied-2 sub-emptied emptied-requires returns-4 checked-requires
-    returns-5)
+    returns (λ c. search needs) (λ c κs. search needs) (λ c κs. search needs) (λ c κs. search needs) returns-2 (λ c. search needs)
+    (λ c κs. search needs) returns-3 (λ c. search needs) (λ c. search needs) (λ c. search needs) (λ c. search needs)
+    (λ c. search needs) (λ c κs. search needs) returns-4 (λ c κs. search needs) returns-5)

@@ -8,12 +8,6 @@ use borrow.Author.Needs.{needs}
 use Rattle.blocks.proofs.header.Statement.{statement}
 use Rattle.blocks.proofs.header.Tie as tie
 
-cast-t3 : tie.Need-cast-t3
-cast-t3 c = search needs
-
-records-used-requires : tie.Need-records-used-requires
-records-used-requires c κs = search needs
-
 cast-t5 : tie.Need-cast-t5
 cast-t5 c = omega (arith, c .records-used .ensures)
 
@@ -22,5 +16,7 @@ unfolding header
 returns c = ap (λ (u : ℕ). c .before .args .b ∷ u ∷ c .before .args .total ∷ spare) (c .records-used .ensures .0)
 
 pub header-spec : {M : Type 1} → statement M
-header-spec = tie.close (tie.spec
-    cast-t3 records-used-requires cast-t5 returns)
+header-spec =
+    tie.close
+    (tie.spec
+    (λ c. search needs) (λ c κs. search needs) cast-t5 returns)

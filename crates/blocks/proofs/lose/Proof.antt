@@ -25,21 +25,6 @@ loop-holds c =
     let a = c .before .args in
     (omega arith, joined-none (a .answer .now) (a .p) (λ _. spec.lost), refl)
 
-mul-lose-one : tie.Need-mul-lose-one Inv-loop μ-loop
-mul-lose-one c = search needs
-
-add-lose-one : tie.Need-add-lose-one Inv-loop μ-loop
-add-lose-one c = search needs
-
-lose-one-requires : tie.Need-lose-one-requires Inv-loop μ-loop
-lose-one-requires c κs = search needs
-
-add-r : tie.Need-add-r Inv-loop μ-loop
-add-r c = search needs
-
-loop-less : tie.Need-loop-less Inv-loop μ-loop
-loop-less c = search needs
-
 loop-again : tie.Need-loop-again Inv-loop μ-loop
 loop-again c =
     let p = c .before .before in
@@ -49,9 +34,6 @@ loop-again c =
       p .lose-one .ensures ∙ joined-stored (a .answer .now) (l .answer) (a .p) (a .p + recordWords * l .r) (λ _. spec.lost) (l .r) (ap (λ k. a .p + k) (sym (length-joined (l .r) recordWords (λ _. spec.lost) (λ i h. refl)))) (l .inv .1),
       p .lose-one .kept .0 ∙ l .inv .2,
     )
-
-same-length : tie.Need-same-length Inv-loop μ-loop
-same-length c = search needs
 
 returns : tie.Need-returns Inv-loop μ-loop
 returns c =
@@ -63,5 +45,5 @@ pub lose-spec : {M : Type 1} → statement M
 lose-spec =
     tie.close
     (tie.spec
-    Inv-loop μ-loop loop-holds mul-lose-one add-lose-one lose-one-requires add-r loop-less loop-again same-length
-    returns)
+    Inv-loop μ-loop loop-holds (λ c. search needs) (λ c. search needs) (λ c κs. search needs) (λ c. search needs)
+    (λ c. search needs) loop-again (λ c. search needs) returns)

@@ -22,35 +22,11 @@ abbrev μ-loop : tie.MeasureT-loop
 loop-holds : tie.Need-loop-holds Inv-loop μ-loop
 loop-holds c = (omega arith, refl, refl)
 
-mul-answer : tie.Need-mul-answer Inv-loop μ-loop
-mul-answer c = search needs
-
-array-read-answer : tie.Need-array-read-answer Inv-loop μ-loop
-array-read-answer c = search needs
-
-add-answer : tie.Need-add-answer Inv-loop μ-loop
-add-answer c = search needs
-
-mul-answer-2 : tie.Need-mul-answer-2 Inv-loop μ-loop
-mul-answer-2 c = search needs
-
-slice-write-answer : tie.Need-slice-write-answer Inv-loop μ-loop
-slice-write-answer c = search needs
-
-add-i : tie.Need-add-i Inv-loop μ-loop
-add-i c = search needs
-
-loop-less : tie.Need-loop-less Inv-loop μ-loop
-loop-less c = search needs
-
 loop-again : tie.Need-loop-again Inv-loop μ-loop
 loop-again c =
     let l = c .before .loop in
     let a = c .before .before .args in
     (omega arith, sets-more (a .answer .now) (l .answer) spec.lost (a .p) (l .i) (omega arith) (l .inv .1), simp length-set (l .inv .2))
-
-same-length : tie.Need-same-length Inv-loop μ-loop
-same-length c = search needs
 
 returns : tie.Need-returns Inv-loop μ-loop
 returns c =
@@ -62,5 +38,5 @@ pub lose-one-spec : {M : Type 1} → statement M
 lose-one-spec =
     tie.close
     (tie.spec
-    Inv-loop μ-loop loop-holds mul-answer array-read-answer add-answer mul-answer-2 slice-write-answer add-i loop-less
-    loop-again same-length returns)
+    Inv-loop μ-loop loop-holds (λ c. search needs) (λ c. search needs) (λ c. search needs) (λ c. search needs) (λ c. search needs)
+    (λ c. search needs) (λ c. search needs) loop-again (λ c. search needs) returns)

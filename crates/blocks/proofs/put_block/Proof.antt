@@ -9,59 +9,14 @@ use borrow.Author.Needs.{needs}
 use Rattle.blocks.proofs.put_block.Statement.{statement}
 use Rattle.blocks.proofs.put_block.Tie as tie
 
-mul-p : tie.Need-mul-p
-mul-p c = search needs
-
-records-used-requires : tie.Need-records-used-requires
-records-used-requires c κs = search needs
-
-mul-count : tie.Need-mul-count
-mul-count c = search needs
-
-header-requires : tie.Need-header-requires
-header-requires c κs = search needs
-
-slice-aggregate-put-words : tie.Need-slice-aggregate-put-words
-slice-aggregate-put-words c = search needs
-
-put-words-requires : tie.Need-put-words-requires
-put-words-requires c κs = search needs
-
-add-put-words : tie.Need-add-put-words
-add-put-words c = search needs
-
 put-words-requires-2 : tie.Need-put-words-requires-2
 put-words-requires-2 c κs =
     let u = c .before .before .before .before .before .before .before in
     let a = u .before .before .before .args in
     (omega (arith, c .before .before .before .put-words .kept .0), omega (arith, words-are (a .total) (a .b), u .records-used .ensures .0), omega arith)
 
-add-put-zeros : tie.Need-add-put-zeros
-add-put-zeros c = search needs
-
-add-put-zeros-2 : tie.Need-add-put-zeros-2
-add-put-zeros-2 c = search needs
-
-sub-put-zeros : tie.Need-sub-put-zeros
-sub-put-zeros c = search needs
-
-put-zeros-requires : tie.Need-put-zeros-requires
-put-zeros-requires c κs = search needs
-
-add-put-word : tie.Need-add-put-word
-add-put-word c = search needs
-
 add-complement : tie.Need-add-complement
 add-complement c = omega (arith, c .before .before .before .before .before .before .before .put-words2 .ensures .2, c .before .before .before .before .before .before .before .before .before .before .before .put-words .ensures .2)
-
-complement-requires : tie.Need-complement-requires
-complement-requires c κs = search needs
-
-put-word-requires : tie.Need-put-word-requires
-put-word-requires c κs = search needs
-
-same-length : tie.Need-same-length
-same-length c = search needs
 
 returns : tie.Need-returns
 returns c =
@@ -82,6 +37,7 @@ pub put-block-spec : {M : Type 1} → statement M
 put-block-spec =
     tie.close
     (tie.spec
-    mul-p records-used-requires mul-count header-requires slice-aggregate-put-words put-words-requires add-put-words
-    put-words-requires-2 add-put-zeros add-put-zeros-2 sub-put-zeros put-zeros-requires add-put-word add-complement
-    complement-requires put-word-requires same-length returns)
+    (λ c. search needs) (λ c κs. search needs) (λ c. search needs) (λ c κs. search needs) (λ c. search needs)
+    (λ c κs. search needs) (λ c. search needs) put-words-requires-2 (λ c. search needs) (λ c. search needs) (λ c. search needs)
+    (λ c κs. search needs) (λ c. search needs) add-complement (λ c κs. search needs) (λ c κs. search needs) (λ c. search needs)
+    returns)

@@ -13,39 +13,12 @@ use borrow.Author.Needs.{needs}
 use Rattle.blocks.proofs.read_block.Statement.{statement}
 use Rattle.blocks.proofs.read_block.Tie as tie
 
-records-used-requires : tie.Need-records-used-requires
-records-used-requires c κs = search needs
-
-good-requires : tie.Need-good-requires
-good-requires c κs = search needs
-
-mul-get-words : tie.Need-mul-get-words
-mul-get-words c = search needs
-
-add-get-words : tie.Need-add-get-words
-add-get-words c = search needs
-
-mul-get-words-2 : tie.Need-mul-get-words-2
-mul-get-words-2 c = search needs
-
-mul-get-words-3 : tie.Need-mul-get-words-3
-mul-get-words-3 c = search needs
-
 get-words-requires : tie.Need-get-words-requires
 get-words-requires c κs =
     let g = c .before .before in
     let a = g .before .before .before .before .args in
     let there = good-there (a .total) (a .b) (a .card .now) (sym (g .good2 .ensures) ∙ c .before .if1 .taken) in
     (omega (arith, there), omega arith)
-
-mul-lose : tie.Need-mul-lose
-mul-lose c = search needs
-
-lose-requires : tie.Need-lose-requires
-lose-requires c κs = search needs
-
-same-length : tie.Need-same-length
-same-length c = search needs
 
 returns : tie.Need-returns
 returns c =
@@ -55,9 +28,6 @@ returns c =
     let e = ap (λ (k : ℕ). recordWords * k) (u .records-used .ensures .0) ∙ sym (words-are (a .total) (a .b)) in
     c .before .before .get-words .ensures
     ∙ ap (sets (a .answer .now) (roomWords * a .b)) (ap (wordsAt (a .card .now) (blockWords * a .b + headerWords)) e ∙ sym (read-good (a .total) (a .b) (a .card .now) (sym (g .good2 .ensures) ∙ c .before .before .before .before .if1 .taken)))
-
-same-length-2 : tie.Need-same-length-2
-same-length-2 c = search needs
 
 returns-2 : tie.Need-returns-2
 returns-2 c =
@@ -71,5 +41,5 @@ pub read-block-spec : {M : Type 1} → statement M
 read-block-spec =
     tie.close
     (tie.spec
-    records-used-requires good-requires mul-get-words add-get-words mul-get-words-2 mul-get-words-3 get-words-requires
-    mul-lose lose-requires same-length returns same-length-2 returns-2)
+    (λ c κs. search needs) (λ c κs. search needs) (λ c. search needs) (λ c. search needs) (λ c. search needs) (λ c. search needs)
+    get-words-requires (λ c. search needs) (λ c κs. search needs) (λ c. search needs) returns (λ c. search needs) returns-2)

@@ -25,26 +25,11 @@ loop-holds c =
     let a = c .before .args in
     (omega arith, every-none (λ k. leb (wordAt (a .card .now) (a .p + recordWords * k)) 1))
 
-mul-word-at : tie.Need-mul-word-at Inv-loop μ-loop
-mul-word-at c = search needs
-
-add-word-at : tie.Need-add-word-at Inv-loop μ-loop
-add-word-at c = search needs
-
-word-at-requires : tie.Need-word-at-requires Inv-loop μ-loop
-word-at-requires c κs = search needs
-
 returns : tie.Need-returns Inv-loop μ-loop
 returns c =
     let l = c .before .before .before .loop in
     let a = c .before .before .before .before .before .args in
     sym (every-fails (a .count) (l .r) (λ k. leb (wordAt (a .card .now) (a .p + recordWords * k)) 1) (omega arith) (ap (λ w. leb w 1) (sym (c .before .word-at .ensures)) ∙ lt-leb (c .before .word-at .result) 1 (omega (arith, c .if1 .taken))))
-
-add-r : tie.Need-add-r Inv-loop μ-loop
-add-r c = search needs
-
-loop-less : tie.Need-loop-less Inv-loop μ-loop
-loop-less c = search needs
 
 loop-again : tie.Need-loop-again Inv-loop μ-loop
 loop-again c =
@@ -62,4 +47,5 @@ pub records-marked-spec : {M : Type 1} → statement M
 records-marked-spec =
     tie.close
     (tie.spec
-    Inv-loop μ-loop loop-holds mul-word-at add-word-at word-at-requires returns add-r loop-less loop-again returns-2)
+    Inv-loop μ-loop loop-holds (λ c. search needs) (λ c. search needs) (λ c κs. search needs) returns (λ c. search needs)
+    (λ c. search needs) loop-again returns-2)

@@ -5,12 +5,6 @@ use borrow.Author.Needs.{needs}
 use Rattle.blocks.proofs.records_used.Statement.{statement}
 use Rattle.blocks.proofs.records_used.Tie as tie
 
-mul-left : tie.Need-mul-left
-mul-left c = search needs
-
-sub-left : tie.Need-sub-left
-sub-left c = search needs
-
 returns : tie.Need-returns
 unfolding recordsUsed
 returns c = (omega arith, omega arith, omega arith)
@@ -20,5 +14,7 @@ unfolding recordsUsed
 returns-2 c = (omega arith, omega arith, omega arith)
 
 pub records-used-spec : {M : Type 1} → statement M
-records-used-spec = tie.close (tie.spec
-    mul-left sub-left returns returns-2)
+records-used-spec =
+    tie.close
+    (tie.spec
+    (λ c. search needs) (λ c. search needs) returns returns-2)

@@ -23,26 +23,11 @@ abbrev μ-loop : tie.MeasureT-loop
 loop-holds : tie.Need-loop-holds Inv-loop μ-loop
 loop-holds c = (omega arith, every-none (λ k. leb (getD (c .args .answer .now) (recordWords * k) 0) 1))
 
-mul-if1 : tie.Need-mul-if1 Inv-loop μ-loop
-mul-if1 c = search needs
-
-mul-if1-2 : tie.Need-mul-if1-2 Inv-loop μ-loop
-mul-if1-2 c = search needs
-
-shared-slice-read-if1 : tie.Need-shared-slice-read-if1 Inv-loop μ-loop
-shared-slice-read-if1 c = search needs
-
 returns : tie.Need-returns Inv-loop μ-loop
 returns c =
     let l = c .before .before .before .loop in
     let a = c .before .before .before .before .args in
     sym (every-fails (a .count) (l .r) (λ k. leb (getD (a .answer .now) (recordWords * k) 0) 1) (omega arith) (lt-leb (getD (a .answer .now) (recordWords * l .r) 0) 1 (omega (arith, c .if1 .taken))))
-
-add-r : tie.Need-add-r Inv-loop μ-loop
-add-r c = search needs
-
-loop-less : tie.Need-loop-less Inv-loop μ-loop
-loop-less c = search needs
 
 loop-again : tie.Need-loop-again Inv-loop μ-loop
 loop-again c =
@@ -60,4 +45,5 @@ pub all-marked-spec : {M : Type 1} → statement M
 all-marked-spec =
     tie.close
     (tie.spec
-    Inv-loop μ-loop loop-holds mul-if1 mul-if1-2 shared-slice-read-if1 returns add-r loop-less loop-again returns-2)
+    Inv-loop μ-loop loop-holds (λ c. search needs) (λ c. search needs) (λ c. search needs) returns (λ c. search needs)
+    (λ c. search needs) loop-again returns-2)

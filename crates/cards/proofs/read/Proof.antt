@@ -13,15 +13,6 @@ returns c =
     let a = c .before .before .before .args in
     sym (got-2 (a .total) (a .card .now) (a .answer .now) (omega arith))
 
-read-blocks-requires : tie.Need-read-blocks-requires
-read-blocks-requires c κs = search needs
-
-bytes-past-requires : tie.Need-bytes-past-requires
-bytes-past-requires c κs = search needs
-
-same-length : tie.Need-same-length
-same-length c = search needs
-
 returns-2 : tie.Need-returns-2
 unfolding afterRead
 returns-2 c =
@@ -32,5 +23,6 @@ returns-2 c =
 
 pub read-spec : {M : Type 1} → statement M
 read-spec =
-    tie.close (tie.spec
-    returns read-blocks-requires bytes-past-requires same-length returns-2)
+    tie.close
+    (tie.spec
+    returns (λ c κs. search needs) (λ c κs. search needs) (λ c. search needs) returns-2)

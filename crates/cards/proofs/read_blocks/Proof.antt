@@ -22,9 +22,6 @@ Inv-loop card total answer₀ b₀ b-end answer b = (b ≤ b-end) × (answer ≡
 abbrev μ-loop : tie.MeasureT-loop
 μ-loop card total answer₀ b₀ b-end answer b = b-end - b
 
-blocks-for-requires : tie.Need-blocks-for-requires Inv-loop μ-loop
-blocks-for-requires c κs = search needs
-
 loop-holds : tie.Need-loop-holds Inv-loop μ-loop
 loop-holds c =
     let a = c .before .before .before .args in
@@ -36,12 +33,6 @@ read-block-requires c κs =
     let f = c .before .before .before in
     let s = f .before .before .before in
     (called (s .args .total) (l .b) (omega (arith, f .blocks-for .ensures .0, c .before .loop-test .taken)), omega (arith, s .pre, l .inv .2))
-
-add-b : tie.Need-add-b Inv-loop μ-loop
-add-b c = search needs
-
-loop-less : tie.Need-loop-less Inv-loop μ-loop
-loop-less c = search needs
 
 loop-again : tie.Need-loop-again Inv-loop μ-loop
 loop-again c =
@@ -56,9 +47,6 @@ loop-again c =
       p .read-block .kept .1 .1 .1 .0 ∙ l .inv .2,
     )
 
-same-length : tie.Need-same-length Inv-loop μ-loop
-same-length c = search needs
-
 returns : tie.Need-returns Inv-loop μ-loop
 unfolding readings
 returns c =
@@ -72,4 +60,5 @@ pub read-blocks-spec : {M : Type 1} → statement M
 read-blocks-spec =
     tie.close
     (tie.spec
-    Inv-loop μ-loop blocks-for-requires loop-holds read-block-requires add-b loop-less loop-again same-length returns)
+    Inv-loop μ-loop (λ c κs. search needs) loop-holds read-block-requires (λ c. search needs) (λ c. search needs) loop-again
+    (λ c. search needs) returns)

@@ -26,9 +26,6 @@ returns-2 c =
     let l = c .before .before .before .args .answer .now in
     sym (λ z. eq-eqb (length l % recordWords) 0 (omega (arith, c .before .if1 .left)) z && le-ltb (length l / recordWords) wordValues (omega (arith, c .if2 .taken)) z && everyBelow (length l / recordWords) (λ r. leb (getD l (recordWords * r) 0) 1))
 
-all-marked-requires : tie.Need-all-marked-requires
-all-marked-requires c κs = search needs
-
 returns-3 : tie.Need-returns-3
 unfolding writable recordsOf
 returns-3 c =
@@ -38,5 +35,7 @@ returns-3 c =
     ∙ sym (λ z. eq-eqb (length l % recordWords) 0 (omega (arith, e .before .if1 .left)) z && lt-ltb (length l / recordWords) wordValues (omega (arith, e .if2 .left)) z && everyBelow (length l / recordWords) (λ r. leb (getD l (recordWords * r) 0) 1))
 
 pub writable-spec : {M : Type 1} → statement M
-writable-spec = tie.close (tie.spec
-    returns returns-2 all-marked-requires returns-3)
+writable-spec =
+    tie.close
+    (tie.spec
+    returns returns-2 (λ c κs. search needs) returns-3)

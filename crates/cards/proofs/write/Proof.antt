@@ -16,9 +16,6 @@ use Rattle.cards.proofs.write.Tie as tie
 can : (c : tie.Else1) → writable (c .before .before .before .before .args .answer .now) ≡ true
 can c = sym (c .before .writable .ensures) ∙ not-false _ (c .if1 .left)
 
-writable-requires : tie.Need-writable-requires
-writable-requires c κs = search needs
-
 returns : tie.Need-returns
 unfolding afterWrite notWritten
 returns c =
@@ -28,12 +25,6 @@ returns c =
 cast-total : tie.Need-cast-total
 unfolding recordsOf
 cast-total c = omega (arith, few-records (c .before .before .before .before .args .answer .now) (can c))
-
-blocks-for-requires : tie.Need-blocks-for-requires
-blocks-for-requires c κs = search needs
-
-mul-bytes : tie.Need-mul-bytes
-mul-bytes c = search needs
 
 returns-2 : tie.Need-returns-2
 unfolding afterWrite notWritten recordsOf cardBytes
@@ -45,9 +36,6 @@ returns-2 c =
 write-blocks-requires : tie.Need-write-blocks-requires
 unfolding cardBytes
 write-blocks-requires c κs = (omega arith, omega (arith, c .before .if2 .left, c .before .before .blocks-for .ensures .0))
-
-same-length : tie.Need-same-length
-same-length c = search needs
 
 returns-3 : tie.Need-returns-3
 unfolding afterWrite cardWritten cardOf recordsOf cardBytes
@@ -62,5 +50,5 @@ pub write-spec : {M : Type 1} → statement M
 write-spec =
     tie.close
     (tie.spec
-    writable-requires returns cast-total blocks-for-requires mul-bytes returns-2 write-blocks-requires same-length
-    returns-3)
+    (λ c κs. search needs) returns cast-total (λ c κs. search needs) (λ c. search needs) returns-2 write-blocks-requires
+    (λ c. search needs) returns-3)

@@ -20,17 +20,11 @@ Inv-loop answer total card₀ b₀ b-end card b = (b ≤ b-end) × (card ≡ set
 abbrev μ-loop : tie.MeasureT-loop
 μ-loop answer total card₀ b₀ b-end card b = b-end - b
 
-blocks-for-requires : tie.Need-blocks-for-requires Inv-loop μ-loop
-blocks-for-requires c κs = search needs
-
 loop-holds : tie.Need-loop-holds Inv-loop μ-loop
 unfolding blocksOf
 loop-holds c =
     let a = c .before .before .before .args in
     (omega arith, joined-none (a .card .now) 0 (λ b. blockOf (a .total) b (recordsIn (a .total) b (a .answer .now))), refl)
-
-mul-put-block : tie.Need-mul-put-block Inv-loop μ-loop
-mul-put-block c = search needs
 
 put-block-requires : tie.Need-put-block-requires Inv-loop μ-loop
 unfolding cardBytes
@@ -40,12 +34,6 @@ put-block-requires c κs =
     let a = f .before .before .before .args in
     let k = called (a .total) (l .b) (omega (arith, f .blocks-for .ensures .0, c .before .loop-test .taken)) in
     (omega (arith, f .blocks-for .ensures .0, f .before .before .before .pre .1, l .inv .2), k, omega (arith, words-are (a .total) (l .b), used-fits (a .total) (l .b) k))
-
-add-b : tie.Need-add-b Inv-loop μ-loop
-add-b c = search needs
-
-loop-less : tie.Need-loop-less Inv-loop μ-loop
-loop-less c = search needs
 
 loop-again : tie.Need-loop-again Inv-loop μ-loop
 unfolding blocksOf recordsIn
@@ -62,9 +50,6 @@ loop-again c =
       p .put-block .kept .0 ∙ l .inv .2,
     )
 
-same-length : tie.Need-same-length Inv-loop μ-loop
-same-length c = search needs
-
 returns : tie.Need-returns Inv-loop μ-loop
 unfolding cardBytes blocksOf
 returns c =
@@ -79,5 +64,5 @@ pub write-blocks-spec : {M : Type 1} → statement M
 write-blocks-spec =
     tie.close
     (tie.spec
-    Inv-loop μ-loop blocks-for-requires loop-holds mul-put-block put-block-requires add-b loop-less loop-again
-    same-length returns)
+    Inv-loop μ-loop (λ c κs. search needs) loop-holds (λ c. search needs) put-block-requires (λ c. search needs)
+    (λ c. search needs) loop-again (λ c. search needs) returns)

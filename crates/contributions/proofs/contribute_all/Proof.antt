@@ -16,9 +16,6 @@ Inv-loop work₀ rows tris positions normals cosines₀ t₀ work t = (t ≤ tri
 abbrev μ-loop : tie.MeasureT-loop
 μ-loop work₀ rows tris positions normals cosines₀ t₀ work t = tris - t
 
-table-requires : tie.Need-table-requires Inv-loop μ-loop
-table-requires c κs = search needs
-
 loop-holds : tie.Need-loop-holds Inv-loop μ-loop
 loop-holds c = let a = c .before .before .before .before .args in (omega arith, none-done (a .rows) (a .positions .now) (a .normals .now) (a .tris) (a .work .now))
 
@@ -28,12 +25,6 @@ contribute-triangle-requires c κs =
     let l = i .before .loop in
     let s = i .before .before .before .before .before .before in
     (i .before .before .table .ensures, omega (arith, s .pre .0, i .loop-test .taken), omega (arith, s .pre .1, l .inv .1 .only .size))
-
-add-t : tie.Need-add-t Inv-loop μ-loop
-add-t c = search needs
-
-loop-less : tie.Need-loop-less Inv-loop μ-loop
-loop-less c = search needs
 
 loop-again : tie.Need-loop-again Inv-loop μ-loop
 loop-again c =
@@ -57,5 +48,5 @@ pub contribute-all-spec : {M : Type 1} → statement M
 contribute-all-spec =
     tie.close
     (tie.spec
-    Inv-loop μ-loop table-requires loop-holds contribute-triangle-requires add-t loop-less loop-again same-length
-    returns)
+    Inv-loop μ-loop (λ c κs. search needs) loop-holds contribute-triangle-requires (λ c. search needs) (λ c. search needs)
+    loop-again same-length returns)

@@ -16,63 +16,6 @@ use Rattle.contributions.proofs.store.Tie as tie
 held : (c : tie.Start) → T (fits binary32 (c .args .opening))
 held c = search needs
 
-mul-put-vector : tie.Need-mul-put-vector
-mul-put-vector c = search needs
-
-add-put-vector : tie.Need-add-put-vector
-add-put-vector c = search needs
-
-mul-put-vector-2 : tie.Need-mul-put-vector-2
-mul-put-vector-2 c = search needs
-
-add-put-vector-2 : tie.Need-add-put-vector-2
-add-put-vector-2 c = search needs
-
-mul-put-vector-3 : tie.Need-mul-put-vector-3
-mul-put-vector-3 c = search needs
-
-add-put-vector-3 : tie.Need-add-put-vector-3
-add-put-vector-3 c = search needs
-
-put-vector-requires : tie.Need-put-vector-requires
-put-vector-requires c κs = search needs
-
-mul-put-vector-4 : tie.Need-mul-put-vector-4
-mul-put-vector-4 c = search needs
-
-add-put-vector-4 : tie.Need-add-put-vector-4
-add-put-vector-4 c = search needs
-
-mul-put-vector-5 : tie.Need-mul-put-vector-5
-mul-put-vector-5 c = search needs
-
-add-put-vector-5 : tie.Need-add-put-vector-5
-add-put-vector-5 c = search needs
-
-mul-put-vector-6 : tie.Need-mul-put-vector-6
-mul-put-vector-6 c = search needs
-
-add-put-vector-6 : tie.Need-add-put-vector-6
-add-put-vector-6 c = search needs
-
-put-vector-requires-2 : tie.Need-put-vector-requires-2
-put-vector-requires-2 c κs = search needs
-
-word-requires : tie.Need-word-requires
-word-requires c κs = search needs
-
-mul-work : tie.Need-mul-work
-mul-work c = search needs
-
-add-work : tie.Need-add-work
-add-work c = search needs
-
-mul-work-2 : tie.Need-mul-work-2
-mul-work-2 c = search needs
-
-slice-write-work : tie.Need-slice-write-work
-slice-write-work c = search needs
-
 same-length : tie.Need-same-length
 same-length c = simp length-set (omega arith)
 
@@ -93,7 +36,7 @@ pub store-spec : {M : Type 1} → statement M
 store-spec =
     tie.close
     (tie.spec
-    mul-put-vector add-put-vector mul-put-vector-2 add-put-vector-2 mul-put-vector-3 add-put-vector-3
-    put-vector-requires mul-put-vector-4 add-put-vector-4 mul-put-vector-5 add-put-vector-5 mul-put-vector-6
-    add-put-vector-6 put-vector-requires-2 word-requires mul-work add-work mul-work-2 slice-write-work same-length
-    returns)
+    (λ c. search needs) (λ c. search needs) (λ c. search needs) (λ c. search needs) (λ c. search needs) (λ c. search needs)
+    (λ c κs. search needs) (λ c. search needs) (λ c. search needs) (λ c. search needs) (λ c. search needs) (λ c. search needs)
+    (λ c. search needs) (λ c κs. search needs) (λ c κs. search needs) (λ c. search needs) (λ c. search needs) (λ c. search needs)
+    (λ c. search needs) same-length returns)

@@ -25,12 +25,6 @@ copy-missing-requires c κs =
     let s = c .before .before .before .before .before .before in
     (omega (arith, s .pre .0, c .before .loop-test .taken), s .pre .1)
 
-add-t : tie.Need-add-t Inv-loop μ-loop
-add-t c = search needs
-
-loop-less : tie.Need-loop-less Inv-loop μ-loop
-loop-less c = search needs
-
 loop-again : tie.Need-loop-again Inv-loop μ-loop
 unfolding missingsCopied
 loop-again c =
@@ -51,5 +45,4 @@ pub copy-all-missing-spec : {M : Type 1} → statement M
 copy-all-missing-spec =
     tie.close
     (tie.spec
-    Inv-loop μ-loop loop-holds copy-missing-requires add-t loop-less loop-again same-length
-    returns)
+    Inv-loop μ-loop loop-holds copy-missing-requires (λ c. search needs) (λ c. search needs) loop-again same-length returns)

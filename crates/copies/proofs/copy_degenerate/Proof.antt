@@ -24,12 +24,6 @@ copy-triangle-requires c κs =
     let s = c .before .before .before .before .before in
     (omega (arith, s .pre .1, c .before .loop-test .taken), omega (arith, s .pre .0, s .pre .1), s .pre .2)
 
-add-t : tie.Need-add-t Inv-loop μ-loop
-add-t c = search needs
-
-loop-less : tie.Need-loop-less Inv-loop μ-loop
-loop-less c = search needs
-
 loop-again : tie.Need-loop-again Inv-loop μ-loop
 loop-again c =
     let t = c .before .before in
@@ -48,5 +42,4 @@ pub copy-degenerate-spec : {M : Type 1} → statement M
 copy-degenerate-spec =
     tie.close
     (tie.spec
-    Inv-loop μ-loop loop-holds copy-triangle-requires add-t loop-less loop-again same-length
-    returns)
+    Inv-loop μ-loop loop-holds copy-triangle-requires (λ c. search needs) (λ c. search needs) loop-again same-length returns)

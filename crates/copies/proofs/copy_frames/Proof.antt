@@ -6,15 +6,6 @@ use borrow.Author.Needs.{needs}
 use Rattle.copies.proofs.copy_frames.Statement.{statement}
 use Rattle.copies.proofs.copy_frames.Tie as tie
 
-copy-degenerate-requires : tie.Need-copy-degenerate-requires
-copy-degenerate-requires c κs = search needs
-
-copy-all-missing-requires : tie.Need-copy-all-missing-requires
-copy-all-missing-requires c κs = search needs
-
-same-length : tie.Need-same-length
-same-length c = search needs
-
 returns : tie.Need-returns
 unfolding framesCopied
 returns c =
@@ -25,4 +16,6 @@ returns c =
 
 pub copy-frames-spec : {M : Type 1} → statement M
 copy-frames-spec =
-    tie.close (tie.spec copy-degenerate-requires copy-all-missing-requires same-length returns)
+    tie.close
+    (tie.spec
+    (λ c κs. search needs) (λ c κs. search needs) (λ c. search needs) returns)

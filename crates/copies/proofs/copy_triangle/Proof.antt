@@ -4,35 +4,11 @@ use borrow.Author.Needs.{needs}
 use Rattle.copies.proofs.copy_triangle.Statement.{statement}
 use Rattle.copies.proofs.copy_triangle.Tie as tie
 
-is-marked-requires : tie.Need-is-marked-requires
-is-marked-requires c κs = search needs
-
 returns : tie.Need-returns
 returns c =
     let m = c .before in
     let a = m .before .before .before .args in
     triangle-marked (a .rows) (a .sound) (a .work .now) (a .t) (a .answer .now) _ (m .is-marked .ensures) (c .if1 .taken)
-
-mul-at : tie.Need-mul-at
-mul-at c = search needs
-
-copy-corner-requires : tie.Need-copy-corner-requires
-copy-corner-requires c κs = search needs
-
-add-copy-corner : tie.Need-add-copy-corner
-add-copy-corner c = search needs
-
-copy-corner-requires-2 : tie.Need-copy-corner-requires-2
-copy-corner-requires-2 c κs = search needs
-
-add-copy-corner-2 : tie.Need-add-copy-corner-2
-add-copy-corner-2 c = search needs
-
-copy-corner-requires-3 : tie.Need-copy-corner-requires-3
-copy-corner-requires-3 c κs = search needs
-
-same-length : tie.Need-same-length
-same-length c = search needs
 
 returns-2 : tie.Need-returns-2
 returns-2 c =
@@ -48,5 +24,5 @@ pub copy-triangle-spec : {M : Type 1} → statement M
 copy-triangle-spec =
     tie.close
     (tie.spec
-    is-marked-requires returns mul-at copy-corner-requires add-copy-corner
-    copy-corner-requires-2 add-copy-corner-2 copy-corner-requires-3 same-length returns-2)
+    (λ c κs. search needs) returns (λ c. search needs) (λ c κs. search needs) (λ c. search needs) (λ c κs. search needs)
+    (λ c. search needs) (λ c κs. search needs) (λ c. search needs) returns-2)

@@ -7,33 +7,12 @@ use borrow.Author.Needs.{needs}
 use Rattle.copies.proofs.kept_at.Statement.{statement}
 use Rattle.copies.proofs.kept_at.Tie as tie
 
-mul-at : tie.Need-mul-at
-mul-at c = search needs
-
-corner-place-requires : tie.Need-corner-place-requires
-corner-place-requires c κs = search needs
-
-equals-requires : tie.Need-equals-requires
-equals-requires c κs = search needs
-
 returns : tie.Need-returns
 returns c =
     let e = c .before in
     let s = e .before .before .before .before in
     let a = s .args in
     (sym (kept-by (a .rows) (a .positions .now) (a .work .now) (a .t) (a .place) _ _ (e .before .corner-place .ensures) refl true _ (sym (e .equals .ensures) ∙ c .if1 .taken) refl), omega (arith, s .pre .0))
-
-add-corner-place : tie.Need-add-corner-place
-add-corner-place c = search needs
-
-corner-place-requires-2 : tie.Need-corner-place-requires-2
-corner-place-requires-2 c κs = search needs
-
-equals-requires-2 : tie.Need-equals-requires-2
-equals-requires-2 c κs = search needs
-
-add-result : tie.Need-add-result
-add-result c = search needs
 
 returns-2 : tie.Need-returns-2
 returns-2 c =
@@ -42,9 +21,6 @@ returns-2 c =
     let s = e .before .before .before .before in
     let a = s .args in
     (sym (kept-by (a .rows) (a .positions .now) (a .work .now) (a .t) (a .place) _ _ (e .before .corner-place .ensures) (f .before .corner-place2 .ensures) false true (sym (e .equals .ensures) ∙ f .before .before .if1 .left) (sym (f .equals2 .ensures) ∙ c .if2 .taken)), omega (arith, s .pre .0))
-
-add-result-2 : tie.Need-add-result-2
-add-result-2 c = search needs
 
 returns-3 : tie.Need-returns-3
 returns-3 c =
@@ -58,5 +34,5 @@ pub kept-at-spec : {M : Type 1} → statement M
 kept-at-spec =
     tie.close
     (tie.spec
-    mul-at corner-place-requires equals-requires returns add-corner-place
-    corner-place-requires-2 equals-requires-2 add-result returns-2 add-result-2 returns-3)
+    (λ c. search needs) (λ c κs. search needs) (λ c κs. search needs) returns (λ c. search needs) (λ c κs. search needs)
+    (λ c κs. search needs) (λ c. search needs) returns-2 (λ c. search needs) returns-3)

@@ -6,20 +6,17 @@ use borrow.Author.Needs.{needs}
 use Rattle.copies.proofs.missed.Statement.{statement}
 use Rattle.copies.proofs.missed.Tie as tie
 
-add-result : tie.Need-add-result
-add-result c = search needs
-
 returns : tie.Need-returns
 returns c = (sym (missed-later _ _ (c .if1 .taken)), omega (arith, c .before .pre .0, c .before .pre .1))
 
 returns-2 : tie.Need-returns-2
 returns-2 c = (omega (arith, c .if2 .taken, missed-first (c .before .before .args .first) _ (c .before .if1 .left)), omega arith)
 
-sub-result : tie.Need-sub-result
-sub-result c = search needs
-
 returns-3 : tie.Need-returns-3
 returns-3 c = (sym (missed-first _ _ (c .before .if1 .left)), omega (arith, c .before .before .pre .0))
 
 pub missed-spec : {M : Type 1} → statement M
-missed-spec = tie.close (tie.spec add-result returns returns-2 sub-result returns-3)
+missed-spec =
+    tie.close
+    (tie.spec
+    (λ c. search needs) returns returns-2 (λ c. search needs) returns-3)

@@ -4,24 +4,6 @@ use borrow.Author.Needs.{needs}
 use Rattle.copies.proofs.place_at.Statement.{statement}
 use Rattle.copies.proofs.place_at.Tie as tie
 
-mul-at : tie.Need-mul-at
-mul-at c = search needs
-
-number-at-requires : tie.Need-number-at-requires
-number-at-requires c κs = search needs
-
-add-number-at : tie.Need-add-number-at
-add-number-at c = search needs
-
-number-at-requires-2 : tie.Need-number-at-requires-2
-number-at-requires-2 c κs = search needs
-
-add-number-at-2 : tie.Need-add-number-at-2
-add-number-at-2 c = search needs
-
-number-at-requires-3 : tie.Need-number-at-requires-3
-number-at-requires-3 c κs = search needs
-
 returns : tie.Need-returns
 unfolding vectorAt
 returns c = cc
@@ -30,5 +12,5 @@ pub place-at-spec : {M : Type 1} → statement M
 place-at-spec =
     tie.close
     (tie.spec
-    mul-at number-at-requires add-number-at number-at-requires-2 add-number-at-2
-    number-at-requires-3 returns)
+    (λ c. search needs) (λ c κs. search needs) (λ c. search needs) (λ c κs. search needs) (λ c. search needs)
+    (λ c κs. search needs) returns)

@@ -5,22 +5,16 @@ use borrow.Author.Needs.{needs}
 use Rattle.desk.proofs.bad_by_now.Statement.{statement}
 use Rattle.desk.proofs.bad_by_now.Tie as tie
 
-enum-known-bad : tie.Need-enum-known-bad
-enum-known-bad c = search needs
-
 returns : tie.Need-returns
 unfolding found unlessFound
 returns c = rw (c .before .bad .given .1)
-
-enum-told : tie.Need-enum-told
-enum-told c = search needs
-
-bad-face-requires : tie.Need-bad-face-requires
-bad-face-requires c κs = search needs
 
 returns-2 : tie.Need-returns-2
 unfolding unlessFound
 returns-2 c = rw (c .before .enum-told .given .1) (c .bad-face .ensures)
 
 pub bad-by-now-spec : {M : Type 1} → statement M
-bad-by-now-spec = tie.close (tie.spec enum-known-bad returns enum-told bad-face-requires returns-2)
+bad-by-now-spec =
+    tie.close
+    (tie.spec
+    (λ c. search needs) returns (λ c. search needs) (λ c κs. search needs) returns-2)

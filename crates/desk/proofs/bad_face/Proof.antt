@@ -8,9 +8,6 @@ use borrow.Author.Needs.{needs}
 use Rattle.desk.proofs.bad_face.Statement.{statement}
 use Rattle.desk.proofs.bad_face.Tie as tie
 
-slots-of-requires : tie.Need-slots-of-requires
-slots-of-requires c κs = search needs
-
 returns : tie.Need-returns
 unfolding found
 returns c =
@@ -18,9 +15,6 @@ returns c =
     let n = s .before .before .before .before .args .size in
     let e : used n ≡ false = takes-none n (sym (s .slots-of .ensures .0) ∙ c .if1 .taken) in
     rw (e)
-
-bad-in-requires : tie.Need-bad-in-requires
-bad-in-requires c κs = search needs
 
 returns-2 : tie.Need-returns-2
 returns-2 c =
@@ -30,4 +24,7 @@ returns-2 c =
     rw (e) (c .bad-in .ensures)
 
 pub bad-face-spec : {M : Type 1} → statement M
-bad-face-spec = tie.close (tie.spec slots-of-requires returns bad-in-requires returns-2)
+bad-face-spec =
+    tie.close
+    (tie.spec
+    (λ c κs. search needs) returns (λ c κs. search needs) returns-2)

@@ -21,12 +21,6 @@ abbrev μ-loop : tie.MeasureT-loop
 loop-holds : tie.Need-loop-holds Inv-loop μ-loop
 loop-holds c = (refl, refl)
 
-corner-at-requires : tie.Need-corner-at-requires Inv-loop μ-loop
-corner-at-requires c κs = search needs
-
-finite-corner-requires : tie.Need-finite-corner-requires Inv-loop μ-loop
-finite-corner-requires c κs = search needs
-
 returns : tie.Need-returns Inv-loop μ-loop
 unfolding found
 returns c =
@@ -35,15 +29,6 @@ returns c =
     let a = b .before .before .before .before .before .args in
     let e : finiteCorner (cornerAt (a .positions .now) (a .normals .now) (a .texture .now) (l .i)) ≡ false = rw (← c .before .before .corner-at .ensures, ← c .before .finite-corner .ensures, not-true (c .before .finite-corner .result) (c .if1 .taken)) in
     rw (← l .inv .1, bad-here (a .positions .now) (a .normals .now) (a .texture .now) (l .i) (l .left) (b .loop-test .taken) e)
-
-add-i : tie.Need-add-i Inv-loop μ-loop
-add-i c = omega arith
-
-sub-left : tie.Need-sub-left Inv-loop μ-loop
-sub-left c = search needs
-
-loop-less : tie.Need-loop-less Inv-loop μ-loop
-loop-less c = search needs
 
 loop-again : tie.Need-loop-again Inv-loop μ-loop
 loop-again c =
@@ -65,14 +50,5 @@ pub bad-in-spec : {M : Type 1} → statement M
 bad-in-spec =
     tie.close
     (tie.spec
-    Inv-loop
-    μ-loop
-    loop-holds
-    corner-at-requires
-    finite-corner-requires
-    returns
-    add-i
-    sub-left
-    loop-less
-    loop-again
-    returns-2)
+    Inv-loop μ-loop loop-holds (λ c κs. search needs) (λ c κs. search needs) returns (λ c. omega arith) (λ c. search needs)
+    (λ c. search needs) loop-again returns-2)

@@ -4,18 +4,6 @@ use borrow.Author.Needs.{needs}
 use Rattle.desk.proofs.finite_corner.Statement.{statement}
 use Rattle.desk.proofs.finite_corner.Tie as tie
 
-finite-vector-requires : tie.Need-finite-vector-requires
-finite-vector-requires c κs = search needs
-
-finite-vector-requires-2 : tie.Need-finite-vector-requires-2
-finite-vector-requires-2 c κs = search needs
-
-is-finite-requires : tie.Need-is-finite-requires
-is-finite-requires c κs = search needs
-
-is-finite-requires-2 : tie.Need-is-finite-requires-2
-is-finite-requires-2 c κs = search needs
-
 returns : tie.Need-returns
 unfolding finiteCorner
 returns c =
@@ -39,11 +27,5 @@ pub finite-corner-spec : {M : Type 1} → statement M
 finite-corner-spec =
     tie.close
     (tie.spec
-    finite-vector-requires
-    finite-vector-requires-2
-    is-finite-requires
-    is-finite-requires-2
-    returns
-    returns-2
-    returns-3
+    (λ c κs. search needs) (λ c κs. search needs) (λ c κs. search needs) (λ c κs. search needs) returns returns-2 returns-3
     returns-4)

@@ -4,15 +4,6 @@ use borrow.Author.Needs.{needs}
 use Rattle.desk.proofs.finite_vector.Statement.{statement}
 use Rattle.desk.proofs.finite_vector.Tie as tie
 
-is-finite-requires : tie.Need-is-finite-requires
-is-finite-requires c κs = search needs
-
-is-finite-requires-2 : tie.Need-is-finite-requires-2
-is-finite-requires-2 c κs = search needs
-
-is-finite-requires-3 : tie.Need-is-finite-requires-3
-is-finite-requires-3 c κs = search needs
-
 returns : tie.Need-returns
 unfolding finiteVector
 returns c =
@@ -30,9 +21,4 @@ pub finite-vector-spec : {M : Type 1} → statement M
 finite-vector-spec =
     tie.close
     (tie.spec
-    is-finite-requires
-    is-finite-requires-2
-    is-finite-requires-3
-    returns
-    returns-2
-    returns-3)
+    (λ c κs. search needs) (λ c κs. search needs) (λ c κs. search needs) returns returns-2 returns-3)

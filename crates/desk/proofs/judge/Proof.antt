@@ -19,9 +19,6 @@ asked c =
     let a = c .before .before .before .before .args in
     shown (handed (a .sizes .now) (a .positions .now) (a .normals .now) (a .texture .now)) (a .threshold) (a .answer) (a .work)
 
-said-requires : tie.Need-said-requires
-said-requires c κs = search needs
-
 returns : tie.Need-returns
 returns c = let q = asked (c .before .before) in c .said .ensures ∙ row1 q (many q (c .before .if1 .taken))
 
@@ -29,18 +26,9 @@ returns c = let q = asked (c .before .before) in c .said .ensures ∙ row1 q (ma
 not-many : (c : tie.Else1) → IsMany (asked (c .before)) false
 not-many c = few (asked (c .before)) (c .if1 .left)
 
-look-over-requires : tie.Need-look-over-requires
-look-over-requires c κs = search needs
-
-unfit-requires : tie.Need-unfit-requires
-unfit-requires c κs = search needs
-
 -- what the test of row 2 tells
 misfit-is : (c : tie.After-unfit) → IsMisfit (asked (c .before .before .before)) (c .unfit .result)
 misfit-is c = fits (asked (c .before .before .before)) (c .before .look-over .result .corners) (c .before .look-over .ensures .0) ∙ sym (c .unfit .ensures)
-
-said-requires-2 : tie.Need-said-requires-2
-said-requires-2 c κs = search needs
 
 returns-2 : tie.Need-returns-2
 returns-2 c =
@@ -52,12 +40,6 @@ returns-2 c =
 not-misfit : (c : tie.Else2) → IsMisfit (asked (c .before .before .before .before)) false
 not-misfit c = misfit-is (c .before) ∙ c .if2 .left
 
-is-finite-requires : tie.Need-is-finite-requires
-is-finite-requires c κs = search needs
-
-said-requires-3 : tie.Need-said-requires-3
-said-requires-3 c κs = search needs
-
 returns-3 : tie.Need-returns-3
 returns-3 c =
     let b = c .before .before in
@@ -68,27 +50,12 @@ returns-3 c =
 finite-threshold : (c : tie.Else3) → IsFinite (asked (c .before .before .before .before .before .before)) true
 finite-threshold c = sym (c .before .is-finite .ensures) ∙ not-false (c .before .is-finite .result) (c .if3 .left)
 
-enum-known-bad : tie.Need-enum-known-bad
-enum-known-bad c = search needs
-
-said-requires-4 : tie.Need-said-requires-4
-said-requires-4 c κs = search needs
-
 returns-4 : tie.Need-returns-4
 returns-4 c =
     let b = c .before .before in
     let d = b .before .before in
     let s = d .before .before .before .before in
     c .said4 .ensures ∙ row4 (asked (s .before .before)) (not-many (s .before)) (not-misfit (d .before .before)) (finite-threshold d) _ (is-some _ _ (sym (b .bad .given .1) ∙ s .look-over .ensures .2))
-
-enum-told : tie.Need-enum-told
-enum-told c = search needs
-
-lent-requires : tie.Need-lent-requires
-lent-requires c κs = search needs
-
-said-requires-5 : tie.Need-said-requires-5
-said-requires-5 c κs = search needs
 
 returns-5 : tie.Need-returns-5
 returns-5 c =
@@ -103,19 +70,6 @@ pub judge-spec : {M : Type 1} → statement M
 judge-spec =
     tie.close
     (tie.spec
-    said-requires
-    returns
-    look-over-requires
-    unfit-requires
-    said-requires-2
-    returns-2
-    is-finite-requires
-    said-requires-3
-    returns-3
-    enum-known-bad
-    said-requires-4
-    returns-4
-    enum-told
-    lent-requires
-    said-requires-5
-    returns-5)
+    (λ c κs. search needs) returns (λ c κs. search needs) (λ c κs. search needs) (λ c κs. search needs) returns-2
+    (λ c κs. search needs) (λ c κs. search needs) returns-3 (λ c. search needs) (λ c κs. search needs) returns-4
+    (λ c. search needs) (λ c κs. search needs) (λ c κs. search needs) returns-5)

@@ -27,9 +27,6 @@ loop-holds c =
     let a = c .before .before .before .before in
     (a .pre, omega arith, omega arith, omega arith, corners-none (a .args .sizes .now), slots-none (a .args .sizes .now), at-once (inFaces (a .args .positions .now) (a .args .normals .now) (a .args .texture .now) 0 (a .args .sizes .now)))
 
-shared-slice-read-size : tie.Need-shared-slice-read-size Inv-loop μ-loop
-shared-slice-read-size c = search needs
-
 bad-by-now-requires : tie.Need-bad-by-now-requires Inv-loop μ-loop
 bad-by-now-requires c κs = omega (arith, c .shared-slice-known5 .given (c .before .before .loop .f))
 
@@ -38,21 +35,6 @@ cast-corners c = let b = c .before in omega (arith, b .shared-slice-known5 .give
 
 add-corners : tie.Need-add-corners Inv-loop μ-loop
 add-corners c = let b = c .before in omega (arith, b .shared-slice-known5 .given (b .before .before .loop .f))
-
-slots-of-requires : tie.Need-slots-of-requires Inv-loop μ-loop
-slots-of-requires c κs = search needs
-
-cast-slots : tie.Need-cast-slots Inv-loop μ-loop
-cast-slots c = omega arith
-
-add-slots : tie.Need-add-slots Inv-loop μ-loop
-add-slots c = omega arith
-
-add-f : tie.Need-add-f Inv-loop μ-loop
-add-f c = search needs
-
-loop-less : tie.Need-loop-less Inv-loop μ-loop
-loop-less c = search needs
 
 loop-again : tie.Need-loop-again Inv-loop μ-loop
 loop-again c =
@@ -88,17 +70,5 @@ pub look-over-spec : {M : Type 1} → statement M
 look-over-spec =
     tie.close
     (tie.spec
-    Inv-loop
-    μ-loop
-    loop-holds
-    shared-slice-read-size
-    bad-by-now-requires
-    cast-corners
-    add-corners
-    slots-of-requires
-    cast-slots
-    add-slots
-    add-f
-    loop-less
-    loop-again
-    returns)
+    Inv-loop μ-loop loop-holds (λ c. search needs) bad-by-now-requires cast-corners add-corners (λ c κs. search needs)
+    (λ c. omega arith) (λ c. omega arith) (λ c. search needs) (λ c. search needs) loop-again returns)

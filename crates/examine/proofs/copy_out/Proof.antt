@@ -35,18 +35,6 @@ mul-list-2 c = let s = c .before .before in let p = s .pre in omega (arith, c .l
 shared-slice-read-list : tie.Need-shared-slice-read-list Inv-loop μ-loop
 shared-slice-read-list c = let s = c .before .before .before in let p = s .pre in omega (arith, c .before .loop-test .taken, p .0, p .2, column-ends (s .args .column) columns (s .args .rows) (p .1))
 
-mul-list-3 : tie.Need-mul-list-3 Inv-loop μ-loop
-mul-list-3 c = search needs
-
-slice-write-list : tie.Need-slice-write-list Inv-loop μ-loop
-slice-write-list c = search needs
-
-add-i : tie.Need-add-i Inv-loop μ-loop
-add-i c = search needs
-
-loop-less : tie.Need-loop-less Inv-loop μ-loop
-loop-less c = search needs
-
 loop-again : tie.Need-loop-again Inv-loop μ-loop
 loop-again c =
     let l = c .before .before .loop in
@@ -63,17 +51,5 @@ pub copy-out-spec : {M : Type 1} → statement M
 copy-out-spec =
     tie.close
     (tie.spec
-    Inv-loop
-    μ-loop
-    loop-holds
-    mul-list
-    add-list
-    mul-list-2
-    shared-slice-read-list
-    mul-list-3
-    slice-write-list
-    add-i
-    loop-less
-    loop-again
-    same-length
-    returns)
+    Inv-loop μ-loop loop-holds mul-list add-list mul-list-2 shared-slice-read-list (λ c. search needs) (λ c. search needs)
+    (λ c. search needs) (λ c. search needs) loop-again same-length returns)

@@ -49,9 +49,6 @@ clear-first-requires c κs =
     let s = m .before .before .before .before .before .before .before .before .before .before in
     omega (arith, known s .work-fits, m .link-mesh .ensures .only .size, e .examine-all .ensures .1 .size)
 
-same-length : tie.Need-same-length
-same-length c = search needs
-
 returns : tie.Need-returns
 returns c =
     let y = c .before .before in
@@ -67,10 +64,4 @@ pub decide-spec : {M : Type 1} → statement M
 decide-spec =
     tie.close
     (tie.spec
-    mul-rows
-    link-mesh-requires
-    examine-all-requires
-    mul-clear-first
-    clear-first-requires
-    same-length
-    returns)
+    mul-rows link-mesh-requires examine-all-requires mul-clear-first clear-first-requires (λ c. search needs) returns)

@@ -15,9 +15,6 @@ use borrow.Author.Needs.{needs}
 use Rattle.examine.proofs.examine.Statement.{statement}
 use Rattle.examine.proofs.examine.Tie as tie
 
-ask-requires : tie.Need-ask-requires
-ask-requires c κs = search needs
-
 returns : tie.Need-returns
 returns c =
     let j = c .before .before in
@@ -31,9 +28,6 @@ decide-requires c κs =
     let t = j .before .before .before .before .before .before .before .before .before .args in
     no-refusal (shown (handed (now (t .sizes)) (now (t .positions)) (now (t .normals)) (now (t .texture))) zeroᶠ longest (length (now (t .work)))) (omega (arith, ap (λ (x : Verdict). x .number) (j .ask .ensures), i .if1 .left))
 
-same-length : tie.Need-same-length
-same-length c = search needs
-
 returns-2 : tie.Need-returns-2
 returns-2 c =
     let d = c .before .before in
@@ -43,4 +37,7 @@ returns-2 c =
     examines-decided (handed (now (t .sizes)) (now (t .positions)) (now (t .normals)) (now (t .texture))) (now (t .links)) (now (t .groups)) (now (t .orientations)) (now (t .work)) _ _ (no-refusal (shown (handed (now (t .sizes)) (now (t .positions)) (now (t .normals)) (now (t .texture))) zeroᶠ longest (length (now (t .work)))) (omega (arith, ap (λ (x : Verdict). x .number) (j .ask .ensures), i .if1 .left))) (record { number = refl; decides = d .decide .ensures .0; work = d .decide .ensures .1 })
 
 pub examine-spec : {M : Type 1} → statement M
-examine-spec = tie.close (tie.spec ask-requires returns decide-requires same-length returns-2)
+examine-spec =
+    tie.close
+    (tie.spec
+    (λ c κs. search needs) returns decide-requires (λ c. search needs) returns-2)

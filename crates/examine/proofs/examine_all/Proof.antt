@@ -11,9 +11,6 @@ use borrow.Author.Needs.{needs}
 use Rattle.examine.proofs.examine_all.Statement.{statement}
 use Rattle.examine.proofs.examine_all.Tie as tie
 
-examine-lengths-requires : tie.Need-examine-lengths-requires
-examine-lengths-requires c κs = search needs
-
 returns : tie.Need-returns
 returns c =
     let t = c .before .before .before .before .before .before .before .args in
@@ -25,9 +22,6 @@ examine-links-requires c κs =
     let t = c .before .before .before .before .before .before .before .before .args in
     let l = long-lists (t .rows) (t .tris) (t .work .now) (t .given .now) (t .groups .now) (t .ways .now) _ _ (c .before .before .before .examine-lengths .ensures) (c .before .if1 .left) in
     (p .0, p .1, p .2, omega (arith, l .links), p .3)
-
-same-length : tie.Need-same-length
-same-length c = search needs
 
 returns-2 : tie.Need-returns-2
 returns-2 c =
@@ -47,9 +41,6 @@ examine-groups-requires c κs =
     let o = k .examine-links .ensures .1 in
     (p .0, omega (arith, p .1, o .size), p .2, omega (arith, l .links), omega (arith, l .groups), omega (arith, l .ways), links-clear (t .rows) (t .tris) (t .work .now) (t .given .now) (t .groups .now) (t .ways .now) _ _ (e .examine-lengths .ensures) (i .if1 .left) _ _ (k .examine-links .ensures .0) (c .before .if2 .left) _ (p .0) o)
 
-same-length-2 : tie.Need-same-length-2
-same-length-2 c = search needs
-
 returns-3 : tie.Need-returns-3
 returns-3 c =
     let k = c .before .before .before .before .before .before .before .before in
@@ -63,11 +54,5 @@ pub examine-all-spec : {M : Type 1} → statement M
 examine-all-spec =
     tie.close
     (tie.spec
-    examine-lengths-requires
-    returns
-    examine-links-requires
-    same-length
-    returns-2
-    examine-groups-requires
-    same-length-2
-    returns-3)
+    (λ c κs. search needs) returns examine-links-requires (λ c. search needs) returns-2 examine-groups-requires
+    (λ c. search needs) returns-3)

@@ -4,23 +4,11 @@ use borrow.Author.Needs.{needs}
 use Rattle.examine.proofs.examine_lengths.Statement.{statement}
 use Rattle.examine.proofs.examine_lengths.Tie as tie
 
-mul-if1 : tie.Need-mul-if1
-mul-if1 c = search needs
-
-said-requires : tie.Need-said-requires
-said-requires c κs = search needs
-
 returns : tie.Need-returns
 returns c =
     let i = c .before in
     let t = i .before .before .before .before .args in
     on-links (t .tris) (t .given .now) (t .groups .now) (t .ways .now) _ _ (i .if1 .taken) (c .said .ensures .0) (c .said .ensures .1)
-
-mul-if2 : tie.Need-mul-if2
-mul-if2 c = search needs
-
-said-requires-2 : tie.Need-said-requires-2
-said-requires-2 c κs = search needs
 
 returns-2 : tie.Need-returns-2
 returns-2 c =
@@ -29,9 +17,6 @@ returns-2 c =
     let t = i .before .before .before .before .args in
     on-groups (t .tris) (t .given .now) (t .groups .now) (t .ways .now) _ _ (i .if1 .left) (j .if2 .taken) (c .said2 .ensures .0) (c .said2 .ensures .1)
 
-said-requires-3 : tie.Need-said-requires-3
-said-requires-3 c κs = search needs
-
 returns-3 : tie.Need-returns-3
 returns-3 c =
     let k = c .before in
@@ -39,9 +24,6 @@ returns-3 c =
     let i = j .before in
     let t = i .before .before .before .before .args in
     on-ways (t .tris) (t .given .now) (t .groups .now) (t .ways .now) _ _ (i .if1 .left) (j .if2 .left) (k .if3 .taken) (c .said3 .ensures .0) (c .said3 .ensures .1)
-
-said-requires-4 : tie.Need-said-requires-4
-said-requires-4 c κs = search needs
 
 returns-4 : tie.Need-returns-4
 returns-4 c =
@@ -55,13 +37,5 @@ pub examine-lengths-spec : {M : Type 1} → statement M
 examine-lengths-spec =
     tie.close
     (tie.spec
-    mul-if1
-    said-requires
-    returns
-    mul-if2
-    said-requires-2
-    returns-2
-    said-requires-3
-    returns-3
-    said-requires-4
-    returns-4)
+    (λ c. search needs) (λ c κs. search needs) returns (λ c. search needs) (λ c κs. search needs) returns-2 (λ c κs. search needs)
+    returns-3 (λ c κs. search needs) returns-4)

@@ -22,9 +22,6 @@ known s = let t = s .args in fine (shown (handed (now (t .sizes)) (now (t .posit
 room : (s : tie.Start) → columns * rowsOf (length (now (s .args .sizes))) ≤ length (now (s .args .work))
 room s = omega (arith, known s .work-fits)
 
-mul-rows : tie.Need-mul-rows
-mul-rows c = search needs
-
 group-mesh-requires : tie.Need-group-mesh-requires
 group-mesh-requires c κs = let s = c .before .before .before .before .before .before .before .before .before in (known s .few, room s)
 
@@ -80,18 +77,6 @@ cast-result c =
     let n = grouped-fit _ _ _ _ (g .group-mesh .ensures) in
     omega (arith, n, known s .few)
 
-same-length : tie.Need-same-length
-same-length c = search needs
-
-same-length-2 : tie.Need-same-length-2
-same-length-2 c = search needs
-
-same-length-3 : tie.Need-same-length-3
-same-length-3 c = search needs
-
-same-length-4 : tie.Need-same-length-4
-same-length-4 c = search needs
-
 returns : tie.Need-returns
 returns c =
     let y = c .before .before in
@@ -116,18 +101,6 @@ pub hand-out-spec : {M : Type 1} → statement M
 hand-out-spec =
     tie.close
     (tie.spec
-    mul-rows
-    group-mesh-requires
-    mul-copy-out
-    copy-out-requires
-    mul-copy-out-2
-    copy-out-requires-2
-    copy-out-requires-3
-    mul-clear-first
-    clear-first-requires
-    cast-result
-    same-length
-    same-length-2
-    same-length-3
-    same-length-4
-    returns)
+    (λ c. search needs) group-mesh-requires mul-copy-out copy-out-requires mul-copy-out-2 copy-out-requires-2 copy-out-requires-3
+    mul-clear-first clear-first-requires cast-result (λ c. search needs) (λ c. search needs) (λ c. search needs)
+    (λ c. search needs) returns)

@@ -16,9 +16,6 @@ use borrow.Author.Needs.{needs}
 use Rattle.examine.proofs.own_links.Statement.{statement}
 use Rattle.examine.proofs.own_links.Tie as tie
 
-ask-requires : tie.Need-ask-requires
-ask-requires c κs = search needs
-
 returns : tie.Need-returns
 returns c =
     let j = c .before .before in
@@ -50,18 +47,6 @@ hand-out-requires c κs =
     let l = long-enough _ _ _ _ (sym (h .short .ensures) ∙ k .if2 .left) in
     (no-refusal (shown (handed (now (t .sizes)) (now (t .positions)) (now (t .normals)) (now (t .texture))) zeroᶠ longest (length (now (t .work)))) (omega (arith, ap (λ (x : Verdict). x .number) (j .ask .ensures), i .if1 .left)), l .0, l .1, l .2)
 
-same-length : tie.Need-same-length
-same-length c = search needs
-
-same-length-2 : tie.Need-same-length-2
-same-length-2 c = search needs
-
-same-length-3 : tie.Need-same-length-3
-same-length-3 c = search needs
-
-same-length-4 : tie.Need-same-length-4
-same-length-4 c = search needs
-
 returns-3 : tie.Need-returns-3
 returns-3 c =
     let d = c .before .before .before .before .before .before .before .before in
@@ -76,13 +61,5 @@ pub own-links-spec : {M : Type 1} → statement M
 own-links-spec =
     tie.close
     (tie.spec
-    ask-requires
-    returns
-    short-requires
-    returns-2
-    hand-out-requires
-    same-length
-    same-length-2
-    same-length-3
-    same-length-4
-    returns-3)
+    (λ c κs. search needs) returns short-requires returns-2 hand-out-requires (λ c. search needs) (λ c. search needs)
+    (λ c. search needs) (λ c. search needs) returns-3)

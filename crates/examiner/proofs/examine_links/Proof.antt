@@ -15,15 +15,6 @@ module _ (s : tie.Start) where
   abbrev vertex : ℕ → ℕ
   vertex x = cell (s .args .rows) vertexColumn x (now (s .args .work))
 
-mul-n : tie.Need-mul-n
-mul-n c = search needs
-
-first-wide-requires : tie.Need-first-wide-requires
-first-wide-requires c κs = search needs
-
-said-requires : tie.Need-said-requires
-said-requires c κs = search needs
-
 returns : tie.Need-returns
 returns c =
     let s = c .before .before .before .before .before in
@@ -34,12 +25,6 @@ first-crooked-requires : tie.Need-first-crooked-requires
 first-crooked-requires c κs =
     let p = c .before .before .before .before .before .pre in
     (p .0, p .1, p .2, p .3, all-passed _ _ _ (c .before .before .first-wide .ensures) (c .before .if1 .left))
-
-said-requires-2 : tie.Need-said-requires-2
-said-requires-2 c κs = search needs
-
-same-length : tie.Need-same-length
-same-length c = search needs
 
 returns-2 : tie.Need-returns-2
 returns-2 c =
@@ -52,26 +37,11 @@ first-one-sided-requires c κs =
     let p = c .before .before .before .before .before .before .before .pre in
     (omega (arith, p .0, p .2), p .3, all-passed _ _ _ (c .before .before .before .before .first-wide .ensures) (c .before .before .before .if1 .left))
 
-said-requires-3 : tie.Need-said-requires-3
-said-requires-3 c κs = search needs
-
-same-length-2 : tie.Need-same-length-2
-same-length-2 c = search needs
-
 returns-3 : tie.Need-returns-3
 returns-3 c =
     let s = c .before .before .before .before .before .before .before .before .before .before in
     let a = s .args in
     (on-one-sided (a .tris) (vertex s) (a .given .now) _ _ _ (c .before .before .before .before .before .before .before .first-wide .ensures) (c .before .before .before .before .before .before .if1 .left) _ (c .before .before .before .before .first-crooked .ensures) (c .before .before .before .if2 .left) _ (c .before .before .first-one-sided .ensures) (c .before .if3 .taken) (c .said3 .ensures .0) (c .said3 .ensures .1), only-none _ _ _)
-
-first-left-requires : tie.Need-first-left-requires
-first-left-requires c κs = search needs
-
-said-requires-4 : tie.Need-said-requires-4
-said-requires-4 c κs = search needs
-
-same-length-3 : tie.Need-same-length-3
-same-length-3 c = search needs
 
 returns-4 : tie.Need-returns-4
 returns-4 c =
@@ -79,12 +49,6 @@ returns-4 c =
     let s = l .before .before .before .before .before .before .before .before .before .before .before in
     let a = s .args in
     (on-left-over (a .tris) (vertex s) (a .given .now) _ _ _ (l .before .before .before .before .before .before .before .before .first-wide .ensures) (l .before .before .before .before .before .before .before .if1 .left) _ (l .before .before .before .before .before .first-crooked .ensures) (l .before .before .before .before .if2 .left) _ (l .before .before .before .first-one-sided .ensures) (l .before .before .if3 .left) _ (l .first-left .ensures .0) (omega (arith, c .before .if4 .taken)) (c .said4 .ensures .0) (c .said4 .ensures .1), l .first-left .ensures .1)
-
-said-requires-5 : tie.Need-said-requires-5
-said-requires-5 c κs = search needs
-
-same-length-4 : tie.Need-same-length-4
-same-length-4 c = search needs
 
 returns-5 : tie.Need-returns-5
 returns-5 c =
@@ -97,22 +61,7 @@ pub examine-links-spec : {M : Type 1} → statement M
 examine-links-spec =
     tie.close
     (tie.spec
-    mul-n
-    first-wide-requires
-    said-requires
-    returns
-    first-crooked-requires
-    said-requires-2
-    same-length
-    returns-2
-    first-one-sided-requires
-    said-requires-3
-    same-length-2
-    returns-3
-    first-left-requires
-    said-requires-4
-    same-length-3
-    returns-4
-    said-requires-5
-    same-length-4
+    (λ c. search needs) (λ c κs. search needs) (λ c κs. search needs) returns first-crooked-requires (λ c κs. search needs)
+    (λ c. search needs) returns-2 first-one-sided-requires (λ c κs. search needs) (λ c. search needs) returns-3
+    (λ c κs. search needs) (λ c κs. search needs) (λ c. search needs) returns-4 (λ c κs. search needs) (λ c. search needs)
     returns-5)

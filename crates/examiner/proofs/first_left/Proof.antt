@@ -10,9 +10,6 @@ use Rattle.examiner.proofs.first_left.Statement.{statement}
 use Rattle.examiner.proofs.first_left.Tie as tie
 use Rattle.neighbors.proofs.order_sides.Reads as order-sides-reads
 
-order-sides-requires : tie.Need-order-sides-requires
-order-sides-requires c κs = search needs
-
 scan-all-requires : tie.Need-scan-all-requires
 scan-all-requires c κs =
     let b = c .before .before .before in
@@ -23,9 +20,6 @@ scan-all-requires c κs =
     let words : (r : ℕ) → r < a .rows → cell (a .rows) vertexColumn r (now (a .work)) < 4294967296 = λ r h. omega (arith, k .slice-known .given (vertexColumn * a .rows + r)) in
     let O = order-is (a .rows) (a .tris) (now (a .work)) _ (p .0) (p .1) (p .2) words (b .order-sides .ensures) (p .4) in
     (p .0, long-after (a .rows) (a .tris) (now (a .work)) _ (p .0) (p .1) (p .2) words (b .order-sides .ensures), p .2, p .3, λ x h. O .below x h)
-
-same-length : tie.Need-same-length
-same-length c = search needs
 
 returns : tie.Need-returns
 returns c =
@@ -40,4 +34,7 @@ returns c =
     )
 
 pub first-left-spec : {M : Type 1} → statement M
-first-left-spec = tie.close (tie.spec order-sides-requires scan-all-requires same-length returns)
+first-left-spec =
+    tie.close
+    (tie.spec
+    (λ c κs. search needs) scan-all-requires (λ c. search needs) returns)

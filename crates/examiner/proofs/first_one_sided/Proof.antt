@@ -24,9 +24,6 @@ one-sided-requires c κs =
 returns : tie.Need-returns Inv-loop μ-loop
 returns c = let l = c .before .before .before .loop in lowest-here _ _ (l .r) (c .before .before .loop-test .taken) (l .inv .1) (c .before .one-sided .ensures .holds (c .if1 .taken))
 
-add-r : tie.Need-add-r Inv-loop μ-loop
-add-r c = omega arith
-
 loop-less : tie.Need-loop-less Inv-loop μ-loop
 loop-less c = omega (arith, c .before .before .loop-test .taken)
 
@@ -42,12 +39,4 @@ pub first-one-sided-spec : {M : Type 1} → statement M
 first-one-sided-spec =
     tie.close
     (tie.spec
-    Inv-loop
-    μ-loop
-    loop-holds
-    one-sided-requires
-    returns
-    add-r
-    loop-less
-    loop-again
-    returns-2)
+    Inv-loop μ-loop loop-holds one-sided-requires returns (λ c. omega arith) loop-less loop-again returns-2)

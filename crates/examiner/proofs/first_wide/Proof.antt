@@ -24,9 +24,6 @@ returns c =
     let l = c .before .before .before .loop in
     lowest-here _ _ (l .r) (c .before .before .loop-test .taken) (l .inv .1) (omega (arith, c .if1 .taken, c .before .word-at .ensures))
 
-add-r : tie.Need-add-r Inv-loop μ-loop
-add-r c = omega arith
-
 loop-less : tie.Need-loop-less Inv-loop μ-loop
 loop-less c = omega (arith, c .before .before .loop-test .taken)
 
@@ -41,4 +38,5 @@ returns-2 c = let l = c .before .loop in lowest-end _ _ (l .r) (l .inv .0) (c .l
 pub first-wide-spec : {M : Type 1} → statement M
 first-wide-spec =
     tie.close
-    (tie.spec Inv-loop μ-loop loop-holds word-at-requires returns add-r loop-less loop-again returns-2)
+    (tie.spec
+    Inv-loop μ-loop loop-holds word-at-requires returns (λ c. omega arith) loop-less loop-again returns-2)

@@ -7,20 +7,8 @@ use borrow.Author.Needs.{needs}
 use Rattle.examiner.proofs.one_sided.Statement.{statement}
 use Rattle.examiner.proofs.one_sided.Tie as tie
 
-word-at-requires : tie.Need-word-at-requires
-word-at-requires c κs = search needs
-
 returns : tie.Need-returns
 returns c = told-not (not-one-sided _ _ _ (c .before .word-at .ensures) (c .if1 .taken))
-
-sub-word-at : tie.Need-sub-word-at
-sub-word-at c = search needs
-
-word-at-requires-2 : tie.Need-word-at-requires-2
-word-at-requires-2 c κs = search needs
-
-add-if2 : tie.Need-add-if2
-add-if2 c = search needs
 
 returns-2 : tie.Need-returns-2
 returns-2 c =
@@ -37,4 +25,5 @@ returns-3 c =
 pub one-sided-spec : {M : Type 1} → statement M
 one-sided-spec =
     tie.close
-    (tie.spec word-at-requires returns sub-word-at word-at-requires-2 add-if2 returns-2 returns-3)
+    (tie.spec
+    (λ c κs. search needs) returns (λ c. search needs) (λ c κs. search needs) (λ c. search needs) returns-2 returns-3)

@@ -6,12 +6,6 @@ use borrow.Author.Needs.{needs}
 use Rattle.examiner.proofs.scan_run.Statement.{statement}
 use Rattle.examiner.proofs.scan_run.Tie as tie
 
-vertex-at-requires : tie.Need-vertex-at-requires
-vertex-at-requires c κs = search needs
-
-vertex-at-requires-2 : tie.Need-vertex-at-requires-2
-vertex-at-requires-2 c κs = search needs
-
 returns : tie.Need-returns
 returns c =
     let v = c .before in
@@ -38,4 +32,6 @@ returns-3 c =
 
 pub scan-run-spec : {M : Type 1} → statement M
 scan-run-spec =
-    tie.close (tie.spec vertex-at-requires vertex-at-requires-2 returns returns-2 returns-3)
+    tie.close
+    (tie.spec
+    (λ c κs. search needs) (λ c κs. search needs) returns returns-2 returns-3)

@@ -8,9 +8,6 @@ use borrow.Author.Needs.{needs}
 use Rattle.examiner.proofs.scan_turn.Statement.{statement}
 use Rattle.examiner.proofs.scan_turn.Tie as tie
 
-order-at-requires : tie.Need-order-at-requires
-order-at-requires c κs = search needs
-
 word-at-requires : tie.Need-word-at-requires
 word-at-requires c κs =
     let p = c .before .before .before .pre in
@@ -21,9 +18,6 @@ returns c =
     let a = c .before .before .before .before .before .args in
     let p = c .before .before .before .before .before .pre in
     ((p .1, p .2), linked-turn (a .rows) (3 * a .tris) (a .work .now) (a .given .now) (a .a) (a .s .first) (a .s .best) _ (p .0) (c .before .before .order-at .ensures) _ (c .before .word-at .ensures) (c .if1 .taken))
-
-mul-if2 : tie.Need-mul-if2
-mul-if2 c = search needs
 
 returns-2 : tie.Need-returns-2
 returns-2 c =
@@ -55,19 +49,9 @@ scan-run-requires c κs =
     let k : o .order-at .result < 3 * a .tris = omega (arith, o .order-at .ensures, p .6 (a .a) (p .0)) in
     (p .0, omega (arith, p .1, t .if2 .left), p .2, p .3, p .4, o .order-at .ensures, k, sym (t .before .before .before .word-at .ensures) ∙ t .before .before .if1 .left, sym (c .before .same-ends .ensures) ∙ not-false _ (c .if3 .left))
 
-returns-4 : tie.Need-returns-4
-returns-4 c = search needs
-
 pub scan-turn-spec : {M : Type 1} → statement M
 scan-turn-spec =
     tie.close
     (tie.spec
-    order-at-requires
-    word-at-requires
-    returns
-    mul-if2
-    returns-2
-    same-ends-requires
-    returns-3
-    scan-run-requires
-    returns-4)
+    (λ c κs. search needs) word-at-requires returns (λ c. search needs) returns-2 same-ends-requires returns-3 scan-run-requires
+    (λ c. search needs))

@@ -11,15 +11,6 @@ use borrow.Author.Needs.{needs}
 use Rattle.examiner.proofs.unlike.Statement.{statement}
 use Rattle.examiner.proofs.unlike.Tie as tie
 
-end-of-requires : tie.Need-end-of-requires
-end-of-requires c κs = search needs
-
-end-of-requires-2 : tie.Need-end-of-requires-2
-end-of-requires-2 c κs = search needs
-
-vertex-at-requires : tie.Need-vertex-at-requires
-vertex-at-requires c κs = search needs
-
 vertex-at-requires-2 : tie.Need-vertex-at-requires-2
 vertex-at-requires-2 c κs =
     let s = c .before .before .before .before in
@@ -30,9 +21,6 @@ vertex-at-requires-3 c κs =
     let e = c .before .before .before in
     let s = e .before .before in
     (omega (arith, e .end-of .ensures, end-lt (s .args .r) (s .args .tris) (s .pre .0), s .pre .2), s .pre .3)
-
-vertex-at-requires-4 : tie.Need-vertex-at-requires-4
-vertex-at-requires-4 c κs = search needs
 
 module _ (s : tie.Start) where
   abbrev vertex : ℕ → ℕ
@@ -64,4 +52,5 @@ pub unlike-spec : {M : Type 1} → statement M
 unlike-spec =
     tie.close
     (tie.spec
-    end-of-requires end-of-requires-2 vertex-at-requires vertex-at-requires-2 vertex-at-requires-3 vertex-at-requires-4 returns returns-2 returns-3)
+    (λ c κs. search needs) (λ c κs. search needs) (λ c κs. search needs) vertex-at-requires-2 vertex-at-requires-3
+    (λ c κs. search needs) returns returns-2 returns-3)

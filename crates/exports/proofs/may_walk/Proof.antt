@@ -14,20 +14,11 @@ returns-2 c = λ e. absurd (false≢true e)
 returns-3 : tie.Need-returns-3
 returns-3 c = λ e. absurd (false≢true e)
 
-mul-if4 : tie.Need-mul-if4
-mul-if4 c = search needs
-
 returns-4 : tie.Need-returns-4
 returns-4 c = λ e. absurd (false≢true e)
 
-mul-if5 : tie.Need-mul-if5
-mul-if5 c = search needs
-
 returns-5 : tie.Need-returns-5
 returns-5 c = λ e. absurd (false≢true e)
-
-links-fit-requires : tie.Need-links-fit-requires
-links-fit-requires c κs = search needs
 
 returns-6 : tie.Need-returns-6
 returns-6 c = λ e. (omega arith, omega arith, omega arith, c .links-fit .ensures e)
@@ -35,4 +26,5 @@ returns-6 c = λ e. (omega arith, omega arith, omega arith, c .links-fit .ensure
 pub may-walk-spec : {M : Type 1} → statement M
 may-walk-spec =
     tie.close
-    (tie.spec returns returns-2 returns-3 mul-if4 returns-4 mul-if5 returns-5 links-fit-requires returns-6)
+    (tie.spec
+    returns returns-2 returns-3 (λ c. search needs) returns-4 (λ c. search needs) returns-5 (λ c κs. search needs) returns-6)

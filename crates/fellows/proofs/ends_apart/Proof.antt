@@ -8,15 +8,6 @@ use borrow.Author.Needs.{needs}
 use Rattle.fellows.proofs.ends_apart.Statement.{statement}
 use Rattle.fellows.proofs.ends_apart.Tie as tie
 
-end-of-requires : tie.Need-end-of-requires
-end-of-requires c κs = search needs
-
-end-of-requires-2 : tie.Need-end-of-requires-2
-end-of-requires-2 c κs = search needs
-
-word-at-requires : tie.Need-word-at-requires
-word-at-requires c κs = search needs
-
 word-at-requires-2 : tie.Need-word-at-requires-2
 word-at-requires-2 c κs =
     let e = c .before in
@@ -35,9 +26,6 @@ word-at-requires-3 c κs =
     let e = c .before .before .before .before in
     let s = e .before .before in
     omega (arith, e .end-of .ensures, end-lt (s .args .r) (s .args .tris) (s .pre .0), s .pre .3)
-
-word-at-requires-4 : tie.Need-word-at-requires-4
-word-at-requires-4 c κs = search needs
 
 returns-2 : tie.Need-returns-2
 returns-2 c =
@@ -61,12 +49,5 @@ pub ends-apart-spec : {M : Type 1} → statement M
 ends-apart-spec =
     tie.close
     (tie.spec
-    end-of-requires
-    end-of-requires-2
-    word-at-requires
-    word-at-requires-2
-    returns
-    word-at-requires-3
-    word-at-requires-4
-    returns-2
-    returns-3)
+    (λ c κs. search needs) (λ c κs. search needs) (λ c κs. search needs) word-at-requires-2 returns word-at-requires-3
+    (λ c κs. search needs) returns-2 returns-3)

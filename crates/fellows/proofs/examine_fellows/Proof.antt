@@ -4,50 +4,20 @@ use borrow.Author.Needs.{needs}
 use Rattle.fellows.proofs.examine_fellows.Statement.{statement}
 use Rattle.fellows.proofs.examine_fellows.Tie as tie
 
-first-unlike-requires : tie.Need-first-unlike-requires
-first-unlike-requires c κs = search needs
-
-mul-if1 : tie.Need-mul-if1
-mul-if1 c = search needs
-
-said-requires : tie.Need-said-requires
-said-requires c κs = search needs
-
 returns : tie.Need-returns
 returns c =
     let t = c .before .before .before .before .before .before .before .args in
     on-elsewhere (t .rows) (t .tris) (t .work .now) (t .groups .now) (t .ways .now) _ _ (t .given .now) _ (c .before .before .first-unlike .ensures) (c .before .if1 .taken) (c .said .ensures .0) (c .said .ensures .1)
-
-first-unlike-requires-2 : tie.Need-first-unlike-requires-2
-first-unlike-requires-2 c κs = search needs
-
-mul-if2 : tie.Need-mul-if2
-mul-if2 c = search needs
-
-said-requires-2 : tie.Need-said-requires-2
-said-requires-2 c κs = search needs
 
 returns-2 : tie.Need-returns-2
 returns-2 c =
     let t = c .before .before .before .before .before .before .before .before .before .args in
     on-otherwise (t .rows) (t .tris) (t .work .now) (t .groups .now) (t .ways .now) _ _ (t .given .now) _ (c .before .before .before .before .first-unlike .ensures) (c .before .before .before .if1 .left) _ (c .before .before .first-unlike2 .ensures) (c .before .if2 .taken) (c .said2 .ensures .0) (c .said2 .ensures .1)
 
-first-parted-requires : tie.Need-first-parted-requires
-first-parted-requires c κs = search needs
-
-mul-if3 : tie.Need-mul-if3
-mul-if3 c = search needs
-
-said-requires-3 : tie.Need-said-requires-3
-said-requires-3 c κs = search needs
-
 returns-3 : tie.Need-returns-3
 returns-3 c =
     let t = c .before .before .before .before .before .before .before .before .before .before .before .args in
     on-parted (t .rows) (t .tris) (t .work .now) (t .groups .now) (t .ways .now) _ _ (t .given .now) _ (c .before .before .before .before .before .before .first-unlike .ensures) (c .before .before .before .before .before .if1 .left) _ (c .before .before .before .before .first-unlike2 .ensures) (c .before .before .before .if2 .left) _ (c .before .before .first-parted .ensures) (c .before .if3 .taken) (c .said3 .ensures .0) (c .said3 .ensures .1)
-
-said-requires-4 : tie.Need-said-requires-4
-said-requires-4 c κs = search needs
 
 returns-4 : tie.Need-returns-4
 returns-4 c =
@@ -58,17 +28,6 @@ pub examine-fellows-spec : {M : Type 1} → statement M
 examine-fellows-spec =
     tie.close
     (tie.spec
-    first-unlike-requires
-    mul-if1
-    said-requires
-    returns
-    first-unlike-requires-2
-    mul-if2
-    said-requires-2
-    returns-2
-    first-parted-requires
-    mul-if3
-    said-requires-3
-    returns-3
-    said-requires-4
-    returns-4)
+    (λ c κs. search needs) (λ c. search needs) (λ c κs. search needs) returns (λ c κs. search needs) (λ c. search needs)
+    (λ c κs. search needs) returns-2 (λ c κs. search needs) (λ c. search needs) (λ c κs. search needs) returns-3
+    (λ c κs. search needs) returns-4)

@@ -5,44 +5,20 @@ use borrow.Author.Needs.{needs}
 use Rattle.fellows.proofs.examine_words.Statement.{statement}
 use Rattle.fellows.proofs.examine_words.Tie as tie
 
-first-no-flag-requires : tie.Need-first-no-flag-requires
-first-no-flag-requires c κs = search needs
-
-said-requires : tie.Need-said-requires
-said-requires c κs = search needs
-
 returns : tie.Need-returns
 returns c =
     let t = c .before .before .before .before .before .before .args in
     on-no-flag (t .rows) (t .tris) (t .work .now) (t .groups .now) (t .ways .now) (c .said .result .number) (c .said .result .place) _ (c .before .before .first-no-flag .ensures) (c .before .if1 .taken) (omega (arith, c .said .ensures .0)) (c .said .ensures .1)
-
-first-turned-requires : tie.Need-first-turned-requires
-first-turned-requires c κs = search needs
-
-said-requires-2 : tie.Need-said-requires-2
-said-requires-2 c κs = search needs
 
 returns-2 : tie.Need-returns-2
 returns-2 c =
     let t = c .before .before .before .before .before .before .before .before .args in
     on-turned (t .rows) (t .tris) (t .work .now) (t .groups .now) (t .ways .now) (c .said2 .result .number) (c .said2 .result .place) _ (c .before .before .before .before .first-no-flag .ensures) (c .before .before .before .if1 .left) _ (c .before .before .first-turned .ensures) (c .before .if2 .taken) (omega (arith, c .said2 .ensures .0)) (c .said2 .ensures .1)
 
-first-loose-requires : tie.Need-first-loose-requires
-first-loose-requires c κs = search needs
-
-mul-if3 : tie.Need-mul-if3
-mul-if3 c = search needs
-
-said-requires-3 : tie.Need-said-requires-3
-said-requires-3 c κs = search needs
-
 returns-3 : tie.Need-returns-3
 returns-3 c =
     let t = c .before .before .before .before .before .before .before .before .before .before .args in
     on-loose (t .rows) (t .tris) (t .work .now) (t .groups .now) (t .ways .now) _ _ _ (c .before .before .before .before .before .before .first-no-flag .ensures) (c .before .before .before .before .before .if1 .left) _ (c .before .before .before .before .first-turned .ensures) (c .before .before .before .if2 .left) _ (c .before .before .first-loose .ensures) (c .before .if3 .taken) (c .said3 .ensures .0) (c .said3 .ensures .1)
-
-said-requires-4 : tie.Need-said-requires-4
-said-requires-4 c κs = search needs
 
 returns-4 : tie.Need-returns-4
 returns-4 c =
@@ -53,15 +29,5 @@ pub examine-words-spec : {M : Type 1} → statement M
 examine-words-spec =
     tie.close
     (tie.spec
-    first-no-flag-requires
-    said-requires
-    returns
-    first-turned-requires
-    said-requires-2
-    returns-2
-    first-loose-requires
-    mul-if3
-    said-requires-3
-    returns-3
-    said-requires-4
-    returns-4)
+    (λ c κs. search needs) (λ c κs. search needs) returns (λ c κs. search needs) (λ c κs. search needs) returns-2
+    (λ c κs. search needs) (λ c. search needs) (λ c κs. search needs) returns-3 (λ c κs. search needs) returns-4)

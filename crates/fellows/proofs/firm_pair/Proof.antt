@@ -5,23 +5,11 @@ use borrow.Author.Needs.{needs}
 use Rattle.fellows.proofs.firm_pair.Statement.{statement}
 use Rattle.fellows.proofs.firm_pair.Tie as tie
 
-any-at-requires : tie.Need-any-at-requires
-any-at-requires c κs = search needs
-
 returns : tie.Need-returns
 returns c = told-not (λ f. c .if1 .taken (c .before .any-at .ensures ∙ f .near))
 
-any-at-requires-2 : tie.Need-any-at-requires-2
-any-at-requires-2 c κs = search needs
-
 returns-2 : tie.Need-returns-2
 returns-2 c = told-not (λ f. c .if2 .taken (c .before .any-at2 .ensures ∙ f .far))
-
-word-at-requires : tie.Need-word-at-requires
-word-at-requires c κs = search needs
-
-word-at-requires-2 : tie.Need-word-at-requires-2
-word-at-requires-2 c κs = search needs
 
 returns-3 : tie.Need-returns-3
 returns-3 c = told-not (λ f. c .if3 .taken (c .before .before .word-at .ensures ∙ (f .same ∙ sym (c .before .word-at2 .ensures))))
@@ -37,11 +25,5 @@ pub firm-pair-spec : {M : Type 1} → statement M
 firm-pair-spec =
     tie.close
     (tie.spec
-    any-at-requires
-    returns
-    any-at-requires-2
-    returns-2
-    word-at-requires
-    word-at-requires-2
-    returns-3
+    (λ c κs. search needs) returns (λ c κs. search needs) returns-2 (λ c κs. search needs) (λ c κs. search needs) returns-3
     returns-4)

@@ -24,9 +24,6 @@ returns c =
     let l = c .before .before .before .loop in
     lowest-here _ _ (l .t) (c .before .before .loop-test .taken) (l .inv .1) (omega (arith, c .if1 .taken, c .before .word-at .ensures))
 
-add-t : tie.Need-add-t Inv-loop μ-loop
-add-t c = omega arith
-
 loop-less : tie.Need-loop-less Inv-loop μ-loop
 loop-less c = omega (arith, c .before .before .loop-test .taken)
 
@@ -41,4 +38,5 @@ returns-2 c = let l = c .before .loop in lowest-end _ _ (l .t) (l .inv .0) (c .l
 pub first-no-flag-spec : {M : Type 1} → statement M
 first-no-flag-spec =
     tie.close
-    (tie.spec Inv-loop μ-loop loop-holds word-at-requires returns add-t loop-less loop-again returns-2)
+    (tie.spec
+    Inv-loop μ-loop loop-holds word-at-requires returns (λ c. omega arith) loop-less loop-again returns-2)

@@ -14,9 +14,6 @@ Inv-loop work rows tris groups ways corner r₀ r-end r = Passed (UnlikeFirst ro
 abbrev μ-loop : tie.MeasureT-loop
 μ-loop work rows tris groups ways corner r₀ r-end r = 3 * tris - r
 
-mul-r-end : tie.Need-mul-r-end Inv-loop μ-loop
-mul-r-end c = search needs
-
 loop-holds : tie.Need-loop-holds Inv-loop μ-loop
 loop-holds c = passed-zero _ _
 
@@ -35,11 +32,12 @@ loop-less c = omega (arith, c .before .before .loop-test .taken)
 loop-again : tie.Need-loop-again Inv-loop μ-loop
 loop-again c = let t = c .before .before in passed-more _ _ _ (t .before .loop .inv) (t .loop-test .taken) (c .before .unlike-at .ensures .fails (c .if1 .left))
 
-mul-result : tie.Need-mul-result Inv-loop μ-loop
-mul-result c = search needs
-
 returns-2 : tie.Need-returns-2 Inv-loop μ-loop
 returns-2 c = let s = c .before .before .before .before .before in let a = s .args in no-unlike (a .rows) (3 * a .tris) (a .work .now) (a .groups .now) (a .ways .now) (a .corner) (s .pre .5) _ (c .before .loop .inv) (c .loop-test .left)
 
 pub first-unlike-spec : {M : Type 1} → statement M
-first-unlike-spec = tie.close (tie.spec Inv-loop μ-loop mul-r-end loop-holds unlike-at-requires returns add-r loop-less loop-again mul-result returns-2)
+first-unlike-spec =
+    tie.close
+    (tie.spec
+    Inv-loop μ-loop (λ c. search needs) loop-holds unlike-at-requires returns add-r loop-less loop-again (λ c. search needs)
+    returns-2)

@@ -5,14 +5,8 @@ use borrow.Author.Needs.{needs}
 use Rattle.fellows.proofs.loose_at.Statement.{statement}
 use Rattle.fellows.proofs.loose_at.Tie as tie
 
-any-at-requires : tie.Need-any-at-requires
-any-at-requires c κs = search needs
-
 returns : tie.Need-returns
 returns c = told-not (λ k. c .if1 .taken (c .before .any-at .ensures ∙ k .firm))
-
-word-at-requires : tie.Need-word-at-requires
-word-at-requires c κs = search needs
 
 returns-2 : tie.Need-returns-2
 returns-2 c = told-not (λ k. c .if2 .taken (c .before .word-at .ensures ∙ k .free))
@@ -23,4 +17,7 @@ returns-3 c =
     told (record { firm = sym (e .before .any-at .ensures) ∙ e .if1 .left; free = sym (c .before .word-at .ensures) ∙ c .if2 .left })
 
 pub loose-at-spec : {M : Type 1} → statement M
-loose-at-spec = tie.close (tie.spec any-at-requires returns word-at-requires returns-2 returns-3)
+loose-at-spec =
+    tie.close
+    (tie.spec
+    (λ c κs. search needs) returns (λ c κs. search needs) returns-2 returns-3)

@@ -9,26 +9,14 @@ use borrow.Author.Needs.{needs}
 use Rattle.fellows.proofs.parted_at.Statement.{statement}
 use Rattle.fellows.proofs.parted_at.Tie as tie
 
-word-at-requires : tie.Need-word-at-requires
-word-at-requires c κs = search needs
-
 returns : tie.Need-returns
 returns c = told-not (not-linked _ _ _ _ _ _ _ (c .before .word-at .ensures) (c .if1 .taken))
-
-sub-firm-pair : tie.Need-sub-firm-pair
-sub-firm-pair c = search needs
-
-firm-pair-requires : tie.Need-firm-pair-requires
-firm-pair-requires c κs = search needs
 
 returns-2 : tie.Need-returns-2
 returns-2 c =
     let f = c .before in
     let i = f .before in
     told-not (not-firm _ _ _ _ _ _ _ (i .before .word-at .ensures) (i .if1 .left) (f .firm-pair .ensures .fails (not-true _ (c .if2 .taken))))
-
-sub-ends-apart : tie.Need-sub-ends-apart
-sub-ends-apart c = search needs
 
 ends-apart-requires : tie.Need-ends-apart-requires
 ends-apart-requires c κs =
@@ -54,11 +42,5 @@ pub parted-at-spec : {M : Type 1} → statement M
 parted-at-spec =
     tie.close
     (tie.spec
-    word-at-requires
-    returns
-    sub-firm-pair
-    firm-pair-requires
-    returns-2
-    sub-ends-apart
-    ends-apart-requires
+    (λ c κs. search needs) returns (λ c. search needs) (λ c κs. search needs) returns-2 (λ c. search needs) ends-apart-requires
     returns-3)

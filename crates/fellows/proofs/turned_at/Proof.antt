@@ -6,17 +6,8 @@ use borrow.Author.Needs.{needs}
 use Rattle.fellows.proofs.turned_at.Statement.{statement}
 use Rattle.fellows.proofs.turned_at.Tie as tie
 
-any-at-requires : tie.Need-any-at-requires
-any-at-requires c κs = search needs
-
 returns : tie.Need-returns
 returns c = told-not (λ k. c .if1 .taken (c .before .any-at .ensures ∙ k .firm))
-
-word-at-requires : tie.Need-word-at-requires
-word-at-requires c κs = search needs
-
-way-at-requires : tie.Need-way-at-requires
-way-at-requires c κs = search needs
 
 returns-2 : tie.Need-returns-2
 returns-2 c =
@@ -32,4 +23,5 @@ returns-3 c =
 pub turned-at-spec : {M : Type 1} → statement M
 turned-at-spec =
     tie.close
-    (tie.spec any-at-requires returns word-at-requires way-at-requires returns-2 returns-3)
+    (tie.spec
+    (λ c κs. search needs) returns (λ c κs. search needs) (λ c κs. search needs) returns-2 returns-3)

@@ -8,14 +8,8 @@ use borrow.Author.Needs.{needs}
 use Rattle.fellows.proofs.unlike_at.Statement.{statement}
 use Rattle.fellows.proofs.unlike_at.Tie as tie
 
-word-at-requires : tie.Need-word-at-requires
-word-at-requires c κs = search needs
-
 returns : tie.Need-returns
 returns c = told-not (λ u. u .some (sym (c .before .word-at .ensures) ∙ c .if1 .taken))
-
-first-at-requires : tie.Need-first-at-requires
-first-at-requires c κs = search needs
 
 sub-value-at : tie.Need-sub-value-at
 sub-value-at c =
@@ -28,9 +22,6 @@ value-at-requires c κs =
     let p = c .before .before .before .before .before .before .pre in
     let r = p .5 .right _ (p .0) in
     (omega (arith, r .is, r .low, p .0, c .first-at .ensures), p .1, p .2, p .4)
-
-value-at-requires-2 : tie.Need-value-at-requires-2
-value-at-requires-2 c κs = search needs
 
 returns-2 : tie.Need-returns-2
 returns-2 c =
@@ -54,11 +45,5 @@ pub unlike-at-spec : {M : Type 1} → statement M
 unlike-at-spec =
     tie.close
     (tie.spec
-    word-at-requires
-    returns
-    first-at-requires
-    sub-value-at
-    value-at-requires
-    value-at-requires-2
-    returns-2
+    (λ c κs. search needs) returns (λ c κs. search needs) sub-value-at value-at-requires (λ c κs. search needs) returns-2
     returns-3)

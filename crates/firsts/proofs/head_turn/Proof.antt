@@ -11,9 +11,6 @@ use borrow.Author.Needs.{needs}
 use Rattle.firsts.proofs.head_turn.Statement.{statement}
 use Rattle.firsts.proofs.head_turn.Tie as tie
 
-order-at-requires : tie.Need-order-at-requires
-order-at-requires c κs = search needs
-
 run-first-requires : tie.Need-run-first-requires
 run-first-requires c κs = let s = c .before .before .before .before in (omega (arith, c .order-at .ensures, s .pre .6), s .pre .1, s .pre .5)
 
@@ -27,21 +24,6 @@ add-work c = let p = c .before .before .before .before .before .pre in omega (ar
 cast-work : tie.Need-cast-work
 cast-work c = let p = c .before .before .before .before .before .pre in omega (arith, low c, p .2, p .4)
 
-mul-work : tie.Need-mul-work
-mul-work c = search needs
-
-add-work-2 : tie.Need-add-work-2
-add-work-2 c = search needs
-
-mul-work-2 : tie.Need-mul-work-2
-mul-work-2 c = search needs
-
-slice-write-work : tie.Need-slice-write-work
-slice-write-work c = search needs
-
-same-length : tie.Need-same-length
-same-length c = search needs
-
 returns : tie.Need-returns
 returns c =
     let o = c .before .order-at .ensures in
@@ -52,4 +34,5 @@ pub head-turn-spec : {M : Type 1} → statement M
 head-turn-spec =
     tie.close
     (tie.spec
-    order-at-requires run-first-requires add-work cast-work mul-work add-work-2 mul-work-2 slice-write-work same-length returns)
+    (λ c κs. search needs) run-first-requires add-work cast-work (λ c. search needs) (λ c. search needs) (λ c. search needs)
+    (λ c. search needs) (λ c. search needs) returns)

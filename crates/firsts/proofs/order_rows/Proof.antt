@@ -5,21 +5,6 @@ use borrow.Author.Needs.{needs}
 use Rattle.firsts.proofs.order_rows.Statement.{statement}
 use Rattle.firsts.proofs.order_rows.Tie as tie
 
-clear-requires : tie.Need-clear-requires
-clear-requires c κs = search needs
-
-put-words-requires : tie.Need-put-words-requires
-put-words-requires c κs = search needs
-
-put-rows-requires : tie.Need-put-rows-requires
-put-rows-requires c κs = search needs
-
-sort-requires : tie.Need-sort-requires
-sort-requires c κs = search needs
-
-same-length : tie.Need-same-length
-same-length c = search needs
-
 returns : tie.Need-returns
 returns c =
     let z = c .before .before in
@@ -34,9 +19,4 @@ pub order-rows-spec : {M : Type 1} → statement M
 order-rows-spec =
     tie.close
     (tie.spec
-    clear-requires
-    put-words-requires
-    put-rows-requires
-    sort-requires
-    same-length
-    returns)
+    (λ c κs. search needs) (λ c κs. search needs) (λ c κs. search needs) (λ c κs. search needs) (λ c. search needs) returns)

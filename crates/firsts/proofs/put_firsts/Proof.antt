@@ -10,18 +10,12 @@ use borrow.Author.Needs.{needs}
 use Rattle.firsts.proofs.put_firsts.Statement.{statement}
 use Rattle.firsts.proofs.put_firsts.Tie as tie
 
-order-rows-requires : tie.Need-order-rows-requires
-order-rows-requires c κs = search needs
-
 put-heads-requires : tie.Need-put-heads-requires
 put-heads-requires c κs =
     let o = c .before .before .before in
     let p = o .before .before .before .before .pre in
     let e = o .order-rows .ensures in
     (p .0, omega (arith, p .1, e .only .size), p .2, p .3, e .in-order)
-
-same-length : tie.Need-same-length
-same-length c = search needs
 
 returns : tie.Need-returns
 returns c =
@@ -32,4 +26,7 @@ returns c =
     (f .firsts, only-trans firstColumns _ _ _ _ (only-more sortColumns firstColumns _ _ _ refl (e .only)) (only-more (headColumn ∷ []) firstColumns _ _ _ refl (f .only)))
 
 pub put-firsts-spec : {M : Type 1} → statement M
-put-firsts-spec = tie.close (tie.spec order-rows-requires put-heads-requires same-length returns)
+put-firsts-spec =
+    tie.close
+    (tie.spec
+    (λ c κs. search needs) put-heads-requires (λ c. search needs) returns)

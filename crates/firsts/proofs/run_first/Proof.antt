@@ -13,9 +13,6 @@ returns c = begins (λ l al. omega (arith, l, c .if1 .taken))
 word-at-requires : tie.Need-word-at-requires
 word-at-requires c κs = let s = c .before .before in omega (arith, c .if1 .left, s .pre .1, s .pre .2)
 
-word-at-requires-2 : tie.Need-word-at-requires-2
-word-at-requires-2 c κs = search needs
-
 returns-2 : tie.Need-returns-2
 returns-2 c = let b = c .before in begins (λ l al. c .if2 .taken (b .before .word-at .ensures ∙ (al ∙ sym (b .word-at2 .ensures))))
 
@@ -28,4 +25,6 @@ returns-3 c =
 
 pub run-first-spec : {M : Type 1} → statement M
 run-first-spec =
-    tie.close (tie.spec returns word-at-requires word-at-requires-2 returns-2 returns-3)
+    tie.close
+    (tie.spec
+    returns word-at-requires (λ c κs. search needs) returns-2 returns-3)

@@ -12,24 +12,6 @@ returns : tie.Need-returns
 unfolding back
 returns c = simp (eq-eqb _ _ (c .if1 .taken))
 
-mul-wide : tie.Need-mul-wide
-mul-wide c = search needs
-
-sub-wide : tie.Need-sub-wide
-sub-wide c = search needs
-
-add-wide : tie.Need-add-wide
-add-wide c = search needs
-
-mul-wide-2 : tie.Need-mul-wide-2
-mul-wide-2 c = search needs
-
-shared-slice-read-wide : tie.Need-shared-slice-read-wide
-shared-slice-read-wide c = search needs
-
-wide-requires : tie.Need-wide-requires
-wide-requires c κs = search needs
-
 returns-2 : tie.Need-returns-2
 unfolding back
 returns-2 c =
@@ -41,11 +23,5 @@ pub back-spec : {M : Type 1} → statement M
 back-spec =
     tie.close
     (tie.spec
-    returns
-    mul-wide
-    sub-wide
-    add-wide
-    mul-wide-2
-    shared-slice-read-wide
-    wide-requires
-    returns-2)
+    returns (λ c. search needs) (λ c. search needs) (λ c. search needs) (λ c. search needs) (λ c. search needs)
+    (λ c κs. search needs) returns-2)

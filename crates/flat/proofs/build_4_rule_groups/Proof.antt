@@ -5,12 +5,6 @@ use borrow.Author.Needs.{needs}
 use Rattle.flat.proofs.build_4_rule_groups.Statement.{statement}
 use Rattle.flat.proofs.build_4_rule_groups.Tie as tie
 
-walk-all-requires : tie.Need-walk-all-requires
-walk-all-requires c κs = search needs
-
-same-length : tie.Need-same-length
-same-length c = search needs
-
 returns : tie.Need-returns
 returns c =
     let k = c .before .before in
@@ -19,4 +13,7 @@ returns c =
     (λ ss d ls B n N S A. flat-walked (a .rows) (a .tris) ss d ls B (now (a .work)) _ (k .walk-all .result) n (s .pre .0) (s .pre .1) (k .walk-all .ensures .1 .0 .0) N S A (k .walk-all .ensures .0), k .walk-all .ensures .1)
 
 pub build-4-rule-groups-spec : {M : Type 1} → statement M
-build-4-rule-groups-spec = tie.close (tie.spec walk-all-requires same-length returns)
+build-4-rule-groups-spec =
+    tie.close
+    (tie.spec
+    (λ c κs. search needs) (λ c. search needs) returns)

@@ -9,29 +9,11 @@ use borrow.Author.Needs.{needs}
 use Rattle.flat.proofs.cross.Statement.{statement}
 use Rattle.flat.proofs.cross.Tie as tie
 
-sub-stored : tie.Need-sub-stored
-sub-stored c = search needs
-
-mul-link-at : tie.Need-mul-link-at
-mul-link-at c = search needs
-
 link-at-requires : tie.Need-link-at-requires
 link-at-requires c κs =
     let start = c .before .before .before in
     let R = start .pre .2 in
     (start .pre .1, R .fits, R .long, R .links (start .args .s .side) (start .pre .1))
-
-enum-known-u : tie.Need-enum-known-u
-enum-known-u c = search needs
-
-enum-told : tie.Need-enum-told
-enum-told c = search needs
-
-back-requires : tie.Need-back-requires
-back-requires c κs = search needs
-
-same-length : tie.Need-same-length
-same-length c = search needs
 
 returns : tie.Need-returns
 returns c =
@@ -45,9 +27,6 @@ go-to-requires c κs =
     let below : Below (3 * a .tris) (To (c .before .before .u .given .0 .0)) = subst (Below (3 * a .tris)) (c .before .before .u .given .1) (c .before .before .before .before .link-at .ensures .1) in
     (omega arith, start .pre .2, stored-left (a .rows) (a .tris) (a .group) (a .vertex) (a .orient) (a .s .side) (a .s .left) (a .s .count) (a .work .now) (start .pre .0) (start .pre .2) (start .pre .3))
 
-same-length-2 : tie.Need-same-length-2
-same-length-2 c = search needs
-
 returns-2 : tie.Need-returns-2
 returns-2 c =
     let start = c .before .before .before .before .before .before .before .before .before .before .before in
@@ -57,14 +36,5 @@ pub cross-spec : {M : Type 1} → statement M
 cross-spec =
     tie.close
     (tie.spec
-    sub-stored
-    mul-link-at
-    link-at-requires
-    enum-known-u
-    enum-told
-    back-requires
-    same-length
-    returns
-    go-to-requires
-    same-length-2
-    returns-2)
+    (λ c. search needs) (λ c. search needs) link-at-requires (λ c. search needs) (λ c. search needs) (λ c κs. search needs)
+    (λ c. search needs) returns go-to-requires (λ c. search needs) returns-2)

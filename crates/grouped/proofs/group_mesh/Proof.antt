@@ -8,12 +8,6 @@ use borrow.Author.Needs.{needs}
 use Rattle.grouped.proofs.group_mesh.Statement.{statement}
 use Rattle.grouped.proofs.group_mesh.Tie as tie
 
-mul-rows : tie.Need-mul-rows
-mul-rows c = search needs
-
-link-mesh-requires : tie.Need-link-mesh-requires
-link-mesh-requires c κs = search needs
-
 build-4-rule-groups-requires : tie.Need-build-4-rule-groups-requires
 build-4-rule-groups-requires c κs =
     let l = c .before .before .before in
@@ -29,9 +23,6 @@ order-members-requires c κs =
     let R = left-room _ _ _ _ _ (l .link-mesh .ensures) in
     (omega (arith, g .build-4-rule-groups .ensures .1 .0 .0, R .0), g .build-4-rule-groups .ensures .1 .0 .1, omega (arith, s .pre .1, l .link-mesh .ensures .only .size, g .build-4-rule-groups .kept .0), omega (arith, s .pre .0))
 
-same-length : tie.Need-same-length
-same-length c = search needs
-
 returns : tie.Need-returns
 returns c =
     let o = c .before .before in
@@ -46,9 +37,4 @@ pub group-mesh-spec : {M : Type 1} → statement M
 group-mesh-spec =
     tie.close
     (tie.spec
-    mul-rows
-    link-mesh-requires
-    build-4-rule-groups-requires
-    order-members-requires
-    same-length
-    returns)
+    (λ c. search needs) (λ c κs. search needs) build-4-rule-groups-requires order-members-requires (λ c. search needs) returns)

@@ -7,18 +7,6 @@ use borrow.Author.Needs.{needs}
 use Rattle.grouped.proofs.link_mesh.Statement.{statement}
 use Rattle.grouped.proofs.link_mesh.Tie as tie
 
-mul-rows : tie.Need-mul-rows
-mul-rows c = search needs
-
-list-triangles-requires : tie.Need-list-triangles-requires
-list-triangles-requires c κs = search needs
-
-mul-weld : tie.Need-mul-weld
-mul-weld c = search needs
-
-weld-requires : tie.Need-weld-requires
-weld-requires c κs = search needs
-
 link-sides-requires : tie.Need-link-sides-requires
 link-sides-requires c κs =
     let k = c .before .before .before in
@@ -26,9 +14,6 @@ link-sides-requires c κs =
     let s = l .before .before .before .before .before .before .before in
     let L = l .list-triangles .ensures in
     (sound-room _ _ _ _ _ L, omega (arith, s .pre .1, L .only .size, k .weld .ensures .0 .only .size), omega (arith, s .pre .0))
-
-same-length : tie.Need-same-length
-same-length c = search needs
 
 returns : tie.Need-returns
 returns c =
@@ -44,10 +29,5 @@ pub link-mesh-spec : {M : Type 1} → statement M
 link-mesh-spec =
     tie.close
     (tie.spec
-    mul-rows
-    list-triangles-requires
-    mul-weld
-    weld-requires
-    link-sides-requires
-    same-length
+    (λ c. search needs) (λ c κs. search needs) (λ c. search needs) (λ c κs. search needs) link-sides-requires (λ c. search needs)
     returns)

@@ -5,9 +5,6 @@ use Rattle.islands.proofs.Sizes.{unused-of, used-of}
 use Rattle.islands.proofs.given.Statement.{statement}
 use Rattle.islands.proofs.given.Tie as tie
 
-slots-of-requires : tie.Need-slots-of-requires
-slots-of-requires c κs = search needs
-
 returns : tie.Need-returns
 returns c = rw (unused-of _ _ (c .before .slots-of .ensures .0) (c .if1 .taken))
 
@@ -15,4 +12,7 @@ returns-2 : tie.Need-returns-2
 returns-2 c = rw (used-of _ _ (c .before .slots-of .ensures .0) (c .if1 .left))
 
 pub given-spec : {M : Type 1} → statement M
-given-spec = tie.close (tie.spec slots-of-requires returns returns-2)
+given-spec =
+    tie.close
+    (tie.spec
+    (λ c κs. search needs) returns returns-2)

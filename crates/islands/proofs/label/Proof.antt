@@ -21,15 +21,6 @@ alone c = listing c .before .before .before .before
 abbrev start : tie.After-slice-known5 → tie.Start
 start c = alone c .before .before .before .before .before .before .before .before
 
-mul-rows : tie.Need-mul-rows
-mul-rows c = search needs
-
-alone-requires : tie.Need-alone-requires
-alone-requires c κs = search needs
-
-list-faces-requires : tie.Need-list-faces-requires
-list-faces-requires c κs = search needs
-
 -- so few faces are listed, in a list as long as the one that is lent
 few : (c : tie.After-weld-arg) → let f = c .before .before .before in let s = f .before .before .before .before .before .before .before .before .before .before .before .before in
     (4 * f .list-faces .result ≤ 6 * length (now (s .args .sizes))) × (126 * length (now (s .args .sizes)) ≤ length (f .list-faces .last .1 .0)) × (length (now (s .args .sizes)) ≤ faceLimit)
@@ -98,5 +89,6 @@ returns c =
 pub label-spec : {M : Type 1} → statement M
 label-spec =
     tie.close
-    (tie.spec mul-rows alone-requires list-faces-requires mul-weld weld-requires mul-unite-rows unite-rows-requires
+    (tie.spec
+    (λ c. search needs) (λ c κs. search needs) (λ c κs. search needs) mul-weld weld-requires mul-unite-rows unite-rows-requires
     settle-requires strike-requires same-length same-length-2 returns)

@@ -12,7 +12,7 @@ use Rattle.definition.specs.Handed.{used, cornerCount}
 use Rattle.mesh.proofs.Counts.{corners-none, corners-more}
 use Rattle.view.specs.Frame.{Only}
 use Rattle.view.proofs.Frame.{only-none, only-trans}
-use Rattle.islands.specs.Rows.{Listed, cornerRow, faceRow, listColumns, added}
+use Rattle.islands.specs.Rows.{FacesListed, cornerRow, faceRow, listColumns, added}
 use Rattle.islands.proofs.Sizes.{used-three}
 use Rattle.islands.proofs.Listing.{listed-none, listed-skip, listed-more, added-only}
 use Rattle.islands.proofs.list_faces.Statement.{statement}
@@ -23,22 +23,22 @@ record Going (sizes w : List ℕ) (k base f : ℕ) (u : List ℕ) : Type 0 where
   within : f ≤ length sizes
   sum : base ≡ cornerCount (take f sizes)
   few : base ≤ 255 * f
-  listed : Listed sizes f k (cornerRow (6 * length sizes) u) (faceRow (6 * length sizes) u)
+  listed : FacesListed sizes f k (cornerRow (6 * length sizes) u) (faceRow (6 * length sizes) u)
   only : Only listColumns (6 * length sizes) w u
 
 -- one face more: listed where it is of 3 or 4, passed over else
-listed-next : (sizes w u v : List ℕ) (k k′ base f size : ℕ) → 21 * (6 * length sizes) ≤ length w → f < length sizes → size ≡ getD sizes f 0 → Going sizes w k base f u → (b : Bool) → used size ≡ b → k′ ≡ cond b (k + 1) k → v ≡ cond b (added (6 * length sizes) k f base size u) u → Listed sizes (f + 1) k′ (cornerRow (6 * length sizes) v) (faceRow (6 * length sizes) v) × Only listColumns (6 * length sizes) w v
+listed-next : (sizes w u v : List ℕ) (k k′ base f size : ℕ) → 21 * (6 * length sizes) ≤ length w → f < length sizes → size ≡ getD sizes f 0 → Going sizes w k base f u → (b : Bool) → used size ≡ b → k′ ≡ cond b (k + 1) k → v ≡ cond b (added (6 * length sizes) k f base size u) u → FacesListed sizes (f + 1) k′ (cornerRow (6 * length sizes) v) (faceRow (6 * length sizes) v) × Only listColumns (6 * length sizes) w v
 listed-next sizes w u v k k′ base f size long h e g true t p q =
     let room : 4 * k + 4 ≤ 6 * length sizes = omega (arith, g .listed .few) in
     let far : 21 * (6 * length sizes) ≤ length u = omega (arith, g .only .size) in (
-      subst (λ x. Listed sizes (f + 1) x (cornerRow (6 * length sizes) v) (faceRow (6 * length sizes) v)) (sym p)
-          (subst (λ x. Listed sizes (f + 1) (k + 1) (cornerRow (6 * length sizes) x) (faceRow (6 * length sizes) x)) (sym q)
+      subst (λ x. FacesListed sizes (f + 1) x (cornerRow (6 * length sizes) v) (faceRow (6 * length sizes) v)) (sym p)
+          (subst (λ x. FacesListed sizes (f + 1) (k + 1) (cornerRow (6 * length sizes) x) (faceRow (6 * length sizes) x)) (sym q)
           (listed-more sizes (6 * length sizes) f k base size u room far h e (g .sum) t (g .listed))),
       only-trans listColumns (6 * length sizes) w u v (g .only) (subst (λ x. Only listColumns (6 * length sizes) u x) (sym q) (added-only (6 * length sizes) k f base size u room far (used-three size t .0) (used-three size t .1))),
     )
 listed-next sizes w u v k k′ base f size long h e g false t p q = (
-  subst (λ x. Listed sizes (f + 1) x (cornerRow (6 * length sizes) v) (faceRow (6 * length sizes) v)) (sym p)
-      (subst (λ x. Listed sizes (f + 1) k (cornerRow (6 * length sizes) x) (faceRow (6 * length sizes) x)) (sym q)
+  subst (λ x. FacesListed sizes (f + 1) x (cornerRow (6 * length sizes) v) (faceRow (6 * length sizes) v)) (sym p)
+      (subst (λ x. FacesListed sizes (f + 1) k (cornerRow (6 * length sizes) x) (faceRow (6 * length sizes) x)) (sym q)
       (listed-skip sizes f k _ _ (sym (ap used e) ∙ t) (g .listed))),
   subst (λ x. Only listColumns (6 * length sizes) w x) (sym q) (g .only),
 )
@@ -61,17 +61,11 @@ start c = c .before .before .before
 byte : (c : tie.After-slice-known2 Inv-loop μ-loop) → let i = c .before .before .before .before .before in getD (now (start (i .before) .args .sizes)) (i .before .loop .f) 0 < 256
 byte c = let r = c .before .before .before .before in omega (arith, r .shared-slice-known2 .given (r .before .before .loop .f))
 
-mul-rows : tie.Need-mul-rows Inv-loop μ-loop
-mul-rows c = search needs
-
 loop-holds : tie.Need-loop-holds Inv-loop μ-loop
 loop-holds c =
     let a = c .before .before .args in
     let n = 6 * length (now (a .sizes)) in
     record { within = omega arith; sum = corners-none (now (a .sizes)); few = omega arith; listed = listed-none (now (a .sizes)) (cornerRow n (now (a .work))) (faceRow n (now (a .work))); only = only-none listColumns n (now (a .work)) }
-
-shared-slice-read-size : tie.Need-shared-slice-read-size Inv-loop μ-loop
-shared-slice-read-size c = search needs
 
 cast-list-face : tie.Need-cast-list-face Inv-loop μ-loop
 cast-list-face c = let i = c .before .before in omega (arith, i .loop-test .taken, start (i .before) .pre .0)
@@ -89,12 +83,6 @@ cast-base c = omega (arith, byte c)
 add-base : tie.Need-add-base Inv-loop μ-loop
 add-base c = let i = c .before .before .before .before .before in omega (arith, byte c, i .before .loop .inv .few, i .loop-test .taken, start (i .before) .pre .0)
 
-add-f : tie.Need-add-f Inv-loop μ-loop
-add-f c = search needs
-
-loop-less : tie.Need-loop-less Inv-loop μ-loop
-loop-less c = search needs
-
 loop-again : tie.Need-loop-again Inv-loop μ-loop
 loop-again c =
     let a = c .before .before in
@@ -111,10 +99,11 @@ returns c =
     let l = c .before .loop in
     let a = start (c .before) .args in
     let n = length (now (a .sizes)) in
-    (subst (λ x. Listed (now (a .sizes)) x (l .k) (cornerRow (6 * n) (l .work)) (faceRow (6 * n) (l .work))) (le-antisymm (l .inv .within) (c .loop-test .left)) (l .inv .listed), l .inv .only)
+    (subst (λ x. FacesListed (now (a .sizes)) x (l .k) (cornerRow (6 * n) (l .work)) (faceRow (6 * n) (l .work))) (le-antisymm (l .inv .within) (c .loop-test .left)) (l .inv .listed), l .inv .only)
 
 pub list-faces-spec : {M : Type 1} → statement M
 list-faces-spec =
     tie.close
-    (tie.spec Inv-loop μ-loop mul-rows loop-holds shared-slice-read-size cast-list-face list-face-requires cast-base
-    add-base add-f loop-less loop-again same-length returns)
+    (tie.spec
+    Inv-loop μ-loop (λ c. search needs) loop-holds (λ c. search needs) cast-list-face list-face-requires cast-base add-base
+    (λ c. search needs) (λ c. search needs) loop-again same-length returns)

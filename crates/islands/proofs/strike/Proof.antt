@@ -22,29 +22,11 @@ start c = c .before .before .before
 loop-holds : tie.Need-loop-holds Inv-loop μ-loop
 loop-holds c = (omega arith, striking-none _ _)
 
-shared-slice-read-given : tie.Need-shared-slice-read-given Inv-loop μ-loop
-shared-slice-read-given c = search needs
-
-mul-given : tie.Need-mul-given Inv-loop μ-loop
-mul-given c = search needs
-
 slice-read-given : tie.Need-slice-read-given Inv-loop μ-loop
 slice-read-given c = let i = c .before .before in omega (arith, i .before .loop .inv .1 .beyond .size, i .loop-test .taken, start (i .before) .pre)
 
-given-requires : tie.Need-given-requires Inv-loop μ-loop
-given-requires c κs = search needs
-
-mul-labels : tie.Need-mul-labels Inv-loop μ-loop
-mul-labels c = search needs
-
 slice-write-labels : tie.Need-slice-write-labels Inv-loop μ-loop
 slice-write-labels c = let i = c .before .before .before in omega (arith, i .before .loop .inv .1 .beyond .size, i .loop-test .taken, start (i .before) .pre)
-
-add-f : tie.Need-add-f Inv-loop μ-loop
-add-f c = search needs
-
-loop-less : tie.Need-loop-less Inv-loop μ-loop
-loop-less c = search needs
 
 loop-again : tie.Need-loop-again Inv-loop μ-loop
 loop-again c =
@@ -63,5 +45,6 @@ returns c =
 pub strike-spec : {M : Type 1} → statement M
 strike-spec =
     tie.close
-    (tie.spec Inv-loop μ-loop loop-holds shared-slice-read-given mul-given slice-read-given given-requires mul-labels
-    slice-write-labels add-f loop-less loop-again same-length returns)
+    (tie.spec
+    Inv-loop μ-loop loop-holds (λ c. search needs) (λ c. search needs) slice-read-given (λ c κs. search needs) (λ c. search needs)
+    slice-write-labels (λ c. search needs) (λ c. search needs) loop-again same-length returns)

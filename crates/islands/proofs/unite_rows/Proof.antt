@@ -32,12 +32,6 @@ unite-row-requires c κs =
     let v = s .pre .4 .low (l .r) t in
     (omega (arith, s .pre .0, t), s .pre .1, omega (arith, s .pre .2, l .inv .1 .beyond .size), l .inv .1 .down, v, s .pre .4 .near (l .r) t, s .pre .4 .near _ (omega (arith, v, t)))
 
-add-r : tie.Need-add-r Inv-loop μ-loop
-add-r c = search needs
-
-loop-less : tie.Need-loop-less Inv-loop μ-loop
-loop-less c = search needs
-
 loop-again : tie.Need-loop-again Inv-loop μ-loop
 loop-again c =
     let u = c .before .before in
@@ -56,4 +50,5 @@ returns c =
 pub unite-rows-spec : {M : Type 1} → statement M
 unite-rows-spec =
     tie.close
-    (tie.spec Inv-loop μ-loop loop-holds unite-row-requires add-r loop-less loop-again same-length returns)
+    (tie.spec
+    Inv-loop μ-loop loop-holds unite-row-requires (λ c. search needs) (λ c. search needs) loop-again same-length returns)

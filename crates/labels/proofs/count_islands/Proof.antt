@@ -23,17 +23,8 @@ loop-holds c = let s = c .before in (own-none _, omega arith, s .pre .0, s .pre 
 mul-counted : tie.Need-mul-counted Inv-loop μ-loop
 mul-counted c = omega (arith, c .before .loop .inv .1, c .before .loop .inv .2, c .before .loop .inv .3, c .loop-test)
 
-shared-slice-read-counted : tie.Need-shared-slice-read-counted Inv-loop μ-loop
-shared-slice-read-counted c = search needs
-
 counted-requires : tie.Need-counted-requires Inv-loop μ-loop
 counted-requires c κs = let l = c .before .before .loop in omega (arith, l .inv .0, own-few (l .f) (λ k. getD (c .before .before .before .before .args .labels .now) k 0))
-
-add-f : tie.Need-add-f Inv-loop μ-loop
-add-f c = search needs
-
-loop-less : tie.Need-loop-less Inv-loop μ-loop
-loop-less c = search needs
 
 loop-again : tie.Need-loop-again Inv-loop μ-loop
 loop-again c =
@@ -49,4 +40,6 @@ returns c =
 pub count-islands-spec : {M : Type 1} → statement M
 count-islands-spec =
     tie.close
-    (tie.spec Inv-loop μ-loop loop-holds mul-counted shared-slice-read-counted counted-requires add-f loop-less loop-again returns)
+    (tie.spec
+    Inv-loop μ-loop loop-holds mul-counted (λ c. search needs) counted-requires (λ c. search needs) (λ c. search needs) loop-again
+    returns)

@@ -41,16 +41,10 @@ unrefused e =
     let a = start j .args in
     no-refusal (shown (handed (now (a .sizes)) (now (a .positions)) (now (a .normals)) (now (a .texture))) zeroᶠ longestAnswer (length (now (a .work)))) (sym (ap (λ x. x .number) (j .before .judge .ensures)) ∙ e .if1 .left)
 
-judge-requires : tie.Need-judge-requires
-judge-requires c κs = search needs
-
 -- past the second nothing is refused
 passing : (e : tie.Else2) → let s = start (e .before .before) in let a = s .args in labelsVerdict (handed (now (a .sizes)) (now (a .positions)) (now (a .normals)) (now (a .texture))) (length (now (a .labels))) (length (now (a .work))) ≡ none
 unfolding labelsVerdict
 passing e = let s = start (e .before .before) in passes (table s) (short s) (unrefused (e .before)) (le-ltb (length (now (s .args .labels))) (length (now (s .args .sizes))) (omega (arith, e .if2 .left)))
-
-said-requires : tie.Need-said-requires
-said-requires c κs = search needs
 
 returns : tie.Need-returns
 unfolding labelsOutcome labelsVerdict
@@ -60,9 +54,6 @@ returns c =
     let e = j .before .judge .ensures in
     ap (λ r. left r (now (s .args .labels)) (now (s .args .work))) (c .said .ensures ∙ (λ i. record { number = e i .number; place = e i .place; islands = 0 }))
     ∙ refused (table s) (short s) (taken s) (now (s .args .labels)) (now (s .args .work)) (λ q. c .before .if1 .taken (ap (λ x. x .number) e ∙ q))
-
-said-requires-2 : tie.Need-said-requires-2
-said-requires-2 c κs = search needs
 
 returns-2 : tie.Need-returns-2
 unfolding labelsOutcome labelsVerdict
@@ -74,15 +65,6 @@ returns-2 c =
 
 number-faces-requires : tie.Need-number-faces-requires
 number-faces-requires c κs = let e = c .before .before in passing e
-
-said-requires-3 : tie.Need-said-requires-3
-said-requires-3 c κs = search needs
-
-same-length : tie.Need-same-length
-same-length c = search needs
-
-same-length-2 : tie.Need-same-length-2
-same-length-2 c = search needs
 
 returns-3 : tie.Need-returns-3
 unfolding labelsOutcome answered
@@ -96,5 +78,5 @@ pub label-faces-spec : {M : Type 1} → statement M
 label-faces-spec =
     tie.close
     (tie.spec
-    judge-requires said-requires returns said-requires-2 returns-2 number-faces-requires said-requires-3 same-length
-    same-length-2 returns-3)
+    (λ c κs. search needs) (λ c κs. search needs) returns (λ c κs. search needs) returns-2 number-faces-requires
+    (λ c κs. search needs) (λ c. search needs) (λ c. search needs) returns-3)

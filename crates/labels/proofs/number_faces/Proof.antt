@@ -46,12 +46,6 @@ count-islands-requires c κs =
     let k = known (start e) in
     (omega (arith, labels-length _ _ _ (k .1) (e .label .ensures .0)), k .0)
 
-same-length : tie.Need-same-length
-same-length c = search needs
-
-same-length-2 : tie.Need-same-length-2
-same-length-2 c = search needs
-
 returns : tie.Need-returns
 unfolding left acceptedLabels
 returns c =
@@ -66,4 +60,5 @@ returns c =
 pub number-faces-spec : {M : Type 1} → statement M
 number-faces-spec =
     tie.close
-    (tie.spec label-requires mul-clear-first clear-first-requires count-islands-requires same-length same-length-2 returns)
+    (tie.spec
+    label-requires mul-clear-first clear-first-requires count-islands-requires (λ c. search needs) (λ c. search needs) returns)

@@ -36,18 +36,6 @@ known-four c =
     let a = j .before .before .before .before .before .before .args in
     four-x (now (a .positions)) (now (a .normals)) (now (a .texture)) (a .face) (a .base) (c .quad .result .first) (c .quad .result .second) _ _ _ _ (a .size) (c .quad .ensures) (k0 .corner-at .ensures) (k1 .corner-at2 .ensures) (k2 .corner-at3 .ensures) (k3 .corner-at4 .ensures) (j .if2 .taken)
 
-kept-at-requires : tie.Need-kept-at-requires
-kept-at-requires c κs = search needs
-
-kept-at-requires-2 : tie.Need-kept-at-requires-2
-kept-at-requires-2 c κs = search needs
-
-kept-at-requires-3 : tie.Need-kept-at-requires-3
-kept-at-requires-3 c κs = search needs
-
-make-requires : tie.Need-make-requires
-make-requires c κs = search needs
-
 add-one-requires : tie.Need-add-one-requires
 add-one-requires c κs =
     let m = c .before in
@@ -57,9 +45,6 @@ add-one-requires c κs =
     let small = small-of (now (a .positions)) (now (a .normals)) (now (a .texture)) (a .face) (a .base) (m .make .result) (K .1) in
     (room-one (a .rows) (a .want) (now (a .positions)) (now (a .normals)) (now (a .texture)) (a .face) (a .base) (a .slot) _ _ (a .tris) (K .0) (s .pre .3), s .pre .2, small (a .base) (s .pre .0), small (a .slot) (s .pre .1))
 
-same-length : tie.Need-same-length
-same-length c = search needs
-
 returns : tie.Need-returns
 returns c =
     let call = c .before .before in
@@ -68,29 +53,8 @@ returns c =
     let K = known m in
     one-done (a .rows) (a .want) (now (a .positions)) (now (a .normals)) (now (a .texture)) (a .face) (a .base) (a .slot) (m .make .result) _ (a .tris) (call .add-one .result) (now (a .work)) _ (K .0) (K .1) (call .add-one .ensures .0) (call .add-one .ensures .1)
 
-corner-at-requires : tie.Need-corner-at-requires
-corner-at-requires c κs = search needs
-
-add-corner-at : tie.Need-add-corner-at
-add-corner-at c = search needs
-
-corner-at-requires-2 : tie.Need-corner-at-requires-2
-corner-at-requires-2 c κs = search needs
-
-add-corner-at-2 : tie.Need-add-corner-at-2
-add-corner-at-2 c = search needs
-
-corner-at-requires-3 : tie.Need-corner-at-requires-3
-corner-at-requires-3 c κs = search needs
-
 add-corner-at-3 : tie.Need-add-corner-at-3
 add-corner-at-3 c = let s = c .before .before .before .before .before .before .before .before .before in omega (arith, s .pre .0)
-
-corner-at-requires-4 : tie.Need-corner-at-requires-4
-corner-at-requires-4 c κs = search needs
-
-quad-requires : tie.Need-quad-requires
-quad-requires c κs = search needs
 
 add-one-requires-2 : tie.Need-add-one-requires-2
 add-one-requires-2 c κs =
@@ -113,9 +77,6 @@ add-one-requires-3 c κs =
     let small = small-of (now (a .positions)) (now (a .normals)) (now (a .texture)) (a .face) (a .base) (q .quad .result .second) (K .1 .1) in
     (omega (arith, R, call .add-one2 .ensures .0), omega (arith, s .pre .2, call .add-one2 .kept .0), small (a .base) (s .pre .0), small (a .slot) (s .pre .1))
 
-same-length-2 : tie.Need-same-length-2
-same-length-2 c = search needs
-
 returns-2 : tie.Need-returns-2
 returns-2 c =
     let last = c .before .before in
@@ -134,7 +95,7 @@ pub add-face-spec : {M : Type 1} → statement M
 add-face-spec =
     tie.close
     (tie.spec
-    kept-at-requires kept-at-requires-2 kept-at-requires-3 make-requires add-one-requires
-    same-length returns corner-at-requires add-corner-at corner-at-requires-2
-    add-corner-at-2 corner-at-requires-3 add-corner-at-3 corner-at-requires-4 quad-requires
-    add-one-requires-2 add-one-requires-3 same-length-2 returns-2 returns-3)
+    (λ c κs. search needs) (λ c κs. search needs) (λ c κs. search needs) (λ c κs. search needs) add-one-requires
+    (λ c. search needs) returns (λ c κs. search needs) (λ c. search needs) (λ c κs. search needs) (λ c. search needs)
+    (λ c κs. search needs) add-corner-at-3 (λ c κs. search needs) (λ c κs. search needs) add-one-requires-2 add-one-requires-3
+    (λ c. search needs) returns-2 returns-3)

@@ -19,12 +19,6 @@ store-requires c κs =
     let e : length (pick (a .want) (a .x ∷ [])) ≡ 1 = ap length (pick-yes (a .want) (a .x) (c .before .if1 .taken)) in
     (omega arith, s .pre .1, s .pre .2, s .pre .3)
 
-add-result : tie.Need-add-result
-add-result c = search needs
-
-same-length : tie.Need-same-length
-same-length c = search needs
-
 returns : tie.Need-returns
 returns c =
     let call = c .before .before in
@@ -43,4 +37,7 @@ returns-2 c =
     (omega arith, λ mesh eb es F. add-no (a .rows) mesh (a .want) (a .tris) (a .x) _ (c .if1 .left))
 
 pub add-one-spec : {M : Type 1} → statement M
-add-one-spec = tie.close (tie.spec store-requires add-result same-length returns returns-2)
+add-one-spec =
+    tie.close
+    (tie.spec
+    store-requires (λ c. search needs) (λ c. search needs) returns returns-2)

@@ -8,20 +8,11 @@ use borrow.Author.Needs.{needs}
 use Rattle.listing.proofs.list_triangles.Statement.{statement}
 use Rattle.listing.proofs.list_triangles.Tie as tie
 
-mul-rows : tie.Need-mul-rows
-mul-rows c = search needs
-
 pass-requires : tie.Need-pass-requires
 pass-requires c κs =
     let s = c .before .before .before .before .before .before in
     let a = s .args in
     (s .pre .0, s .pre .1, room-first (handed (now (a .sizes)) (now (a .positions)) (now (a .normals)) (now (a .texture))))
-
-pieces-in-requires : tie.Need-pieces-in-requires
-pieces-in-requires c κs = search needs
-
-same-length : tie.Need-same-length
-same-length c = search needs
 
 returns : tie.Need-returns
 returns c =
@@ -38,9 +29,6 @@ pass-requires-2 c κs =
     let a = s .args in
     (s .pre .0, omega (arith, s .pre .1, one .pass .ensures .only .size), room-second (handed (now (a .sizes)) (now (a .positions)) (now (a .normals)) (now (a .texture))) (one .pass .result) (one .pass .ensures .count))
 
-same-length-2 : tie.Need-same-length-2
-same-length-2 c = search needs
-
 returns-2 : tie.Need-returns-2
 returns-2 c =
     let two = c .before .before in
@@ -53,11 +41,5 @@ pub list-triangles-spec : {M : Type 1} → statement M
 list-triangles-spec =
     tie.close
     (tie.spec
-    mul-rows
-    pass-requires
-    pieces-in-requires
-    same-length
-    returns
-    pass-requires-2
-    same-length-2
+    (λ c. search needs) pass-requires (λ c κs. search needs) (λ c. search needs) returns pass-requires-2 (λ c. search needs)
     returns-2)

@@ -18,9 +18,6 @@ abbrev μ-loop : tie.MeasureT-loop
 loop-holds : tie.Need-loop-holds Inv-loop μ-loop
 loop-holds c = far-start _ _ _ _ _
 
-shared-slice-read-size : tie.Need-shared-slice-read-size Inv-loop μ-loop
-shared-slice-read-size c = omega arith
-
 cast-add-face : tie.Need-cast-add-face Inv-loop μ-loop
 cast-add-face c =
     let test = c .before .before in
@@ -37,9 +34,6 @@ add-face-requires c κs =
     let lt : l .f < length (now (a .sizes)) = test .loop-test .taken in
     (omega (arith, l .inv .low, lt, s .pre .0), omega (arith, l .inv .few, lt, s .pre .0), omega (arith, s .pre .1, l .inv .added .only .size), fits-room (a .rows) (a .want) (handed (now (a .sizes)) (now (a .positions)) (now (a .normals)) (now (a .texture))) (a .tris) (now (a .work)) (l .work) (l .f) (l .base) (l .slot) (l .k) (l .inv) lt (s .pre .2))
 
-corners-of-requires : tie.Need-corners-of-requires Inv-loop μ-loop
-corners-of-requires c κs = search needs
-
 add-base : tie.Need-add-base Inv-loop μ-loop
 add-base c =
     let test = c .before .before .before .before .before .before in
@@ -47,9 +41,6 @@ add-base c =
     let s = test .before .before .before .before .before .before .before in
     let lt : l .f < length (now (s .args .sizes)) = test .loop-test .taken in
     omega (arith, l .inv .low, lt, s .pre .0, c .corners-of .ensures .1)
-
-slots-of-requires : tie.Need-slots-of-requires Inv-loop μ-loop
-slots-of-requires c κs = search needs
 
 cast-slot : tie.Need-cast-slot Inv-loop μ-loop
 cast-slot c = omega (arith, c .slots-of .ensures .1)
@@ -95,6 +86,5 @@ pub pass-spec : {M : Type 1} → statement M
 pass-spec =
     tie.close
     (tie.spec
-    Inv-loop μ-loop loop-holds shared-slice-read-size cast-add-face add-face-requires
-    corners-of-requires add-base slots-of-requires cast-slot add-slot add-f loop-less
-    loop-again same-length returns)
+    Inv-loop μ-loop loop-holds (λ c. omega arith) cast-add-face add-face-requires (λ c κs. search needs) add-base
+    (λ c κs. search needs) cast-slot add-slot add-f loop-less loop-again same-length returns)

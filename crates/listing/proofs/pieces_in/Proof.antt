@@ -20,24 +20,12 @@ abbrev μ-loop : tie.MeasureT-loop
 loop-holds : tie.Need-loop-holds Inv-loop μ-loop
 loop-holds c = (pieces-none (c .before .args .sizes .now), omega arith, omega arith)
 
-shared-slice-read-pieces-of : tie.Need-shared-slice-read-pieces-of Inv-loop μ-loop
-shared-slice-read-pieces-of c = search needs
-
-pieces-of-requires : tie.Need-pieces-of-requires Inv-loop μ-loop
-pieces-of-requires c κs = search needs
-
 add-sum : tie.Need-add-sum Inv-loop μ-loop
 add-sum c =
     let i = c .before .before in
     let l = i .before .loop in
     let s = i .before .before .before in
     omega (arith, l .inv .2, l .inv .1, c .pieces-of .ensures .1, s .pre)
-
-add-f : tie.Need-add-f Inv-loop μ-loop
-add-f c = search needs
-
-loop-less : tie.Need-loop-less Inv-loop μ-loop
-loop-less c = search needs
 
 loop-again : tie.Need-loop-again Inv-loop μ-loop
 loop-again c =
@@ -60,13 +48,5 @@ pub pieces-in-spec : {M : Type 1} → statement M
 pieces-in-spec =
     tie.close
     (tie.spec
-    Inv-loop
-    μ-loop
-    loop-holds
-    shared-slice-read-pieces-of
-    pieces-of-requires
-    add-sum
-    add-f
-    loop-less
-    loop-again
-    returns)
+    Inv-loop μ-loop loop-holds (λ c. search needs) (λ c κs. search needs) add-sum (λ c. search needs) (λ c. search needs)
+    loop-again returns)

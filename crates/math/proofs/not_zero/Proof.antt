@@ -6,12 +6,12 @@ use Rattle.math.specs.Vector.{counts}
 use Rattle.math.proofs.not_zero.Statement.{statement}
 use Rattle.math.proofs.not_zero.Tie as tie
 
-fabsf-requires : tie.Need-fabsf-requires
-fabsf-requires c κs = search needs
-
 returns : tie.Need-returns
 unfolding counts
 returns c = ap (λ (y : Float). lt (ofBits binary32 0x0080_0000) y) (c .fabsf .ensures)
 
 pub not-zero-spec : {M : Type 1} → statement M
-not-zero-spec = tie.close (tie.spec fabsf-requires returns)
+not-zero-spec =
+    tie.close
+    (tie.spec
+    (λ c κs. search needs) returns)

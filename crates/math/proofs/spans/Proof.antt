@@ -8,9 +8,6 @@ use Rattle.math.specs.Vector.{spans}
 use Rattle.math.proofs.spans.Statement.{statement}
 use Rattle.math.proofs.spans.Tie as tie
 
-is-finite-requires : tie.Need-is-finite-requires
-is-finite-requires c κs = search needs
-
 returns : tie.Need-returns
 unfolding spans
 returns c = sym (ap (λ (b : Bool). cond b false (isFinite (c .before .args .q))) (c .if1 .taken))
@@ -20,4 +17,7 @@ unfolding spans
 returns-2 c = c .is-finite .ensures ∙ sym (ap (λ (b : Bool). cond b false (isFinite (c .before .before .args .q))) (c .before .if1 .left))
 
 pub spans-spec : {M : Type 1} → statement M
-spans-spec = tie.close (tie.spec is-finite-requires returns returns-2)
+spans-spec =
+    tie.close
+    (tie.spec
+    (λ c κs. search needs) returns returns-2)

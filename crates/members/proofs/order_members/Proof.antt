@@ -5,21 +5,6 @@ use borrow.Author.Needs.{needs}
 use Rattle.members.proofs.order_members.Statement.{statement}
 use Rattle.members.proofs.order_members.Tie as tie
 
-clear-requires : tie.Need-clear-requires
-clear-requires c κs = search needs
-
-clear-requires-2 : tie.Need-clear-requires-2
-clear-requires-2 c κs = search needs
-
-copy-members-requires : tie.Need-copy-members-requires
-copy-members-requires c κs = search needs
-
-sort-groups-requires : tie.Need-sort-groups-requires
-sort-groups-requires c κs = search needs
-
-same-length : tie.Need-same-length
-same-length c = search needs
-
 returns : tie.Need-returns
 returns c =
     let k = c .before .before in
@@ -36,5 +21,4 @@ pub order-members-spec : {M : Type 1} → statement M
 order-members-spec =
     tie.close
     (tie.spec
-    clear-requires clear-requires-2 copy-members-requires sort-groups-requires same-length
-    returns)
+    (λ c κs. search needs) (λ c κs. search needs) (λ c κs. search needs) (λ c κs. search needs) (λ c. search needs) returns)

@@ -4,30 +4,12 @@ use borrow.Author.Needs.{needs}
 use Rattle.members.proofs.sort_group.Statement.{statement}
 use Rattle.members.proofs.sort_group.Tie as tie
 
-begin-at-requires : tie.Need-begin-at-requires
-begin-at-requires c κs = search needs
-
-add-begin-at : tie.Need-add-begin-at
-add-begin-at c = search needs
-
-begin-at-requires-2 : tie.Need-begin-at-requires-2
-begin-at-requires-2 c κs = search needs
-
-same-length : tie.Need-same-length
-same-length c = search needs
-
 returns : tie.Need-returns
 returns c =
     let two = c .before in
     let one = two .before .before in
     let a = one .before .before .before .args in
     sorts-idle (a .rows) (one .begin-at .result) (two .begin-at2 .result) _ _ (a .work .now) (one .begin-at .ensures .0) (two .begin-at2 .ensures .0) (c .if1 .taken)
-
-sort-requires : tie.Need-sort-requires
-sort-requires c κs = search needs
-
-same-length-2 : tie.Need-same-length-2
-same-length-2 c = search needs
 
 returns-2 : tie.Need-returns-2
 returns-2 c =
@@ -42,5 +24,5 @@ pub sort-group-spec : {M : Type 1} → statement M
 sort-group-spec =
     tie.close
     (tie.spec
-    begin-at-requires add-begin-at begin-at-requires-2 same-length returns sort-requires
-    same-length-2 returns-2)
+    (λ c κs. search needs) (λ c. search needs) (λ c κs. search needs) (λ c. search needs) returns (λ c κs. search needs)
+    (λ c. search needs) returns-2)

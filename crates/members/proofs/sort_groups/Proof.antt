@@ -16,9 +16,6 @@ Inv-loop work₀ rows s q₀ q-end work q = (q ≤ s .groups) × Sorting rows (s
 abbrev μ-loop : tie.MeasureT-loop
 μ-loop work₀ rows s q₀ q-end work q = s .groups - q
 
-cast-q-end : tie.Need-cast-q-end Inv-loop μ-loop
-cast-q-end c = search needs
-
 loop-holds : tie.Need-loop-holds Inv-loop μ-loop
 loop-holds c = (omega arith, unsorted, refl)
 
@@ -27,12 +24,6 @@ sort-group-requires c κs =
     let l = c .before .before .loop in
     let s = c .before .before .before .before .before in
     (c .before .loop-test .taken, s .pre .0, s .pre .1, omega (arith, s .pre .2, l .inv .2))
-
-add-q : tie.Need-add-q Inv-loop μ-loop
-add-q c = search needs
-
-loop-less : tie.Need-loop-less Inv-loop μ-loop
-loop-less c = search needs
 
 loop-again : tie.Need-loop-again Inv-loop μ-loop
 loop-again c =
@@ -51,5 +42,5 @@ pub sort-groups-spec : {M : Type 1} → statement M
 sort-groups-spec =
     tie.close
     (tie.spec
-    Inv-loop μ-loop cast-q-end loop-holds sort-group-requires add-q loop-less loop-again
+    Inv-loop μ-loop (λ c. search needs) loop-holds sort-group-requires (λ c. search needs) (λ c. search needs) loop-again
     same-length returns)

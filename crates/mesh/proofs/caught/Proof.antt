@@ -1,5 +1,5 @@
 -- `mesh::caught` meets its contract. Assumes nothing.
-use mathlib.Core.Path.{_≡_, _∙_}
+use mathlib.Core.Path.{_∙_}
 use Rattle.definition.specs.Handed.{Handed, handed}
 use Rattle.mesh.proofs.Fitting.{caught-many, caught-few, all-taken}
 use borrow.Author.Needs.{needs}
@@ -13,15 +13,6 @@ given s = let a = s .args in handed (a .sizes .now) (a .positions .now) (a .norm
 returns : tie.Need-returns
 returns c = caught-many (given (c .before .before .before .before .before)) (c .if1 .taken)
 
-corners-before-requires : tie.Need-corners-before-requires
-corners-before-requires c κs = search needs
-
-cast-unfit : tie.Need-cast-unfit
-cast-unfit c = search needs
-
-unfit-requires : tie.Need-unfit-requires
-unfit-requires c κs = search needs
-
 returns-2 : tie.Need-returns-2
 returns-2 c =
     let b = c .before in
@@ -29,4 +20,7 @@ returns-2 c =
     c .unfit .ensures ∙ caught-few (given s) (b .corners-before .result) (b .before .if1 .left) (b .corners-before .ensures .0 ∙ all-taken (s .args .sizes .now) (b .before .if1 .left))
 
 pub caught-spec : {M : Type 1} → statement M
-caught-spec = tie.close (tie.spec returns corners-before-requires cast-unfit unfit-requires returns-2)
+caught-spec =
+    tie.close
+    (tie.spec
+    returns (λ c κs. search needs) (λ c. search needs) (λ c κs. search needs) returns-2)

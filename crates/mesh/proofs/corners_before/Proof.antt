@@ -15,29 +15,14 @@ Inv-loop sizes face end sum₀ f₀ sum f = (f ≤ end) × (end ≡ min (min fac
 abbrev μ-loop : tie.MeasureT-loop
 μ-loop sizes face end sum₀ f₀ sum f = end - f
 
-least-requires : tie.Need-least-requires Inv-loop μ-loop
-least-requires c κs = search needs
-
-least-requires-2 : tie.Need-least-requires-2 Inv-loop μ-loop
-least-requires-2 c κs = search needs
-
 loop-holds : tie.Need-loop-holds Inv-loop μ-loop
 loop-holds c = (omega arith, omega arith, corners-none (c .before .before .before .args .sizes .now), omega arith)
-
-shared-slice-read-sum : tie.Need-shared-slice-read-sum Inv-loop μ-loop
-shared-slice-read-sum c = search needs
 
 cast-sum : tie.Need-cast-sum Inv-loop μ-loop
 cast-sum c = omega (arith, c .shared-slice-known2 .given (c .before .before .loop .f))
 
 add-sum : tie.Need-add-sum Inv-loop μ-loop
 add-sum c = omega (arith, c .shared-slice-known2 .given (c .before .before .loop .f))
-
-add-f : tie.Need-add-f Inv-loop μ-loop
-add-f c = search needs
-
-loop-less : tie.Need-loop-less Inv-loop μ-loop
-loop-less c = search needs
 
 loop-again : tie.Need-loop-again Inv-loop μ-loop
 loop-again c =
@@ -61,15 +46,5 @@ pub corners-before-spec : {M : Type 1} → statement M
 corners-before-spec =
     tie.close
     (tie.spec
-    Inv-loop
-    μ-loop
-    least-requires
-    least-requires-2
-    loop-holds
-    shared-slice-read-sum
-    cast-sum
-    add-sum
-    add-f
-    loop-less
-    loop-again
-    returns)
+    Inv-loop μ-loop (λ c κs. search needs) (λ c κs. search needs) loop-holds (λ c. search needs) cast-sum add-sum
+    (λ c. search needs) (λ c. search needs) loop-again returns)

@@ -47,23 +47,14 @@ within c =
     let e = ap (λ (n : ℕ). a .width * n) (start-is (c .before)) in
     omega (arith, e, part-ends (a .width) (a .sizes .now) (a .face) (c .before .before .if1 .left), p .2)
 
-slice-aggregate-result : tie.Need-slice-aggregate-result
-slice-aggregate-result c = search needs
-
 returns : tie.Need-returns
 unfolding partOrNone
 returns c =
     let a = c .before .before .before .before .args in
     sym (ap (λ (b : Bool). cond b [] (partOf (a .width) (a .xs .now) (a .sizes .now) (a .face))) (le-leb (length (a .sizes .now)) (a .face) (c .before .if1 .taken)))
 
-corners-before-requires : tie.Need-corners-before-requires
-corners-before-requires c κs = search needs
-
 mul-start : tie.Need-mul-start
 mul-start c = omega (arith, start-small c)
-
-shared-slice-read-end : tie.Need-shared-slice-read-end
-shared-slice-read-end c = search needs
 
 cast-end : tie.Need-cast-end
 cast-end c = omega (arith, c .shared-slice-known3 .given (c .before .before .before .before .before .args .face))
@@ -77,12 +68,6 @@ add-end c = omega (arith, start-small (c .before), size-small c)
 mul-result : tie.Need-mul-result
 mul-result c = omega (arith, start-small (c .before))
 
-sub-result : tie.Need-sub-result
-sub-result c = search needs
-
-part-result-start : tie.Need-part-result-start
-part-result-start c = search needs
-
 part-result-end : tie.Need-part-result-end
 part-result-end c = let h = within c in search needs
 
@@ -95,16 +80,5 @@ pub part-spec : {M : Type 1} → statement M
 part-spec =
     tie.close
     (tie.spec
-    slice-aggregate-result
-    returns
-    corners-before-requires
-    mul-start
-    shared-slice-read-end
-    cast-end
-    mul-end
-    add-end
-    mul-result
-    sub-result
-    part-result-start
-    part-result-end
-    returns-2)
+    (λ c. search needs) returns (λ c κs. search needs) mul-start (λ c. search needs) cast-end mul-end add-end mul-result
+    (λ c. search needs) (λ c. search needs) part-result-end returns-2)

@@ -15,29 +15,8 @@ Inv-loop sizes face end sum₀ f₀ sum f = (f ≤ end) × (end ≡ min (min fac
 abbrev μ-loop : tie.MeasureT-loop
 μ-loop sizes face end sum₀ f₀ sum f = end - f
 
-least-requires : tie.Need-least-requires Inv-loop μ-loop
-least-requires c κs = search needs
-
-least-requires-2 : tie.Need-least-requires-2 Inv-loop μ-loop
-least-requires-2 c κs = search needs
-
 loop-holds : tie.Need-loop-holds Inv-loop μ-loop
 loop-holds c = (omega arith, omega arith, slots-none (c .before .before .before .args .sizes .now), omega arith)
-
-shared-slice-read-slots-of : tie.Need-shared-slice-read-slots-of Inv-loop μ-loop
-shared-slice-read-slots-of c = search needs
-
-slots-of-requires : tie.Need-slots-of-requires Inv-loop μ-loop
-slots-of-requires c κs = search needs
-
-add-sum : tie.Need-add-sum Inv-loop μ-loop
-add-sum c = omega arith
-
-add-f : tie.Need-add-f Inv-loop μ-loop
-add-f c = search needs
-
-loop-less : tie.Need-loop-less Inv-loop μ-loop
-loop-less c = search needs
 
 loop-again : tie.Need-loop-again Inv-loop μ-loop
 loop-again c =
@@ -61,15 +40,5 @@ pub slots-before-spec : {M : Type 1} → statement M
 slots-before-spec =
     tie.close
     (tie.spec
-    Inv-loop
-    μ-loop
-    least-requires
-    least-requires-2
-    loop-holds
-    shared-slice-read-slots-of
-    slots-of-requires
-    add-sum
-    add-f
-    loop-less
-    loop-again
-    returns)
+    Inv-loop μ-loop (λ c κs. search needs) (λ c κs. search needs) loop-holds (λ c. search needs) (λ c κs. search needs)
+    (λ c. omega arith) (λ c. search needs) (λ c. search needs) loop-again returns)

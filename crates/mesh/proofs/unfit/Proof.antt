@@ -5,9 +5,6 @@ use Rattle.definition.specs.Desk.{unfit}
 use Rattle.mesh.proofs.unfit.Statement.{statement}
 use Rattle.mesh.proofs.unfit.Tie as tie
 
-mul-triple : tie.Need-mul-triple
-mul-triple c = search needs
-
 returns : tie.Need-returns
 unfolding unfit
 returns c = rw (ne-eqb _ _ (c .if1 .taken))
@@ -16,12 +13,12 @@ returns-2 : tie.Need-returns-2
 unfolding unfit
 returns-2 c = rw (eq-eqb _ _ (c .before .if1 .left), ne-eqb _ _ (c .if2 .taken))
 
-mul-result : tie.Need-mul-result
-mul-result c = search needs
-
 returns-3 : tie.Need-returns-3
 unfolding unfit
 returns-3 c = rw (eq-eqb _ _ (c .before .if1 .left), eq-eqb _ _ (c .if2 .left))
 
 pub unfit-spec : {M : Type 1} → statement M
-unfit-spec = tie.close (tie.spec mul-triple returns returns-2 mul-result returns-3)
+unfit-spec =
+    tie.close
+    (tie.spec
+    (λ c. search needs) returns returns-2 (λ c. search needs) returns-3)

@@ -7,9 +7,6 @@ use Rattle.mesh.specs.Parts.{partOrNone}
 use Rattle.mesh.proofs.unless.Statement.{statement}
 use Rattle.mesh.proofs.unless.Tie as tie
 
-slice-aggregate-result : tie.Need-slice-aggregate-result
-slice-aggregate-result c = search needs
-
 returns : tie.Need-returns
 returns c =
     let a = c .before .before .before .before .args in
@@ -24,4 +21,7 @@ returns-2 c =
     c .part .ensures ∙ sym (ap (λ (b : Bool). cond b [] (partOrNone (a .width) (a .xs .now) (a .sizes .now) (a .face))) (c .before .if1 .left))
 
 pub unless-spec : {M : Type 1} → statement M
-unless-spec = tie.close (tie.spec slice-aggregate-result returns part-requires returns-2)
+unless-spec =
+    tie.close
+    (tie.spec
+    (λ c. search needs) returns part-requires returns-2)

@@ -1,7 +1,6 @@
 -- `mikktspace::generate_tangent_space` meets its contract. Assumes nothing.
 use mathlib.Core.Path.{sym, ap, _∙_}
 use denote.Ref.{now}
-use lib.ListN.{length}
 use Rattle.definition.specs.Handed.{call, handed, Call}
 use Rattle.definition.specs.Desk.{verdict, atDesk}
 use Rattle.definition.specs.Outcome.{accepted, answered, outcome}
@@ -16,12 +15,6 @@ abbrev called : tie.Start → Call
 called s =
     let a = s .args in
     call (handed (now (a .sizes)) (now (a .positions)) (now (a .normals)) (now (a .texture))) (a .threshold) (now (a .answer)) (now (a .work))
-
-judge-requires : tie.Need-judge-requires
-judge-requires c κs = search needs
-
-said-requires : tie.Need-said-requires
-said-requires c κs = search needs
 
 returns : tie.Need-returns
 unfolding outcome
@@ -41,15 +34,6 @@ make-frames-requires c κs =
     let s = j .before .before .before .before .before .before .before in
     no-refusal (atDesk (called s)) (sym (ap (λ x. x .number) (j .judge .ensures)) ∙ i .if1 .left)
 
-said-requires-2 : tie.Need-said-requires-2
-said-requires-2 c κs = search needs
-
-same-length : tie.Need-same-length
-same-length c = search needs
-
-same-length-2 : tie.Need-same-length-2
-same-length-2 c = search needs
-
 returns-2 : tie.Need-returns-2
 unfolding outcome answered
 returns-2 c =
@@ -66,4 +50,5 @@ pub generate-tangent-space-spec : {M : Type 1} → statement M
 generate-tangent-space-spec =
     tie.close
     (tie.spec
-    judge-requires said-requires returns make-frames-requires said-requires-2 same-length same-length-2 returns-2)
+    (λ c κs. search needs) (λ c κs. search needs) returns make-frames-requires (λ c κs. search needs) (λ c. search needs)
+    (λ c. search needs) returns-2)

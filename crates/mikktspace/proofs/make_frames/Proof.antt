@@ -25,14 +25,8 @@ known s = let a = s .args in fine (shown (handed (now (a .sizes)) (now (a .posit
 room : (s : tie.Start) → columns * rowsOf (length (now (s .args .sizes))) ≤ length (now (s .args .work))
 room s = omega (arith, known s .work-fits)
 
-slots-before-requires : tie.Need-slots-before-requires
-slots-before-requires c κs = search needs
-
 mul-rows : tie.Need-mul-rows
 mul-rows c = omega (arith, known (c .before .before .before .before .before .before .before) .few)
-
-mul-clear-first : tie.Need-mul-clear-first
-mul-clear-first c = search needs
 
 clear-first-requires : tie.Need-clear-first-requires
 clear-first-requires c κs =
@@ -84,12 +78,6 @@ clear-first-requires-2 c κs =
 cast-result : tie.Need-cast-result
 cast-result c = omega (arith, c .before .before .before .before .before .before .before .before .before .before .before .before .before .before .before .before .before .before .before .before .before .before .before .before .before .before .before .before .slots-before .ensures .1)
 
-same-length : tie.Need-same-length
-same-length c = search needs
-
-same-length-2 : tie.Need-same-length-2
-same-length-2 c = search needs
-
 returns : tie.Need-returns
 unfolding left accepted
 returns c =
@@ -114,6 +102,6 @@ pub make-frames-spec : {M : Type 1} → statement M
 make-frames-spec =
     tie.close
     (tie.spec
-    slots-before-requires mul-rows mul-clear-first clear-first-requires group-mesh-requires contribute-all-requires
-    generate-tangent-spaces-requires copy-frames-requires mul-clear-first-2 clear-first-requires-2 cast-result
-    same-length same-length-2 returns)
+    (λ c κs. search needs) mul-rows (λ c. search needs) clear-first-requires group-mesh-requires contribute-all-requires
+    generate-tangent-spaces-requires copy-frames-requires mul-clear-first-2 clear-first-requires-2 cast-result (λ c. search needs)
+    (λ c. search needs) returns)

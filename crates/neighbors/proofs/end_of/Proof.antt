@@ -6,19 +6,16 @@ use borrow.Author.Needs.{needs}
 use Rattle.neighbors.proofs.end_of.Statement.{statement}
 use Rattle.neighbors.proofs.end_of.Tie as tie
 
-sub-result : tie.Need-sub-result
-sub-result c = search needs
-
 returns : tie.Need-returns
 unfolding endRow
 returns c = simp (eq-eqb _ _ (c .if1 .taken)) refl
-
-add-result : tie.Need-add-result
-add-result c = search needs
 
 returns-2 : tie.Need-returns-2
 unfolding endRow
 returns-2 c = simp (ne-eqb _ _ (c .if1 .left)) refl
 
 pub end-of-spec : {M : Type 1} → statement M
-end-of-spec = tie.close (tie.spec sub-result returns add-result returns-2)
+end-of-spec =
+    tie.close
+    (tie.spec
+    (λ c. search needs) returns (λ c. search needs) returns-2)

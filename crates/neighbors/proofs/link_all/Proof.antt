@@ -26,9 +26,6 @@ loop-holds : tie.Need-loop-holds Inv-loop μ-loop
 loop-holds c =
     (record { ready = c .before .pre; first = omega arith; second = omega arith; likes = λ a b p q r. absurd (omega arith) }, upTo-none _ _, only-none _ _ _)
 
-step-requires : tie.Need-step-requires Inv-loop μ-loop
-step-requires c κs = search needs
-
 loop-less : tie.Need-loop-less Inv-loop μ-loop
 loop-less c =
     let s = c .before .before .step .ensures in
@@ -52,4 +49,5 @@ returns c =
 pub link-all-spec : {M : Type 1} → statement M
 link-all-spec =
     tie.close
-    (tie.spec Inv-loop μ-loop loop-holds step-requires loop-less loop-again same-length returns)
+    (tie.spec
+    Inv-loop μ-loop loop-holds (λ c κs. search needs) loop-less loop-again same-length returns)

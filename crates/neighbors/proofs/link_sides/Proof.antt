@@ -11,24 +11,12 @@ use borrow.Author.Needs.{needs}
 use Rattle.neighbors.proofs.link_sides.Statement.{statement}
 use Rattle.neighbors.proofs.link_sides.Tie as tie
 
-mul-n : tie.Need-mul-n
-mul-n c = search needs
-
-put-sides-requires : tie.Need-put-sides-requires
-put-sides-requires c κs = search needs
-
-sort-requires : tie.Need-sort-requires
-sort-requires c κs = search needs
-
 link-all-requires : tie.Need-link-all-requires
 link-all-requires c κs =
     let q = c .before .before .before in
     let p = q .before .before .before .before in
     let s = p .before .before .before in
     ready-two (s .args .rows) (s .args .tris) (now (s .args .work)) _ _ (s .pre .0) (s .pre .1) (s .pre .2) (p .put-sides .ensures) (q .sort .ensures)
-
-same-length : tie.Need-same-length
-same-length c = search needs
 
 returns : tie.Need-returns
 returns c =
@@ -45,4 +33,5 @@ returns c =
 pub link-sides-spec : {M : Type 1} → statement M
 link-sides-spec =
     tie.close
-    (tie.spec mul-n put-sides-requires sort-requires link-all-requires same-length returns)
+    (tie.spec
+    (λ c. search needs) (λ c κs. search needs) (λ c κs. search needs) link-all-requires (λ c. search needs) returns)

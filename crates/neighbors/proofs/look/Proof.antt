@@ -13,18 +13,6 @@ use Rattle.neighbors.proofs.look.Tie as tie
 told : (f : ℕ → ℕ → Bool) {s t u v : ℕ} {r q : Bool} → s ≡ t → u ≡ v → r ≡ f s u → r ≡ q → f t v ≡ q
 told f p q e h = sym (λ k. f (p k) (q k)) ∙ sym e ∙ h
 
-side-at-requires : tie.Need-side-at-requires
-side-at-requires c κs = search needs
-
-same-ends-requires : tie.Need-same-ends-requires
-same-ends-requires c κs = search needs
-
-add-t13 : tie.Need-add-t13
-add-t13 c = search needs
-
-same-length : tie.Need-same-length
-same-length c = search needs
-
 returns : tie.Need-returns
 returns c =
     let b = c .before .before in
@@ -34,15 +22,6 @@ returns c =
     let p = start .pre in
     parted (a .rows) (a .n) (a .c .near) (a .c .far) (a .work .now) (p .0 .2) (p .1 .2) (p .0 .0) (p .0 .1)
     (told (λ x y. sameEnds (a .rows) x y (a .work .now)) (p .1 .0) (at .ensures .0) (b .same-ends .ensures) (not-true _ (c .before .if1 .taken)))
-
-suits-requires : tie.Need-suits-requires
-suits-requires c κs = search needs
-
-add-t16 : tie.Need-add-t16
-add-t16 c = search needs
-
-same-length-2 : tie.Need-same-length-2
-same-length-2 c = search needs
 
 returns-2 : tie.Need-returns-2
 returns-2 c =
@@ -55,18 +34,6 @@ returns-2 c =
     unsuited (a .rows) (a .n) (a .c .near) (a .c .far) (a .work .now) (p .0 .2) (p .1 .2) (p .0 .0) (p .0 .1)
     (told (λ x y. sameEnds (a .rows) x y (a .work .now)) (p .1 .0) (at .ensures .0) (b .same-ends .ensures) (not-false _ (d .before .before .if1 .left)))
     (told (λ x y. suits (a .rows) x y (a .work .now)) (p .1 .0) (at .ensures .0) (d .suits .ensures) (not-true _ (c .before .if2 .taken)))
-
-join-requires : tie.Need-join-requires
-join-requires c κs = search needs
-
-add-t20 : tie.Need-add-t20
-add-t20 c = search needs
-
-add-t21 : tie.Need-add-t21
-add-t21 c = search needs
-
-same-length-3 : tie.Need-same-length-3
-same-length-3 c = search needs
 
 returns-3 : tie.Need-returns-3
 returns-3 c =
@@ -86,5 +53,6 @@ pub look-spec : {M : Type 1} → statement M
 look-spec =
     tie.close
     (tie.spec
-    side-at-requires same-ends-requires add-t13 same-length returns suits-requires add-t16
-    same-length-2 returns-2 join-requires add-t20 add-t21 same-length-3 returns-3)
+    (λ c κs. search needs) (λ c κs. search needs) (λ c. search needs) (λ c. search needs) returns (λ c κs. search needs)
+    (λ c. search needs) (λ c. search needs) returns-2 (λ c κs. search needs) (λ c. search needs) (λ c. search needs)
+    (λ c. search needs) returns-3)

@@ -11,26 +11,11 @@ use borrow.Author.Needs.{needs}
 use Rattle.neighbors.proofs.step.Statement.{statement}
 use Rattle.neighbors.proofs.step.Tie as tie
 
-side-at-requires : tie.Need-side-at-requires
-side-at-requires c κs = search needs
-
 link-at-requires : tie.Need-link-at-requires
 link-at-requires c κs =
     let at = c .before .side-at in
     let R = c .before .before .before .before .pre .1 .ready in
     (at .ensures .1, R .fits, R .long, R .links (at .result) (at .ensures .1))
-
-enum-told : tie.Need-enum-told
-enum-told c = search needs
-
-enum-told-2 : tie.Need-enum-told-2
-enum-told-2 c = search needs
-
-add-t11 : tie.Need-add-t11
-add-t11 c = search needs
-
-same-length : tie.Need-same-length
-same-length c = search needs
 
 -- the side at `near` is unlinked
 free : (c : tie.After-enum-told) → let a = c .before .before .before .before .before .before .before .args in cell (a .rows) linkColumn (sideAt (a .rows) (a .work .now) (a .c .near)) (a .work .now) ≡ 0
@@ -49,24 +34,12 @@ returns c =
     passed (a .rows) (a .n) (a .c .near) (a .c .far) (a .work .now) (start .pre .1) _ (start .pre .0)
     (ap (λ (x : ℕ). linkOf (cell (a .rows) linkColumn x (a .work .now))) (sym (at .ensures .0)) ∙ sym (k .link-at .ensures .0) ∙ c .before .enum-told2 .given .1)
 
-add-t13 : tie.Need-add-t13
-add-t13 c = search needs
-
-same-length-2 : tie.Need-same-length-2
-same-length-2 c = search needs
-
 returns-2 : tie.Need-returns-2
 returns-2 c =
     let e = c .before .before .before in
     let start = e .before .before .before .before .before .before .before in
     let a = start .args in
     fetched (a .rows) (a .n) (a .c .near) (a .c .far) (a .work .now) (start .pre .1) (start .pre .0) (c .before .if1 .taken)
-
-add-t14 : tie.Need-add-t14
-add-t14 c = search needs
-
-same-length-3 : tie.Need-same-length-3
-same-length-3 c = search needs
 
 returns-3 : tie.Need-returns-3
 returns-3 c =
@@ -84,16 +57,10 @@ look-requires c κs =
     let start = e .before .before .before .before .before .before .before in
     ((t .if1 .left, omega (arith, start .pre .1 .second), start .pre .1), (at .ensures .0, at .ensures .1, free e))
 
-same-length-4 : tie.Need-same-length-4
-same-length-4 c = search needs
-
-returns-4 : tie.Need-returns-4
-returns-4 c = search needs
-
 pub step-spec : {M : Type 1} → statement M
 step-spec =
     tie.close
     (tie.spec
-    side-at-requires link-at-requires enum-told enum-told-2 add-t11 same-length returns
-    add-t13 same-length-2 returns-2 add-t14 same-length-3 returns-3 look-requires
-    same-length-4 returns-4)
+    (λ c κs. search needs) link-at-requires (λ c. search needs) (λ c. search needs) (λ c. search needs) (λ c. search needs)
+    returns (λ c. search needs) (λ c. search needs) returns-2 (λ c. search needs) (λ c. search needs) returns-3 look-requires
+    (λ c. search needs) (λ c. search needs))

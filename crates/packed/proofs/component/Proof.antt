@@ -6,25 +6,10 @@ use borrow.Author.Needs.{needs}
 use Rattle.packed.proofs.component.Statement.{statement}
 use Rattle.packed.proofs.component.Tie as tie
 
-cut-requires : tie.Need-cut-requires
-cut-requires c κs = search needs
-
-units-requires : tie.Need-units-requires
-units-requires c κs = search needs
-
-cast-result : tie.Need-cast-result
-cast-result c = search needs
-
 returns : tie.Need-returns
 returns c =
     let w = c .before .before .before .args .w in
     component-positive w (c .before .units .result) (c .if1 .taken) (c .before .units .ensures .0 ∙ ap spec.units (c .before .before .cut .ensures .0))
-
-sub-result : tie.Need-sub-result
-sub-result c = search needs
-
-cast-result-2 : tie.Need-cast-result-2
-cast-result-2 c = search needs
 
 returns-2 : tie.Need-returns-2
 returns-2 c =
@@ -35,4 +20,4 @@ pub component-spec : {M : Type 1} → statement M
 component-spec =
     tie.close
     (tie.spec
-    cut-requires units-requires cast-result returns sub-result cast-result-2 returns-2)
+    (λ c κs. search needs) (λ c κs. search needs) (λ c. search needs) returns (λ c. search needs) (λ c. search needs) returns-2)

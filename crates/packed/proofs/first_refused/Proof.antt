@@ -26,24 +26,6 @@ passes l s = isPacked (sevenAt l s)
 loop-holds : tie.Need-loop-holds Inv-loop μ-loop
 loop-holds c = (omega arith, failing-none (passes (c .before .args .packed .now)))
 
-mul-from : tie.Need-mul-from Inv-loop μ-loop
-mul-from c = search needs
-
-add-end : tie.Need-add-end Inv-loop μ-loop
-add-end c = search needs
-
-mul-is-packed : tie.Need-mul-is-packed Inv-loop μ-loop
-mul-is-packed c = search needs
-
-sub-is-packed : tie.Need-sub-is-packed Inv-loop μ-loop
-sub-is-packed c = search needs
-
-part-is-packed-start : tie.Need-part-is-packed-start Inv-loop μ-loop
-part-is-packed-start c = search needs
-
-part-is-packed-end : tie.Need-part-is-packed-end Inv-loop μ-loop
-part-is-packed-end c = search needs
-
 is-packed-requires : tie.Need-is-packed-requires Inv-loop μ-loop
 is-packed-requires c κs =
     let l = c .before .before .loop in
@@ -56,12 +38,6 @@ returns c =
     let a = c .before .before .before .before .before .before .args in
     let e = sym (c .before .is-packed .ensures ∙ ap isPacked (cut-is packedWords (l .s) (a .packed .now))) in
     sym (failing-here (a .count) (l .s) (passes (a .packed .now)) (omega arith) (l .inv .1) (e ∙ not-true _ (c .if1 .taken)))
-
-add-s : tie.Need-add-s Inv-loop μ-loop
-add-s c = search needs
-
-loop-less : tie.Need-loop-less Inv-loop μ-loop
-loop-less c = search needs
 
 loop-again : tie.Need-loop-again Inv-loop μ-loop
 unfolding sevenAt
@@ -82,5 +58,5 @@ pub first-refused-spec : {M : Type 1} → statement M
 first-refused-spec =
     tie.close
     (tie.spec
-    Inv-loop μ-loop loop-holds mul-from add-end mul-is-packed sub-is-packed part-is-packed-start
-    part-is-packed-end is-packed-requires returns add-s loop-less loop-again returns-2)
+    Inv-loop μ-loop loop-holds (λ c. search needs) (λ c. search needs) (λ c. search needs) (λ c. search needs) (λ c. search needs)
+    (λ c. search needs) is-packed-requires returns (λ c. search needs) (λ c. search needs) loop-again returns-2)

@@ -25,9 +25,6 @@ shifted-pos k h = subst (λ (x : ℕ). 0 < x) (sym (shifted-is k h)) (pow-pos k)
 settled : (n k q : ℕ) → k < 64 → NearestWhole n (shifted k) q → q ≡ rounding.nearest n (2 ^ k)
 settled n k q h e = nearest-only n (shifted k) q (shifted-pos k h) e ∙ ap (rounding.nearest n) (shifted-is k h)
 
-shl-d : tie.Need-shl-d
-shl-d c = search needs
-
 div-q : tie.Need-div-q
 div-q c = shifted-pos (c .args .k) (c .pre .1)
 
@@ -71,4 +68,4 @@ pub nearest-spec : {M : Type 1} → statement M
 nearest-spec =
     tie.close
     (tie.spec
-    shl-d div-q rem-r mul-if1 returns mul-if2 add-result returns-2 add-result-2 returns-3)
+    (λ c. search needs) div-q rem-r mul-if1 returns mul-if2 add-result returns-2 add-result-2 returns-3)

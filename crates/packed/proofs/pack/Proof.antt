@@ -15,23 +15,11 @@ returns c =
     let a = c .before .before .before .args in
     pack-broken (a .answer .now) (a .packed .now) (λ e. omega (arith, e, c .if1 .taken))
 
-mul-if2 : tie.Need-mul-if2
-mul-if2 c = search needs
-
 returns-2 : tie.Need-returns-2
 unfolding afterPack notPacked slotsIn
 returns-2 c =
     let a = c .before .before .before .before .args in
     pack-short (a .answer .now) (a .packed .now) (omega (arith, c .before .if1 .left)) (c .if2 .taken)
-
-pack-slots-requires : tie.Need-pack-slots-requires
-pack-slots-requires c κs = search needs
-
-mul-t5 : tie.Need-mul-t5
-mul-t5 c = search needs
-
-same-length : tie.Need-same-length
-same-length c = search needs
 
 returns-3 : tie.Need-returns-3
 unfolding afterPack allPacked slotsIn
@@ -43,5 +31,6 @@ returns-3 c =
 
 pub pack-spec : {M : Type 1} → statement M
 pack-spec =
-    tie.close (tie.spec
-    returns mul-if2 returns-2 pack-slots-requires mul-t5 same-length returns-3)
+    tie.close
+    (tie.spec
+    returns (λ c. search needs) returns-2 (λ c κs. search needs) (λ c. search needs) (λ c. search needs) returns-3)

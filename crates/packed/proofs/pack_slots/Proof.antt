@@ -24,27 +24,6 @@ stored l s = packedSlot (slotAt l s)
 loop-holds : tie.Need-loop-holds Inv-loop μ-loop
 loop-holds c = let a = c .before .before .args in run-none packedWords (a .count) (stored (a .answer .now)) (λ i. length-packed (slotAt (a .answer .now) i)) (a .packed .now)
 
-mul-from : tie.Need-mul-from Inv-loop μ-loop
-mul-from c = search needs
-
-add-end : tie.Need-add-end Inv-loop μ-loop
-add-end c = search needs
-
-mul-put-seven : tie.Need-mul-put-seven Inv-loop μ-loop
-mul-put-seven c = search needs
-
-mul-pack-slot : tie.Need-mul-pack-slot Inv-loop μ-loop
-mul-pack-slot c = search needs
-
-sub-pack-slot : tie.Need-sub-pack-slot Inv-loop μ-loop
-sub-pack-slot c = search needs
-
-part-pack-slot-start : tie.Need-part-pack-slot-start Inv-loop μ-loop
-part-pack-slot-start c = search needs
-
-part-pack-slot-end : tie.Need-part-pack-slot-end Inv-loop μ-loop
-part-pack-slot-end c = search needs
-
 pack-slot-requires : tie.Need-pack-slot-requires Inv-loop μ-loop
 pack-slot-requires c κs =
     let l = c .before .before .before .loop in
@@ -53,12 +32,6 @@ pack-slot-requires c κs =
 
 put-seven-requires : tie.Need-put-seven-requires Inv-loop μ-loop
 put-seven-requires c κs = omega (arith, c .before .before .before .before .loop .inv .long)
-
-add-s : tie.Need-add-s Inv-loop μ-loop
-add-s c = search needs
-
-loop-less : tie.Need-loop-less Inv-loop μ-loop
-loop-less c = search needs
 
 loop-again : tie.Need-loop-again Inv-loop μ-loop
 unfolding slotAt
@@ -69,9 +42,6 @@ loop-again c =
     let e = p .before .pack-slot .ensures ∙ ap packedSlot (cut-is slotWords (l .s) (a .answer .now)) in
     run-more packedWords (a .count) (stored (a .answer .now)) (λ i. length-packed (slotAt (a .answer .now) i)) (a .packed .now) (l .packed) _ (l .s) (omega arith) (l .inv)
     (p .put-seven .ensures ∙ ap (sets (l .packed) (packedWords * l .s)) e) (p .put-seven .kept .0)
-
-same-length : tie.Need-same-length Inv-loop μ-loop
-same-length c = search needs
 
 returns : tie.Need-returns Inv-loop μ-loop
 unfolding packedSlots
@@ -84,5 +54,6 @@ pub pack-slots-spec : {M : Type 1} → statement M
 pack-slots-spec =
     tie.close
     (tie.spec
-    Inv-loop μ-loop loop-holds mul-from add-end mul-put-seven mul-pack-slot sub-pack-slot part-pack-slot-start
-    part-pack-slot-end pack-slot-requires put-seven-requires add-s loop-less loop-again same-length returns)
+    Inv-loop μ-loop loop-holds (λ c. search needs) (λ c. search needs) (λ c. search needs) (λ c. search needs) (λ c. search needs)
+    (λ c. search needs) (λ c. search needs) pack-slot-requires put-seven-requires (λ c. search needs) (λ c. search needs)
+    loop-again (λ c. search needs) returns)

@@ -20,29 +20,11 @@ returns-3 c =
     let a = c .before .before .before .args in
     word-there (a .absent) (a .s .now) (a .i) (c .before .if1 .left) (omega arith)
 
-shared-slice-read-oriented : tie.Need-shared-slice-read-oriented
-shared-slice-read-oriented c = search needs
-
-oriented-requires : tie.Need-oriented-requires
-oriented-requires c κs = search needs
-
 returns-4 : tie.Need-returns-4
 returns-4 c =
     let e = c .before .before .before .before in
     let a = e .before .before .args in
     word-last (a .absent) (a .s .now) (a .i) _ (e .if1 .left) (omega arith) (c .oriented .ensures)
-
-sub-wide : tie.Need-sub-wide
-sub-wide c = search needs
-
-mul-wide : tie.Need-mul-wide
-mul-wide c = search needs
-
-shared-slice-read-wide : tie.Need-shared-slice-read-wide
-shared-slice-read-wide c = search needs
-
-wide-requires : tie.Need-wide-requires
-wide-requires c κs = search needs
 
 returns-5 : tie.Need-returns-5
 returns-5 c =
@@ -54,5 +36,5 @@ pub read-at-spec : {M : Type 1} → statement M
 read-at-spec =
     tie.close
     (tie.spec
-    returns returns-2 returns-3 shared-slice-read-oriented oriented-requires returns-4 sub-wide mul-wide
-    shared-slice-read-wide wide-requires returns-5)
+    returns returns-2 returns-3 (λ c. search needs) (λ c κs. search needs) returns-4 (λ c. search needs) (λ c. search needs)
+    (λ c. search needs) (λ c κs. search needs) returns-5)

@@ -16,31 +16,10 @@ Inv-loop s answer₀ p absent i₀ answer i = Stored readWords p answer₀ (read
 abbrev μ-loop : tie.MeasureT-loop
 μ-loop s answer₀ p absent i₀ answer i = readWords - i
 
-all-nothing-requires : tie.Need-all-nothing-requires Inv-loop μ-loop
-all-nothing-requires c κs = search needs
-
 loop-holds : tie.Need-loop-holds Inv-loop μ-loop
 loop-holds c =
     let a = c .before .before .before .args in
     store-none readWords (a .p) (a .answer .now) (readSeven (a .s .now)) (length-read (a .s .now))
-
-read-at-requires : tie.Need-read-at-requires Inv-loop μ-loop
-read-at-requires c κs = search needs
-
-add-answer : tie.Need-add-answer Inv-loop μ-loop
-add-answer c = search needs
-
-mul-answer : tie.Need-mul-answer Inv-loop μ-loop
-mul-answer c = search needs
-
-slice-write-answer : tie.Need-slice-write-answer Inv-loop μ-loop
-slice-write-answer c = search needs
-
-add-i : tie.Need-add-i Inv-loop μ-loop
-add-i c = search needs
-
-loop-less : tie.Need-loop-less Inv-loop μ-loop
-loop-less c = search needs
 
 loop-again : tie.Need-loop-again Inv-loop μ-loop
 unfolding readSeven
@@ -50,9 +29,6 @@ loop-again c =
     let a = f .before .before .before .args in
     store-more readWords (a .p) (a .answer .now) (readSeven (a .s .now)) (length-read (a .s .now)) (l .answer) (l .i) _ (omega arith)
     (c .read-at .ensures ∙ ap (λ t. getD (sevenRead t (a .s .now)) (l .i) 0) (f .all-nothing .ensures)) (l .inv)
-
-same-length : tie.Need-same-length Inv-loop μ-loop
-same-length c = search needs
 
 returns : tie.Need-returns Inv-loop μ-loop
 returns c =
@@ -64,5 +40,5 @@ pub read-slot-spec : {M : Type 1} → statement M
 read-slot-spec =
     tie.close
     (tie.spec
-    Inv-loop μ-loop all-nothing-requires loop-holds read-at-requires add-answer mul-answer slice-write-answer
-    add-i loop-less loop-again same-length returns)
+    Inv-loop μ-loop (λ c κs. search needs) loop-holds (λ c κs. search needs) (λ c. search needs) (λ c. search needs)
+    (λ c. search needs) (λ c. search needs) (λ c. search needs) loop-again (λ c. search needs) returns)

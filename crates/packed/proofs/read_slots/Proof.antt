@@ -24,38 +24,11 @@ stored l s = readSeven (sevenAt l s)
 loop-holds : tie.Need-loop-holds Inv-loop μ-loop
 loop-holds c = let a = c .before .before .args in run-none readWords (a .count) (stored (a .packed .now)) (λ i. length-read (sevenAt (a .packed .now) i)) (a .answer .now)
 
-mul-from : tie.Need-mul-from Inv-loop μ-loop
-mul-from c = search needs
-
-add-end : tie.Need-add-end Inv-loop μ-loop
-add-end c = search needs
-
-mul-read-slot : tie.Need-mul-read-slot Inv-loop μ-loop
-mul-read-slot c = search needs
-
-sub-read-slot : tie.Need-sub-read-slot Inv-loop μ-loop
-sub-read-slot c = search needs
-
-part-read-slot-start : tie.Need-part-read-slot-start Inv-loop μ-loop
-part-read-slot-start c = search needs
-
-part-read-slot-end : tie.Need-part-read-slot-end Inv-loop μ-loop
-part-read-slot-end c = search needs
-
-mul-read-slot-2 : tie.Need-mul-read-slot-2 Inv-loop μ-loop
-mul-read-slot-2 c = search needs
-
 read-slot-requires : tie.Need-read-slot-requires Inv-loop μ-loop
 read-slot-requires c κs =
     let l = c .before .before .before .loop in
     let a = c .before .before .before .before .before .before .args in
     (cut-long packedWords (l .s) (a .packed .now) (omega arith), omega (arith, l .inv .long))
-
-add-s : tie.Need-add-s Inv-loop μ-loop
-add-s c = search needs
-
-loop-less : tie.Need-loop-less Inv-loop μ-loop
-loop-less c = search needs
 
 loop-again : tie.Need-loop-again Inv-loop μ-loop
 unfolding sevenAt
@@ -65,9 +38,6 @@ loop-again c =
     let a = p .before .before .before .before .before .before .before .args in
     run-more readWords (a .count) (stored (a .packed .now)) (λ i. length-read (sevenAt (a .packed .now) i)) (a .answer .now) (l .answer) _ (l .s) (omega arith) (l .inv)
     (p .read-slot .ensures ∙ ap (λ x. sets (l .answer) (readWords * l .s) (readSeven x)) (cut-is packedWords (l .s) (a .packed .now))) (p .read-slot .kept .1 .0)
-
-same-length : tie.Need-same-length Inv-loop μ-loop
-same-length c = search needs
 
 returns : tie.Need-returns Inv-loop μ-loop
 unfolding readSlots
@@ -80,5 +50,6 @@ pub read-slots-spec : {M : Type 1} → statement M
 read-slots-spec =
     tie.close
     (tie.spec
-    Inv-loop μ-loop loop-holds mul-from add-end mul-read-slot sub-read-slot part-read-slot-start
-    part-read-slot-end mul-read-slot-2 read-slot-requires add-s loop-less loop-again same-length returns)
+    Inv-loop μ-loop loop-holds (λ c. search needs) (λ c. search needs) (λ c. search needs) (λ c. search needs) (λ c. search needs)
+    (λ c. search needs) (λ c. search needs) read-slot-requires (λ c. search needs) (λ c. search needs) loop-again
+    (λ c. search needs) returns)

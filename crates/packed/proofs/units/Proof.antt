@@ -12,21 +12,6 @@ use Rattle.packed.proofs.units.Tie as tie
 returns : tie.Need-returns
 returns c = (units-none (c .before .args .m) (c .if1 .taken), omega arith)
 
-add-digits : tie.Need-add-digits
-add-digits c = search needs
-
-cast-nearest : tie.Need-cast-nearest
-cast-nearest c = search needs
-
-mul-nearest : tie.Need-mul-nearest
-mul-nearest c = search needs
-
-sub-nearest : tie.Need-sub-nearest
-sub-nearest c = search needs
-
-nearest-requires : tie.Need-nearest-requires
-nearest-requires c κs = search needs
-
 -- what comes back from `nearest`
 nearest-is : (c : tie.After-nearest) → c .nearest .result ≡ spec.units (c .before .before .args .m)
 nearest-is c = c .nearest .ensures ∙ units-high (c .before .before .args .m) (omega arith)
@@ -44,4 +29,5 @@ pub units-spec : {M : Type 1} → statement M
 units-spec =
     tie.close
     (tie.spec
-    returns add-digits cast-nearest mul-nearest sub-nearest nearest-requires cast-result returns-2)
+    returns (λ c. search needs) (λ c. search needs) (λ c. search needs) (λ c. search needs) (λ c κs. search needs) cast-result
+    returns-2)

@@ -20,9 +20,6 @@ returns-2 c =
     let a = c .before .before .before .before .args in
     read-short (a .packed .now) (a .answer .now) (c .before .if1 .left) (omega arith)
 
-first-refused-requires : tie.Need-first-refused-requires
-first-refused-requires c κs = search needs
-
 returns-3 : tie.Need-returns-3
 unfolding afterUnpack notRead sevensIn firstRefused
 returns-3 c =
@@ -31,12 +28,6 @@ returns-3 c =
     let a = t .before .before .before .before .args in
     (λ i. record { number = 3; place = f .first-refused .ensures i; answer = a .answer .now })
     ∙ read-refused (a .packed .now) (a .answer .now) (t .before .if1 .left) (omega arith) (λ e. c .if3 .taken (f .first-refused .ensures ∙ e))
-
-read-slots-requires : tie.Need-read-slots-requires
-read-slots-requires c κs = search needs
-
-same-length : tie.Need-same-length
-same-length c = search needs
 
 returns-4 : tie.Need-returns-4
 unfolding afterUnpack allRead sevensIn firstRefused
@@ -51,5 +42,6 @@ returns-4 c =
 
 pub unpack-spec : {M : Type 1} → statement M
 unpack-spec =
-    tie.close (tie.spec
-    returns returns-2 first-refused-requires returns-3 read-slots-requires same-length returns-4)
+    tie.close
+    (tie.spec
+    returns returns-2 (λ c κs. search needs) returns-3 (λ c κs. search needs) (λ c. search needs) returns-4)

@@ -9,12 +9,12 @@ returns : tie.Need-returns
 unfolding wide
 returns c = simp (lt-ltb _ _ (c .if1 .taken))
 
-add-result : tie.Need-add-result
-add-result c = search needs
-
 returns-2 : tie.Need-returns-2
 unfolding wide
 returns-2 c = simp (le-ltb _ _ (c .if1 .left))
 
 pub wide-spec : {M : Type 1} → statement M
-wide-spec = tie.close (tie.spec returns add-result returns-2)
+wide-spec =
+    tie.close
+    (tie.spec
+    returns (λ c. search needs) returns-2)

@@ -11,24 +11,6 @@ Inv-loop text so-far₀ g₀ g-end so-far g = g ≤ g-end
 abbrev μ-loop : tie.MeasureT-loop
 μ-loop text so-far₀ g₀ g-end so-far g = g-end - g
 
-next-word-requires : tie.Need-next-word-requires Inv-loop μ-loop
-next-word-requires c κs = search needs
-
-loop-holds : tie.Need-loop-holds Inv-loop μ-loop
-loop-holds c = omega arith
-
-group-more-requires : tie.Need-group-more-requires Inv-loop μ-loop
-group-more-requires c κs = search needs
-
-add-g : tie.Need-add-g Inv-loop μ-loop
-add-g c = omega arith
-
-loop-less : tie.Need-loop-less Inv-loop μ-loop
-loop-less c = omega arith
-
-loop-again : tie.Need-loop-again Inv-loop μ-loop
-loop-again c = omega arith
-
 returns : tie.Need-returns Inv-loop μ-loop
 returns c = tt
 
@@ -36,4 +18,5 @@ pub all-groups-spec : {M : Type 1} → statement M
 all-groups-spec =
     tie.close
     (tie.spec
-    Inv-loop μ-loop next-word-requires loop-holds group-more-requires add-g loop-less loop-again returns)
+    Inv-loop μ-loop (λ c κs. search needs) (λ c. omega arith) (λ c κs. search needs) (λ c. omega arith) (λ c. omega arith)
+    (λ c. omega arith) returns)

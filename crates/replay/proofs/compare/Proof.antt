@@ -13,27 +13,6 @@ Inv-loop text e list so-far₀ i₀ i-end so-far i = Within i i-end (length list
 abbrev μ-loop : tie.MeasureT-loop
 μ-loop text e list so-far₀ i₀ i-end so-far i = i-end - i
 
-loop-holds : tie.Need-loop-holds Inv-loop μ-loop
-loop-holds c = omega arith
-
-mul-compare-word : tie.Need-mul-compare-word Inv-loop μ-loop
-mul-compare-word c = omega arith
-
-shared-slice-read-compare-word : tie.Need-shared-slice-read-compare-word Inv-loop μ-loop
-shared-slice-read-compare-word c = omega arith
-
-compare-word-requires : tie.Need-compare-word-requires Inv-loop μ-loop
-compare-word-requires c κs = search needs
-
-add-i : tie.Need-add-i Inv-loop μ-loop
-add-i c = omega arith
-
-loop-less : tie.Need-loop-less Inv-loop μ-loop
-loop-less c = omega arith
-
-loop-again : tie.Need-loop-again Inv-loop μ-loop
-loop-again c = omega arith
-
 returns : tie.Need-returns Inv-loop μ-loop
 returns c = tt
 
@@ -41,5 +20,5 @@ pub compare-spec : {M : Type 1} → statement M
 compare-spec =
     tie.close
     (tie.spec
-    Inv-loop μ-loop loop-holds mul-compare-word shared-slice-read-compare-word compare-word-requires add-i
-    loop-less loop-again returns)
+    Inv-loop μ-loop (λ c. omega arith) (λ c. omega arith) (λ c. omega arith) (λ c κs. search needs) (λ c. omega arith)
+    (λ c. omega arith) (λ c. omega arith) returns)

@@ -9,15 +9,6 @@ use Rattle.root.proofs.certain.Tie as tie
 mul-if1 : tie.Need-mul-if1
 mul-if1 c = square-fits 33554432 (c .args .r) tt (omega arith)
 
-add-if1 : tie.Need-add-if1
-add-if1 c = search needs
-
-mul-result : tie.Need-mul-result
-mul-result c = search needs
-
-add-result : tie.Need-add-result
-add-result c = search needs
-
 returns : tie.Need-returns
 returns c = simp (lt-ltb _ _ (c .if1 .taken))
 
@@ -25,4 +16,7 @@ returns-2 : tie.Need-returns-2
 returns-2 c = simp (le-ltb _ _ (c .if1 .left))
 
 pub certain-spec : {M : Type 1} → statement M
-certain-spec = tie.close (tie.spec mul-if1 add-if1 mul-result add-result returns returns-2)
+certain-spec =
+    tie.close
+    (tie.spec
+    mul-if1 (λ c. search needs) (λ c. search needs) (λ c. search needs) returns returns-2)

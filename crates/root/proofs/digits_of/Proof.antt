@@ -18,12 +18,6 @@ known c = lift (c .before .args .b) (c .before .pre .0) (omega arith)
 kept : (c : tie.Else1) → c .before .args .b * 2 ^ zeros (c .before .args .b) % 2 ^ 32 ≡ c .before .args .b * 2 ^ zeros (c .before .args .b)
 kept c = mod-eq-of-lt (lt-of-lt-of-le (known c .most) (lit≤ tt))
 
-add-t5 : tie.Need-add-t5
-add-t5 c = search needs
-
-add-t7 : tie.Need-add-t7
-add-t7 c = search needs
-
 returns : tie.Need-returns
 returns c =
     let b = c .before .args .b in
@@ -46,4 +40,7 @@ returns-2 c =
     (subst (λ (m : ℕ). Digits m (149 - zeros b)) (sym (kept c)) (record { least = k .least; most = k .most; low = omega (arith, k .few); high = omega arith }), ap (λ (m : ℕ). rooted (m * 2 ^ (149 - zeros b))) (kept c) ∙ sym (subnormal-root b (c .before .pre .0) (omega arith)))
 
 pub digits-of-spec : {M : Type 1} → statement M
-digits-of-spec = tie.close (tie.spec add-t5 add-t7 returns sub-z shl-t8 sub-t9 returns-2)
+digits-of-spec =
+    tie.close
+    (tie.spec
+    (λ c. search needs) (λ c. search needs) returns sub-z shl-t8 sub-t9 returns-2)

@@ -18,26 +18,8 @@ nearest c = c .nearest-root .ensures ∙ ap nearestOf (known (c .before .before)
 small : (c : tie.After-nearest-root) → c .nearest-root .result < 16777216
 small c = subst (λ (q : ℕ). q < 16777216) (sym (nearest c)) (known (c .before .before) .small)
 
-sub-t : tie.Need-sub-t
-sub-t c = search needs
-
-cast-n : tie.Need-cast-n
-cast-n c = search needs
-
-shl-n : tie.Need-shl-n
-shl-n c = search needs
-
-estimate-requires : tie.Need-estimate-requires
-estimate-requires c κs = search needs
-
 nearest-root-requires : tie.Need-nearest-root-requires
 nearest-root-requires c κs = let k = known (c .before) in (subst (λ (n : ℕ). n < 2 ^ 48) (sym (k .kept)) (k .under), c .estimate .ensures)
-
-sub-result : tie.Need-sub-result
-sub-result c = search needs
-
-mul-result : tie.Need-mul-result
-mul-result c = search needs
 
 cast-result : tie.Need-cast-result
 cast-result c = omega (arith, small c)
@@ -52,4 +34,8 @@ returns c =
     (ap (λ (q : ℕ). ofBits binary32 (halves a * 8388608 + q)) (nearest c) ∙ pattern m a (c .before .before .pre), omega (arith, small c))
 
 pub digits-root-spec : {M : Type 1} → statement M
-digits-root-spec = tie.close (tie.spec sub-t cast-n shl-n estimate-requires nearest-root-requires sub-result mul-result cast-result add-result returns)
+digits-root-spec =
+    tie.close
+    (tie.spec
+    (λ c. search needs) (λ c. search needs) (λ c. search needs) (λ c κs. search needs) nearest-root-requires (λ c. search needs)
+    (λ c. search needs) cast-result add-result returns)

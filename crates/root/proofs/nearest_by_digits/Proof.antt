@@ -14,9 +14,6 @@ use Rattle.root.proofs.nearest_by_digits.Tie as tie
 small : (c : tie.After-whole-root) → c .whole-root .result < 16777216
 small c = subst (λ (q : ℕ). q < 16777216) (sym (c .whole-root .ensures)) (root-small (c .before .args .n) (c .before .pre))
 
-whole-root-requires : tie.Need-whole-root-requires
-whole-root-requires c κs = search needs
-
 mul-h : tie.Need-mul-h
 mul-h c = omega (arith, small c)
 
@@ -25,9 +22,6 @@ add-h c = omega (arith, small c)
 
 mul-if1 : tie.Need-mul-if1
 mul-if1 c = square-fits 33554432 (2 * c .whole-root .result + 1) tt (omega (arith, small c))
-
-mul-if1-2 : tie.Need-mul-if1-2
-mul-if1-2 c = search needs
 
 add-result : tie.Need-add-result
 add-result c = omega (arith, small (c .before))
@@ -46,4 +40,7 @@ returns-2 : tie.Need-returns-2
 returns-2 c = stay (c .before .before .args .n) (c .before .whole-root .result) (root 24 (c .before .before .args .n)) (c .before .whole-root .ensures) (c .if1 .left)
 
 pub nearest-by-digits-spec : {M : Type 1} → statement M
-nearest-by-digits-spec = tie.close (tie.spec whole-root-requires mul-h add-h mul-if1 mul-if1-2 add-result returns returns-2)
+nearest-by-digits-spec =
+    tie.close
+    (tie.spec
+    (λ c κs. search needs) mul-h add-h mul-if1 (λ c. search needs) add-result returns returns-2)

@@ -12,26 +12,12 @@ Inv-loop text lines₀ i₀ i-end lines i = (i ≤ i-end) × (i-end ≡ length t
 abbrev μ-loop : tie.MeasureT-loop
 μ-loop text lines₀ i₀ i-end lines i = i-end - i
 
-loop-holds : tie.Need-loop-holds Inv-loop μ-loop
-loop-holds c = omega arith
-
-mul-line : tie.Need-mul-line Inv-loop μ-loop
-mul-line c = omega arith
-
-line-requires : tie.Need-line-requires Inv-loop μ-loop
-line-requires c κs = omega arith
-
-add-i : tie.Need-add-i Inv-loop μ-loop
-add-i c = omega arith
-
-loop-less : tie.Need-loop-less Inv-loop μ-loop
-loop-less c = omega arith
-
-loop-again : tie.Need-loop-again Inv-loop μ-loop
-loop-again c = omega arith
-
 returns : tie.Need-returns Inv-loop μ-loop
 returns c = tt
 
 pub all-lines-spec : {M : Type 1} → statement M
-all-lines-spec = tie.close (tie.spec Inv-loop μ-loop loop-holds mul-line line-requires add-i loop-less loop-again returns)
+all-lines-spec =
+    tie.close
+    (tie.spec
+    Inv-loop μ-loop (λ c. omega arith) (λ c. omega arith) (λ c κs. omega arith) (λ c. omega arith) (λ c. omega arith)
+    (λ c. omega arith) returns)

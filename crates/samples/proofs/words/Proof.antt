@@ -13,33 +13,6 @@ Inv-loop got expected t₀ i₀ i-end t i = (i ≤ i-end) × (i-end ≡ length g
 abbrev μ-loop : tie.MeasureT-loop
 μ-loop got expected t₀ i₀ i-end t i = i-end - i
 
-loop-holds : tie.Need-loop-holds Inv-loop μ-loop
-loop-holds c = omega arith
-
-mul-with : tie.Need-mul-with Inv-loop μ-loop
-mul-with c = search needs
-
-shared-slice-read-with : tie.Need-shared-slice-read-with Inv-loop μ-loop
-shared-slice-read-with c = search needs
-
-mul-with-2 : tie.Need-mul-with-2 Inv-loop μ-loop
-mul-with-2 c = search needs
-
-element-copy-out-with : tie.Need-element-copy-out-with Inv-loop μ-loop
-element-copy-out-with c = search needs
-
-with-requires : tie.Need-with-requires Inv-loop μ-loop
-with-requires c κs = search needs
-
-add-i : tie.Need-add-i Inv-loop μ-loop
-add-i c = search needs
-
-loop-less : tie.Need-loop-less Inv-loop μ-loop
-loop-less c = omega arith
-
-loop-again : tie.Need-loop-again Inv-loop μ-loop
-loop-again c = omega arith
-
 returns : tie.Need-returns Inv-loop μ-loop
 returns c = tt
 
@@ -47,5 +20,5 @@ pub words-spec : {M : Type 1} → statement M
 words-spec =
     tie.close
     (tie.spec
-    Inv-loop μ-loop loop-holds mul-with shared-slice-read-with mul-with-2 element-copy-out-with with-requires add-i
-    loop-less loop-again returns)
+    Inv-loop μ-loop (λ c. omega arith) (λ c. search needs) (λ c. search needs) (λ c. search needs) (λ c. search needs)
+    (λ c κs. search needs) (λ c. search needs) (λ c. omega arith) (λ c. omega arith) returns)

@@ -6,17 +6,14 @@ use borrow.Author.Needs.{needs}
 use Rattle.severed.proofs.before_of.Statement.{statement}
 use Rattle.severed.proofs.before_of.Tie as tie
 
-add-result : tie.Need-add-result
-add-result c = search needs
-
 returns : tie.Need-returns
 returns c = end-back _ _ (λ e. refl) (λ ne. absurd (ne (c .if1 .taken)))
-
-sub-result : tie.Need-sub-result
-sub-result c = search needs
 
 returns-2 : tie.Need-returns-2
 returns-2 c = end-back _ _ (λ e. absurd (c .if1 .left e)) (λ ne. refl)
 
 pub before-of-spec : {M : Type 1} → statement M
-before-of-spec = tie.close (tie.spec add-result returns sub-result returns-2)
+before-of-spec =
+    tie.close
+    (tie.spec
+    (λ c. search needs) returns (λ c. search needs) returns-2)

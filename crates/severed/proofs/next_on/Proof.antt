@@ -1,5 +1,4 @@
 -- `severed::next_on` meets its contract. Assumes nothing.
-use native.Mathlib.Omega.{arith}
 use mathlib.Core.Path.{sym, _∙_}
 use Rattle.severed.specs.Walk.{Marked}
 use Rattle.severed.proofs.Steps.{next-nowhere, next-other, next-marked, next-here}
@@ -7,28 +6,10 @@ use borrow.Author.Needs.{needs}
 use Rattle.severed.proofs.next_on.Statement.{statement}
 use Rattle.severed.proofs.next_on.Tie as tie
 
-over-to-requires : tie.Need-over-to-requires
-over-to-requires c κs = search needs
-
-mul-if1 : tie.Need-mul-if1
-mul-if1 c = search needs
-
-mul-result : tie.Need-mul-result
-mul-result c = search needs
-
 returns : tie.Need-returns
 returns c =
     let a = c .before .before .before .before .before .args in
     next-nowhere (a .tris) (a .given .now) (a .groups .now) (Marked (a .rows) (a .work .now)) (a .back) (a .x) _ (c .before .over-to .ensures) (c .if1 .taken)
-
-word-at-requires : tie.Need-word-at-requires
-word-at-requires c κs = search needs
-
-word-at-requires-2 : tie.Need-word-at-requires-2
-word-at-requires-2 c κs = search needs
-
-mul-result-2 : tie.Need-mul-result-2
-mul-result-2 c = search needs
 
 returns-2 : tie.Need-returns-2
 returns-2 c =
@@ -36,12 +17,6 @@ returns-2 c =
     let e = v .before .before in
     let a = e .before .before .before .before .before .args in
     next-other (a .tris) (a .given .now) (a .groups .now) (Marked (a .rows) (a .work .now)) (a .back) (a .x) _ _ _ (e .before .over-to .ensures) (e .if1 .left) (v .before .word-at .ensures) (v .word-at2 .ensures) (c .if2 .taken)
-
-mark-at-requires : tie.Need-mark-at-requires
-mark-at-requires c κs = search needs
-
-mul-result-3 : tie.Need-mul-result-3
-mul-result-3 c = search needs
 
 returns-3 : tie.Need-returns-3
 returns-3 c =
@@ -64,15 +39,5 @@ pub next-on-spec : {M : Type 1} → statement M
 next-on-spec =
     tie.close
     (tie.spec
-    over-to-requires
-    mul-if1
-    mul-result
-    returns
-    word-at-requires
-    word-at-requires-2
-    mul-result-2
-    returns-2
-    mark-at-requires
-    mul-result-3
-    returns-3
-    returns-4)
+    (λ c κs. search needs) (λ c. search needs) (λ c. search needs) returns (λ c κs. search needs) (λ c κs. search needs)
+    (λ c. search needs) returns-2 (λ c κs. search needs) (λ c. search needs) returns-3 returns-4)

@@ -10,17 +10,8 @@ use borrow.Author.Needs.{needs}
 use Rattle.severed.proofs.over_after.Statement.{statement}
 use Rattle.severed.proofs.over_after.Tie as tie
 
-word-at-requires : tie.Need-word-at-requires
-word-at-requires c κs = search needs
-
-mul-result : tie.Need-mul-result
-mul-result c = search needs
-
 returns : tie.Need-returns
 returns c = way-after-none _ _ _ _ _ refl (c .before .word-at .ensures) (c .if1 .taken)
-
-sub-end-of : tie.Need-sub-end-of
-sub-end-of c = search needs
 
 end-of-requires : tie.Need-end-of-requires
 end-of-requires c κs =
@@ -40,4 +31,6 @@ returns-2 c =
 
 pub over-after-spec : {M : Type 1} → statement M
 over-after-spec =
-    tie.close (tie.spec word-at-requires mul-result returns sub-end-of end-of-requires returns-2)
+    tie.close
+    (tie.spec
+    (λ c κs. search needs) (λ c. search needs) returns (λ c. search needs) end-of-requires returns-2)

@@ -10,23 +10,14 @@ use borrow.Author.Needs.{needs}
 use Rattle.severed.proofs.over_before.Statement.{statement}
 use Rattle.severed.proofs.over_before.Tie as tie
 
-before-of-requires : tie.Need-before-of-requires
-before-of-requires c κs = search needs
-
 word-at-requires : tie.Need-word-at-requires
 word-at-requires c κs =
     let s = c .before .before in
     let b = end-below (c .before-of .result) (s .args .tris) (subst (λ z. z < 3 * s .args .tris) (sym (c .before-of .ensures)) (s .pre .0)) in
     omega (arith, b, s .pre .2)
 
-mul-result : tie.Need-mul-result
-mul-result c = search needs
-
 returns : tie.Need-returns
 returns c = way-before-none _ _ _ _ _ _ refl (c .before .before .before-of .ensures) (c .before .word-at .ensures) (c .if1 .taken)
-
-sub-result : tie.Need-sub-result
-sub-result c = search needs
 
 returns-2 : tie.Need-returns-2
 returns-2 c =
@@ -41,4 +32,5 @@ returns-2 c =
 pub over-before-spec : {M : Type 1} → statement M
 over-before-spec =
     tie.close
-    (tie.spec before-of-requires word-at-requires mul-result returns sub-result returns-2)
+    (tie.spec
+    (λ c κs. search needs) word-at-requires (λ c. search needs) returns (λ c. search needs) returns-2)

@@ -9,45 +9,21 @@ use borrow.Author.Needs.{needs}
 use Rattle.severed.proofs.severed_at.Statement.{statement}
 use Rattle.severed.proofs.severed_at.Tie as tie
 
-word-at-requires : tie.Need-word-at-requires
-word-at-requires c κs = search needs
-
 returns : tie.Need-returns
 returns c =
     let a = c .before .before .before .before .before .args in
     (turn-free (a .rows) (a .tris) (a .given .now) (a .groups .now) (a .r) _ _ (c .before .word-at .ensures) (c .if1 .taken), only-none _ _ _)
-
-mark-at-requires : tie.Need-mark-at-requires
-mark-at-requires c κs = search needs
-
-same-length : tie.Need-same-length
-same-length c = search needs
 
 returns-2 : tie.Need-returns-2
 returns-2 c =
     let a = c .before .before .before .before .before .before .before .before .args in
     (turn-marked (a .rows) (a .tris) (a .given .now) (a .groups .now) (a .r) (now (a .work)) (λ z. c .if2 .taken (c .before .mark-at .ensures ∙ z)), only-none _ _ _)
 
-first-at-requires : tie.Need-first-at-requires
-first-at-requires c κs = search needs
-
-add-if3 : tie.Need-add-if3
-add-if3 c = search needs
-
-same-length-2 : tie.Need-same-length-2
-same-length-2 c = search needs
-
 returns-3 : tie.Need-returns-3
 returns-3 c =
     let s = c .before .before .before .before .before .before .before .before .before .before .before in
     let a = s .args in
     (turn-severed (a .rows) (a .tris) (a .given .now) (a .groups .now) (a .r) _ _ (c .before .first-at .result) (now (a .work)) (s .pre .0) (s .pre .7) (c .before .before .before .before .before .before .before .word-at .ensures) (c .before .before .before .before .before .before .if1 .left) (c .before .before .before .before .mark-at .ensures) (c .before .before .before .if2 .left) (c .before .first-at .ensures) (λ h. c .if3 .taken (omega (arith, h))), only-none _ _ _)
-
-walk-group-requires : tie.Need-walk-group-requires
-walk-group-requires c κs = search needs
-
-same-length-3 : tie.Need-same-length-3
-same-length-3 c = search needs
 
 returns-4 : tie.Need-returns-4
 returns-4 c =
@@ -60,15 +36,5 @@ pub severed-at-spec : {M : Type 1} → statement M
 severed-at-spec =
     tie.close
     (tie.spec
-    word-at-requires
-    returns
-    mark-at-requires
-    same-length
-    returns-2
-    first-at-requires
-    add-if3
-    same-length-2
-    returns-3
-    walk-group-requires
-    same-length-3
-    returns-4)
+    (λ c κs. search needs) returns (λ c κs. search needs) (λ c. search needs) returns-2 (λ c κs. search needs) (λ c. search needs)
+    (λ c. search needs) returns-3 (λ c κs. search needs) (λ c. search needs) returns-4)

@@ -13,12 +13,6 @@ use borrow.Author.Needs.{needs}
 use Rattle.severed.proofs.walk_group.Statement.{statement}
 use Rattle.severed.proofs.walk_group.Tie as tie
 
-mark-requires : tie.Need-mark-requires
-mark-requires c κs = search needs
-
-next-on-requires : tie.Need-next-on-requires
-next-on-requires c κs = search needs
-
 go-on-requires : tie.Need-go-on-requires
 go-on-requires c κs =
     let n = c .before in
@@ -27,9 +21,6 @@ go-on-requires c κs =
     let p = s .pre in
     let e = n .next-on .ensures in
     (e .low, p .1, p .2, omega (arith, p .3, m .mark .kept .0), p .4, p .5, p .6, (λ h z. e .together h .some (e .together h .same ∙ z)), (λ h. same-unless _ _ (e .fresh h)))
-
-next-on-requires-2 : tie.Need-next-on-requires-2
-next-on-requires-2 c κs = search needs
 
 go-on-requires-2 : tie.Need-go-on-requires-2
 go-on-requires-2 c κs =
@@ -40,9 +31,6 @@ go-on-requires-2 c κs =
     let p = s .pre in
     let e = n .next-on2 .ensures in
     (e .low, p .1, p .2, omega (arith, p .3, m .mark .kept .0, g .go-on .ensures .1 .size), p .4, p .5, p .6, (λ h z. e .together h .some (e .together h .same ∙ z)), (λ h. same-unless _ _ (e .fresh h)))
-
-same-length : tie.Need-same-length
-same-length c = search needs
 
 returns : tie.Need-returns
 returns c =
@@ -63,10 +51,5 @@ pub walk-group-spec : {M : Type 1} → statement M
 walk-group-spec =
     tie.close
     (tie.spec
-    mark-requires
-    next-on-requires
-    go-on-requires
-    next-on-requires-2
-    go-on-requires-2
-    same-length
+    (λ c κs. search needs) (λ c κs. search needs) go-on-requires (λ c κs. search needs) go-on-requires-2 (λ c. search needs)
     returns)

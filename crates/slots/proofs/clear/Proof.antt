@@ -13,12 +13,6 @@ returns c =
     let a = c .before .before .args in
     sym (written-not (a .slot) (replicate 10 0) (a .answer .now) (c .if1 .taken))
 
-put-requires : tie.Need-put-requires
-put-requires c κs = search needs
-
-same-length : tie.Need-same-length
-same-length c = search needs
-
 returns-2 : tie.Need-returns-2
 unfolding clearedAt
 returns-2 c =
@@ -27,4 +21,7 @@ returns-2 c =
     c .before .before .put .ensures ∙ sym (written-there (a .slot) (replicate 10 0) (a .answer .now) (e .if1 .left))
 
 pub clear-spec : {M : Type 1} → statement M
-clear-spec = tie.close (tie.spec returns put-requires same-length returns-2)
+clear-spec =
+    tie.close
+    (tie.spec
+    returns (λ c κs. search needs) (λ c. search needs) returns-2)

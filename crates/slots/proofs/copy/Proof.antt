@@ -20,15 +20,6 @@ returns-2 c =
     let l = a .answer .now in
     sym (copied-there (a .from) (a .to) l (c .before .if1 .left) ∙ written-not (a .to) (wordsAt (a .from) l) l (c .if2 .taken))
 
-words-at-requires : tie.Need-words-at-requires
-words-at-requires c κs = search needs
-
-put-requires : tie.Need-put-requires
-put-requires c κs = search needs
-
-same-length : tie.Need-same-length
-same-length c = search needs
-
 returns-3 : tie.Need-returns-3
 returns-3 c =
     let w = c .before .before .before .before in
@@ -40,4 +31,6 @@ returns-3 c =
 
 pub copy-spec : {M : Type 1} → statement M
 copy-spec =
-    tie.close (tie.spec returns returns-2 words-at-requires put-requires same-length returns-3)
+    tie.close
+    (tie.spec
+    returns returns-2 (λ c κs. search needs) (λ c κs. search needs) (λ c. search needs) returns-3)

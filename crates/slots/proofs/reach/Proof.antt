@@ -18,24 +18,6 @@ returns c =
     let l = a .answer .now in
     sym (written-not (a .slot) (words (reached (readingOf (wordsAt (a .slot) l)) (a .v) (a .orientation))) l (c .if1 .taken))
 
-words-at-requires : tie.Need-words-at-requires
-words-at-requires c κs = search needs
-
-reading-of-requires : tie.Need-reading-of-requires
-reading-of-requires c κs = search needs
-
-reached-requires : tie.Need-reached-requires
-reached-requires c κs = search needs
-
-words-requires : tie.Need-words-requires
-words-requires c κs = search needs
-
-put-requires : tie.Need-put-requires
-put-requires c κs = search needs
-
-same-length : tie.Need-same-length
-same-length c = search needs
-
 returns-2 : tie.Need-returns-2
 unfolding reachedAt
 returns-2 c =
@@ -52,4 +34,5 @@ pub reach-spec : {M : Type 1} → statement M
 reach-spec =
     tie.close
     (tie.spec
-    returns words-at-requires reading-of-requires reached-requires words-requires put-requires same-length returns-2)
+    returns (λ c κs. search needs) (λ c κs. search needs) (λ c κs. search needs) (λ c κs. search needs) (λ c κs. search needs)
+    (λ c. search needs) returns-2)

@@ -22,9 +22,6 @@ Inv-loop work₀ rows threshold answer₀ s q₀ q-end work answer q = (answer �
 abbrev μ-loop : tie.MeasureT-loop
 μ-loop work₀ rows threshold answer₀ s q₀ q-end work answer q = s .groups - q
 
-cast-q-end : tie.Need-cast-q-end Inv-loop μ-loop
-cast-q-end c = search needs
-
 loop-holds : tie.Need-loop-holds Inv-loop μ-loop
 unfolding upTo
 loop-holds c = let s = c .before .before .before in (refl, only-none (joinedColumn ∷ []) (s .args .rows) (s .args .work .now), omega arith, refl, s .pre .2)
@@ -36,12 +33,6 @@ reach-at-requires c κs =
     let s = i .before .before .before .before .before in
     (i .loop-test .taken, s .pre .0, s .pre .1, l .inv .4, ranged-kept (s .args .rows) (s .args .work .now) _ (l .inv .1) _ (s .pre .1) (s .pre .3))
 
-add-q : tie.Need-add-q Inv-loop μ-loop
-add-q c = search needs
-
-loop-less : tie.Need-loop-less Inv-loop μ-loop
-loop-less c = search needs
-
 loop-again : tie.Need-loop-again Inv-loop μ-loop
 loop-again c =
     let m = c .before .before .before .before in
@@ -51,12 +42,6 @@ loop-again c =
     let a = s .args in
     let e = m .reach-at .ensures in
     (one-group (a .rows) (a .threshold) (a .s .groups) (a .s .members) (a .work .now) _ (a .answer .now) _ _ (l .q) (s .pre .0) (s .pre .1) (s .pre .3) (l .inv .1) (l .inv .0) (e .0), only-trans (joinedColumn ∷ []) (a .rows) (a .work .now) _ _ (l .inv .1) (e .1), omega (arith, i .loop-test .taken), m .reach-at .kept .1 .1 .1 .0 ∙ l .inv .3, omega (arith, l .inv .4, e .1 .size))
-
-same-length : tie.Need-same-length Inv-loop μ-loop
-same-length c = search needs
-
-same-length-2 : tie.Need-same-length-2 Inv-loop μ-loop
-same-length-2 c = search needs
 
 returns : tie.Need-returns Inv-loop μ-loop
 unfolding reachAll
@@ -69,5 +54,5 @@ pub generate-tangent-spaces-spec : {M : Type 1} → statement M
 generate-tangent-spaces-spec =
     tie.close
     (tie.spec
-    Inv-loop μ-loop cast-q-end loop-holds reach-at-requires add-q loop-less loop-again same-length same-length-2
-    returns)
+    Inv-loop μ-loop (λ c. search needs) loop-holds reach-at-requires (λ c. search needs) (λ c. search needs) loop-again
+    (λ c. search needs) (λ c. search needs) returns)

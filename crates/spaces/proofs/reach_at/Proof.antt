@@ -8,18 +8,6 @@ use borrow.Author.Needs.{needs}
 use Rattle.spaces.proofs.reach_at.Statement.{statement}
 use Rattle.spaces.proofs.reach_at.Tie as tie
 
-begin-at-requires : tie.Need-begin-at-requires
-begin-at-requires c κs = search needs
-
-add-begin-at : tie.Need-add-begin-at
-add-begin-at c = search needs
-
-begin-at-requires-2 : tie.Need-begin-at-requires-2
-begin-at-requires-2 c κs = search needs
-
-same-length : tie.Need-same-length
-same-length c = search needs
-
 returns : tie.Need-returns
 returns c =
     let t = c .before in
@@ -35,12 +23,6 @@ reach-group-requires c κs =
     let b = t .begin-at2 .ensures .1 in
     (omega (arith, e .if1 .left), omega (arith, b, s .pre .2), s .pre .3, ranged-less (s .args .rows) _ _ (s .args .work .now) b (s .pre .4))
 
-same-length-2 : tie.Need-same-length-2
-same-length-2 c = search needs
-
-same-length-3 : tie.Need-same-length-3
-same-length-3 c = search needs
-
 returns-2 : tie.Need-returns-2
 returns-2 c =
     let g = c .before .before .before .before in
@@ -53,5 +35,5 @@ pub reach-at-spec : {M : Type 1} → statement M
 reach-at-spec =
     tie.close
     (tie.spec
-    begin-at-requires add-begin-at begin-at-requires-2 same-length returns reach-group-requires same-length-2
-    same-length-3 returns-2)
+    (λ c κs. search needs) (λ c. search needs) (λ c κs. search needs) (λ c. search needs) returns reach-group-requires
+    (λ c. search needs) (λ c. search needs) returns-2)

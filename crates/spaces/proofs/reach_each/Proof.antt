@@ -25,9 +25,6 @@ Inv-loop work₀ rows threshold answer₀ from to sum₀ j₀ work answer sum j 
 abbrev μ-loop : tie.MeasureT-loop
 μ-loop work₀ rows threshold answer₀ from to sum₀ j₀ work answer sum j = to - j
 
-evaluate-tangent-space-requires : tie.Need-evaluate-tangent-space-requires Inv-loop μ-loop
-evaluate-tangent-space-requires c κs = search needs
-
 loop-holds : tie.Need-loop-holds Inv-loop μ-loop
 unfolding upTo
 loop-holds c =
@@ -35,18 +32,6 @@ loop-holds c =
     let a = s .args in
     let z : 0 ≡ a .from - a .from = omega arith in
     (ap (λ n. upTo n (λ k. reachRow (a .rows) (a .threshold) (a .from) (a .to - a .from) (a .work .now) (cell (a .rows) metColumn (a .from + k) (a .work .now))) (a .answer .now)) z, c .evaluate-tangent-space .ensures, only-none (joinedColumn ∷ []) (a .rows) (a .work .now), omega arith, s .pre .0, refl, s .pre .2)
-
-mul-r : tie.Need-mul-r Inv-loop μ-loop
-mul-r c = search needs
-
-add-r : tie.Need-add-r Inv-loop μ-loop
-add-r c = search needs
-
-mul-r-2 : tie.Need-mul-r-2 Inv-loop μ-loop
-mul-r-2 c = search needs
-
-slice-read-r : tie.Need-slice-read-r Inv-loop μ-loop
-slice-read-r c = search needs
 
 cast-r : tie.Need-cast-r Inv-loop μ-loop
 cast-r c = let l = c .before .before .loop in omega (arith, c .slice-known3 .given (metColumn * c .before .before .before .before .before .before .before .args .rows + l .j))
@@ -59,12 +44,6 @@ reach-member-requires c κs =
     let a = s .args in
     let b = i .loop-test .taken in
     (subst (λ x. x < a .rows) (sym (cell-kept (joinedColumn ∷ []) (a .rows) (a .work .now) _ (l .inv .2) metColumn (l .j) refl (omega (arith, b, s .pre .1)))) (s .pre .3 .met (l .j) b), s .pre .0, s .pre .1, l .inv .6, ranged-kept (a .rows) (a .work .now) _ (l .inv .2) (a .to) (s .pre .1) (s .pre .3), l .inv .1)
-
-add-j : tie.Need-add-j Inv-loop μ-loop
-add-j c = search needs
-
-loop-less : tie.Need-loop-less Inv-loop μ-loop
-loop-less c = search needs
 
 loop-again : tie.Need-loop-again Inv-loop μ-loop
 loop-again c =
@@ -80,12 +59,6 @@ loop-again c =
     let more : (l .j - a .from) + 1 ≡ l .j + 1 - a .from = omega (arith, l .inv .3) in
     (e .0 ∙ (member-kept (a .rows) (a .work .now) _ (l .inv .2) (a .threshold) (a .from) (a .to) (l .j) _ (s .pre .0) (s .pre .1) b (s .pre .3) ∙ ((λ z. reachRow (a .rows) (a .threshold) (a .from) (a .to - a .from) (a .work .now) (cell (a .rows) metColumn (at z) (a .work .now)) (l .inv .0 z)) ∙ (upTo-more (l .j - a .from) f (a .answer .now) ∙ ap (λ n. upTo n f (a .answer .now)) more))), e .1, only-trans (joinedColumn ∷ []) (a .rows) (a .work .now) _ _ (l .inv .2) (e .2), omega (arith, l .inv .3), omega (arith, b), m .reach-member .kept .1 .1 .1 .0 ∙ l .inv .5, omega (arith, l .inv .6, e .2 .size))
 
-same-length : tie.Need-same-length Inv-loop μ-loop
-same-length c = search needs
-
-same-length-2 : tie.Need-same-length-2 Inv-loop μ-loop
-same-length-2 c = search needs
-
 returns : tie.Need-returns Inv-loop μ-loop
 unfolding reachGroup
 returns c =
@@ -99,5 +72,6 @@ pub reach-each-spec : {M : Type 1} → statement M
 reach-each-spec =
     tie.close
     (tie.spec
-    Inv-loop μ-loop evaluate-tangent-space-requires loop-holds mul-r add-r mul-r-2 slice-read-r cast-r
-    reach-member-requires add-j loop-less loop-again same-length same-length-2 returns)
+    Inv-loop μ-loop (λ c κs. search needs) loop-holds (λ c. search needs) (λ c. search needs) (λ c. search needs)
+    (λ c. search needs) cast-r reach-member-requires (λ c. search needs) (λ c. search needs) loop-again (λ c. search needs)
+    (λ c. search needs) returns)

@@ -7,20 +7,11 @@ use borrow.Author.Needs.{needs}
 use Rattle.spaces.proofs.reach_member.Statement.{statement}
 use Rattle.spaces.proofs.reach_member.Tie as tie
 
-space-of-requires : tie.Need-space-of-requires
-space-of-requires c κs = search needs
-
 reach-one-requires : tie.Need-reach-one-requires
 reach-one-requires c κs =
     let v = c .before .before .before .before in
     let s = v .before .before .before .before in
     (s .pre .0, omega (arith, s .pre .3, v .space-of .ensures .2 .size))
-
-same-length : tie.Need-same-length
-same-length c = search needs
-
-same-length-2 : tie.Need-same-length-2
-same-length-2 c = search needs
 
 returns : tie.Need-returns
 unfolding reachRow reachWith
@@ -33,4 +24,6 @@ returns c =
 
 pub reach-member-spec : {M : Type 1} → statement M
 reach-member-spec =
-    tie.close (tie.spec space-of-requires reach-one-requires same-length same-length-2 returns)
+    tie.close
+    (tie.spec
+    (λ c κs. search needs) reach-one-requires (λ c. search needs) (λ c. search needs) returns)

@@ -20,9 +20,6 @@ Inv-loop work rows answer₀ from to g j₀ answer j = (answer ≡ upTo (j - fro
 abbrev μ-loop : tie.MeasureT-loop
 μ-loop work rows answer₀ from to g j₀ answer j = to - j
 
-sum-of-all-requires : tie.Need-sum-of-all-requires Inv-loop μ-loop
-sum-of-all-requires c κs = search needs
-
 loop-holds : tie.Need-loop-holds Inv-loop μ-loop
 unfolding upTo
 loop-holds c =
@@ -30,18 +27,6 @@ loop-holds c =
     let a = s .args in
     let z : 0 ≡ a .from - a .from = omega arith in
     (ap (λ n. upTo n (λ k. reachWith (a .rows) (a .work .now) (c .sum-of-all .result) (cell (a .rows) metColumn (a .from + k) (a .work .now))) (a .answer .now)) z, omega arith, s .pre .0, refl)
-
-mul-reach-one : tie.Need-mul-reach-one Inv-loop μ-loop
-mul-reach-one c = search needs
-
-add-reach-one : tie.Need-add-reach-one Inv-loop μ-loop
-add-reach-one c = search needs
-
-mul-reach-one-2 : tie.Need-mul-reach-one-2 Inv-loop μ-loop
-mul-reach-one-2 c = search needs
-
-shared-slice-read-reach-one : tie.Need-shared-slice-read-reach-one Inv-loop μ-loop
-shared-slice-read-reach-one c = search needs
 
 cast-reach-one : tie.Need-cast-reach-one Inv-loop μ-loop
 cast-reach-one c =
@@ -57,12 +42,6 @@ reach-one-requires c κs =
     let s = i .before .before .before .before .before in
     (s .pre .3 .met (l .j) (i .loop-test .taken), s .pre .2)
 
-add-j : tie.Need-add-j Inv-loop μ-loop
-add-j c = search needs
-
-loop-less : tie.Need-loop-less Inv-loop μ-loop
-loop-less c = search needs
-
 loop-again : tie.Need-loop-again Inv-loop μ-loop
 loop-again c =
     let m = c .before .before in
@@ -77,9 +56,6 @@ loop-again c =
     let more : (l .j - a .from) + 1 ≡ l .j + 1 - a .from = omega (arith, l .inv .1) in
     (m .reach-one .ensures ∙ ((λ z. reachWith (a .rows) (a .work .now) g (cell (a .rows) metColumn (at z) (a .work .now)) (l .inv .0 z)) ∙ (upTo-more (l .j - a .from) f (a .answer .now) ∙ ap (λ n. upTo n f (a .answer .now)) more)), omega (arith, l .inv .1), omega (arith, b), m .reach-one .kept .1 .1 .0 ∙ l .inv .3)
 
-same-length : tie.Need-same-length Inv-loop μ-loop
-same-length c = search needs
-
 returns : tie.Need-returns Inv-loop μ-loop
 unfolding reachWhole
 returns c =
@@ -92,18 +68,6 @@ pub reach-whole-spec : {M : Type 1} → statement M
 reach-whole-spec =
     tie.close
     (tie.spec
-    Inv-loop
-    μ-loop
-    sum-of-all-requires
-    loop-holds
-    mul-reach-one
-    add-reach-one
-    mul-reach-one-2
-    shared-slice-read-reach-one
-    cast-reach-one
-    reach-one-requires
-    add-j
-    loop-less
-    loop-again
-    same-length
+    Inv-loop μ-loop (λ c κs. search needs) loop-holds (λ c. search needs) (λ c. search needs) (λ c. search needs)
+    (λ c. search needs) cast-reach-one reach-one-requires (λ c. search needs) (λ c. search needs) loop-again (λ c. search needs)
     returns)

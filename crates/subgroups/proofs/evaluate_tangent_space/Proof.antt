@@ -4,12 +4,12 @@ use borrow.Author.Needs.{needs}
 use Rattle.subgroups.proofs.evaluate_tangent_space.Statement.{statement}
 use Rattle.subgroups.proofs.evaluate_tangent_space.Tie as tie
 
-sum-taken-requires : tie.Need-sum-taken-requires
-sum-taken-requires c κs = search needs
-
 returns : tie.Need-returns
 unfolding takenSum addTaken takenAt addMarked evaluated
 returns c = c .sum-taken .ensures
 
 pub evaluate-tangent-space-spec : {M : Type 1} → statement M
-evaluate-tangent-space-spec = tie.close (tie.spec sum-taken-requires returns)
+evaluate-tangent-space-spec =
+    tie.close
+    (tie.spec
+    (λ c κs. search needs) returns)

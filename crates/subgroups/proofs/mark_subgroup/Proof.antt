@@ -35,12 +35,6 @@ mark-requires c κs =
     let b : l .p < s .args .rows = omega (arith, p, s .pre .1) in
     (b, subst (λ x. x < s .args .rows) (sym (order-kept (s .args .rows) (s .args .work .now) _ (l .inv .4) (l .p) b)) (s .pre .3 .order (l .p) p), omega (arith, s .pre .2, l .inv .4 .size))
 
-add-p : tie.Need-add-p Inv-loop μ-loop
-add-p c = search needs
-
-loop-less : tie.Need-loop-less Inv-loop μ-loop
-loop-less c = search needs
-
 loop-again : tie.Need-loop-again Inv-loop μ-loop
 loop-again c =
     let k = c .before .before in
@@ -70,4 +64,4 @@ pub mark-subgroup-spec : {M : Type 1} → statement M
 mark-subgroup-spec =
     tie.close
     (tie.spec
-    Inv-loop μ-loop loop-holds mark-requires add-p loop-less loop-again same-length returns)
+    Inv-loop μ-loop loop-holds mark-requires (λ c. search needs) (λ c. search needs) loop-again same-length returns)

@@ -8,15 +8,6 @@ use borrow.Author.Needs.{needs}
 use Rattle.subgroups.proofs.space_of.Statement.{statement}
 use Rattle.subgroups.proofs.space_of.Tie as tie
 
-peer-at-requires : tie.Need-peer-at-requires
-peer-at-requires c κs = search needs
-
-mark-subgroup-requires : tie.Need-mark-subgroup-requires
-mark-subgroup-requires c κs = search needs
-
-same-length : tie.Need-same-length
-same-length c = search needs
-
 returns : tie.Need-returns
 returns c =
     let k = c .before .before .before in
@@ -36,9 +27,6 @@ evaluate-tangent-space-requires c κs =
     let b = space-marked (a .rows) (a .threshold) (a .r) (a .from) (a .to) _ (a .work .now) _ (s .pre .2) (s .pre .0) (s .pre .1) (s .pre .3) (p .peer-at .ensures) (k .mark-subgroup .ensures .0) in
     (s .pre .0, s .pre .1, omega (arith, s .pre .2, b .1 .size), ranged-kept (a .rows) (a .work .now) _ (b .1) (a .to) (s .pre .1) (s .pre .3))
 
-same-length-2 : tie.Need-same-length-2
-same-length-2 c = search needs
-
 returns-2 : tie.Need-returns-2
 returns-2 c =
     let k = c .before .before .before .before .before in
@@ -52,5 +40,5 @@ pub space-of-spec : {M : Type 1} → statement M
 space-of-spec =
     tie.close
     (tie.spec
-    peer-at-requires mark-subgroup-requires same-length returns evaluate-tangent-space-requires same-length-2
+    (λ c κs. search needs) (λ c κs. search needs) (λ c. search needs) returns evaluate-tangent-space-requires (λ c. search needs)
     returns-2)

@@ -18,12 +18,6 @@ Inv-loop work rows from to b₀ p₀ b p = (b ≡ upTo (p - from) (λ k. absorbe
 abbrev μ-loop : tie.MeasureT-loop
 μ-loop work rows from to b₀ p₀ b p = to - p
 
-nothing-requires : tie.Need-nothing-requires Inv-loop μ-loop
-nothing-requires c κs = search needs
-
-nothing-requires-2 : tie.Need-nothing-requires-2 Inv-loop μ-loop
-nothing-requires-2 c κs = search needs
-
 loop-holds : tie.Need-loop-holds Inv-loop μ-loop
 unfolding upTo
 loop-holds c =
@@ -37,12 +31,6 @@ absorb-at-requires c κs =
     let s = c .before .before .before .before .before in
     let p = c .loop-test .taken in
     (omega (arith, p, s .pre .1), s .pre .3 .met (c .before .loop .p) p, s .pre .3 .order (c .before .loop .p) p, s .pre .2)
-
-add-p : tie.Need-add-p Inv-loop μ-loop
-add-p c = search needs
-
-loop-less : tie.Need-loop-less Inv-loop μ-loop
-loop-less c = search needs
 
 loop-again : tie.Need-loop-again Inv-loop μ-loop
 loop-again c =
@@ -68,13 +56,5 @@ pub span-of-spec : {M : Type 1} → statement M
 span-of-spec =
     tie.close
     (tie.spec
-    Inv-loop
-    μ-loop
-    nothing-requires
-    nothing-requires-2
-    loop-holds
-    absorb-at-requires
-    add-p
-    loop-less
-    loop-again
-    returns)
+    Inv-loop μ-loop (λ c κs. search needs) (λ c κs. search needs) loop-holds absorb-at-requires (λ c. search needs)
+    (λ c. search needs) loop-again returns)

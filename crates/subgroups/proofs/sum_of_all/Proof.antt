@@ -5,12 +5,12 @@ use borrow.Author.Needs.{needs}
 use Rattle.subgroups.proofs.sum_of_all.Statement.{statement}
 use Rattle.subgroups.proofs.sum_of_all.Tie as tie
 
-sum-taken-requires : tie.Need-sum-taken-requires
-sum-taken-requires c κs = search needs
-
 returns : tie.Need-returns
 unfolding takenSum addTaken takenAt summed
 returns c = c .sum-taken .ensures
 
 pub sum-of-all-spec : {M : Type 1} → statement M
-sum-of-all-spec = tie.close (tie.spec sum-taken-requires returns)
+sum-of-all-spec =
+    tie.close
+    (tie.spec
+    (λ c κs. search needs) returns)

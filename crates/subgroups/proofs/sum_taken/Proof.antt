@@ -18,9 +18,6 @@ Inv-loop work rows all from to z₀ p₀ z p = (z ≡ upTo (p - from) (λ k. add
 abbrev μ-loop : tie.MeasureT-loop
 μ-loop work rows all from to z₀ p₀ z p = to - p
 
-nothing-requires : tie.Need-nothing-requires Inv-loop μ-loop
-nothing-requires c κs = search needs
-
 loop-holds : tie.Need-loop-holds Inv-loop μ-loop
 unfolding upTo
 loop-holds c =
@@ -34,12 +31,6 @@ add-taken-requires c κs =
     let p = c .loop-test .taken in
     (omega (arith, p, s .pre .1), s .pre .3 .order (c .before .loop .p) p, s .pre .2)
 
-add-p : tie.Need-add-p Inv-loop μ-loop
-add-p c = search needs
-
-loop-less : tie.Need-loop-less Inv-loop μ-loop
-loop-less c = search needs
-
 loop-again : tie.Need-loop-again Inv-loop μ-loop
 loop-again c =
     let i = c .before in
@@ -50,9 +41,6 @@ loop-again c =
     let e : (l .p - a .from) + 1 ≡ l .p + 1 - a .from = omega (arith, l .inv .1) in
     let f : ℕ → Sum → Sum = λ k. addTaken (a .rows) (a .all) (a .work .now) (a .from + k) in
     (c .add-taken .ensures ∙ ((λ q. addTaken (a .rows) (a .all) (a .work .now) (at q) (l .inv .0 q)) ∙ (upTo-more (l .p - a .from) f emptySum ∙ ap (λ n. upTo n f emptySum) e)), omega (arith, l .inv .1), omega (arith, i .loop-test .taken))
-
-finish-requires : tie.Need-finish-requires Inv-loop μ-loop
-finish-requires c κs = search needs
 
 returns : tie.Need-returns Inv-loop μ-loop
 unfolding takenSum
@@ -66,4 +54,5 @@ pub sum-taken-spec : {M : Type 1} → statement M
 sum-taken-spec =
     tie.close
     (tie.spec
-    Inv-loop μ-loop nothing-requires loop-holds add-taken-requires add-p loop-less loop-again finish-requires returns)
+    Inv-loop μ-loop (λ c κs. search needs) loop-holds add-taken-requires (λ c. search needs) (λ c. search needs) loop-again
+    (λ c κs. search needs) returns)

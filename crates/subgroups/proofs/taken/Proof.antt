@@ -8,18 +8,6 @@ returns : tie.Need-returns
 unfolding takenAt
 returns c = simp (c .if1 .taken)
 
-mul-result : tie.Need-mul-result
-mul-result c = search needs
-
-add-result : tie.Need-add-result
-add-result c = search needs
-
-mul-result-2 : tie.Need-mul-result-2
-mul-result-2 c = search needs
-
-shared-slice-read-result : tie.Need-shared-slice-read-result
-shared-slice-read-result c = search needs
-
 returns-2 : tie.Need-returns-2
 unfolding takenAt
 returns-2 c = simp (c .before .if1 .left)
@@ -27,4 +15,5 @@ returns-2 c = simp (c .before .if1 .left)
 pub taken-spec : {M : Type 1} → statement M
 taken-spec =
     tie.close
-    (tie.spec returns mul-result add-result mul-result-2 shared-slice-read-result returns-2)
+    (tie.spec
+    returns (λ c. search needs) (λ c. search needs) (λ c. search needs) (λ c. search needs) returns-2)

@@ -8,15 +8,6 @@ use borrow.Author.Needs.{needs}
 use Rattle.subgroups.proofs.whole.Statement.{statement}
 use Rattle.subgroups.proofs.whole.Tie as tie
 
-span-of-requires : tie.Need-span-of-requires
-span-of-requires c κs = search needs
-
-above-requires : tie.Need-above-requires
-above-requires c κs = search needs
-
-above-requires-2 : tie.Need-above-requires-2
-above-requires-2 c κs = search needs
-
 returns : tie.Need-returns
 returns c =
     let p = c .before .before .before .before in
@@ -26,4 +17,7 @@ returns c =
     (sym (c .above2 .ensures ∙ ap (λ x. above (x .t) (a .threshold)) (p .span-of .ensures)) ∙ and-right (c .before .above .result) _ q)
 
 pub whole-spec : {M : Type 1} → statement M
-whole-spec = tie.close (tie.spec span-of-requires above-requires above-requires-2 returns)
+whole-spec =
+    tie.close
+    (tie.spec
+    (λ c κs. search needs) (λ c κs. search needs) (λ c κs. search needs) returns)

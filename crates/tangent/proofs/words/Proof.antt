@@ -5,21 +5,6 @@ use Rattle.tangent.specs.Slot.{words}
 use Rattle.tangent.proofs.words.Statement.{statement}
 use Rattle.tangent.proofs.words.Tie as tie
 
-enum-told : tie.Need-enum-told
-enum-told c = search needs
-
-enum-known-r : tie.Need-enum-known-r
-enum-known-r c = search needs
-
-present-requires : tie.Need-present-requires
-present-requires c κs = search needs
-
-enum-known-r-2 : tie.Need-enum-known-r-2
-enum-known-r-2 c = search needs
-
-present-requires-2 : tie.Need-present-requires-2
-present-requires-2 c κs = search needs
-
 returns : tie.Need-returns
 unfolding words
 returns c = sym (ap words (c .enum-told .given .1))
@@ -36,11 +21,5 @@ pub words-spec : {M : Type 1} → statement M
 words-spec =
     tie.close
     (tie.spec
-    enum-told
-    enum-known-r
-    present-requires
-    enum-known-r-2
-    present-requires-2
-    returns
-    returns-2
+    (λ c. search needs) (λ c. search needs) (λ c κs. search needs) (λ c. search needs) (λ c κs. search needs) returns returns-2
     returns-3)

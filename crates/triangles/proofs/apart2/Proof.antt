@@ -5,15 +5,12 @@ use borrow.Author.Needs.{needs}
 use Rattle.triangles.proofs.apart2.Statement.{statement}
 use Rattle.triangles.proofs.apart2.Tie as tie
 
-sub-requires : tie.Need-sub-requires
-sub-requires c κs = search needs
-
-dot-requires : tie.Need-dot-requires
-dot-requires c κs = search needs
-
 returns : tie.Need-returns
 unfolding apart²
 returns c = cc
 
 pub apart2-spec : {M : Type 1} → statement M
-apart2-spec = tie.close (tie.spec sub-requires dot-requires returns)
+apart2-spec =
+    tie.close
+    (tie.spec
+    (λ c κs. search needs) (λ c κs. search needs) returns)

@@ -5,15 +5,12 @@ use borrow.Author.Needs.{needs}
 use Rattle.triangles.proofs.area.Statement.{statement}
 use Rattle.triangles.proofs.area.Tie as tie
 
-turn-requires : tie.Need-turn-requires
-turn-requires c κs = search needs
-
-fabsf-requires : tie.Need-fabsf-requires
-fabsf-requires c κs = search needs
-
 returns : tie.Need-returns
 unfolding area
 returns c = cc
 
 pub area-spec : {M : Type 1} → statement M
-area-spec = tie.close (tie.spec turn-requires fabsf-requires returns)
+area-spec =
+    tie.close
+    (tie.spec
+    (λ c κs. search needs) (λ c κs. search needs) returns)

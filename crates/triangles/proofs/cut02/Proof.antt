@@ -4,12 +4,6 @@ use borrow.Author.Needs.{needs}
 use Rattle.triangles.proofs.cut02.Statement.{statement}
 use Rattle.triangles.proofs.cut02.Tie as tie
 
-across2-requires : tie.Need-across2-requires
-across2-requires c κs = search needs
-
-across2-requires-2 : tie.Need-across2-requires-2
-across2-requires-2 c κs = search needs
-
 returns : tie.Need-returns
 returns c =
     let b = c .before in
@@ -25,12 +19,6 @@ returns-2 c =
     let x = a .before .args in
     cut-2 (x .c0) (x .c1) (x .c2) (x .c3) _ _ (a .across2 .ensures) (b .across22 .ensures) (i .if1 .left) (c .if2 .taken)
 
-apart2-requires : tie.Need-apart2-requires
-apart2-requires c κs = search needs
-
-apart2-requires-2 : tie.Need-apart2-requires-2
-apart2-requires-2 c κs = search needs
-
 returns-3 : tie.Need-returns-3
 returns-3 c =
     let d = c .before in
@@ -45,10 +33,4 @@ pub cut02-spec : {M : Type 1} → statement M
 cut02-spec =
     tie.close
     (tie.spec
-    across2-requires
-    across2-requires-2
-    returns
-    returns-2
-    apart2-requires
-    apart2-requires-2
-    returns-3)
+    (λ c κs. search needs) (λ c κs. search needs) returns returns-2 (λ c κs. search needs) (λ c κs. search needs) returns-3)

@@ -4,12 +4,6 @@ use borrow.Author.Needs.{needs}
 use Rattle.triangles.proofs.first_order.Statement.{statement}
 use Rattle.triangles.proofs.first_order.Tie as tie
 
-not-zero-requires : tie.Need-not-zero-requires
-not-zero-requires c κs = search needs
-
-tangent-at-requires : tie.Need-tangent-at-requires
-tangent-at-requires c κs = search needs
-
 returns : tie.Need-returns
 returns c =
     let i = c .before in
@@ -24,4 +18,7 @@ returns-2 c =
     order-2 (x .w) (x .s) (x .t) _ (z .not-zero .ensures) (c .if1 .left)
 
 pub first-order-spec : {M : Type 1} → statement M
-first-order-spec = tie.close (tie.spec not-zero-requires tangent-at-requires returns returns-2)
+first-order-spec =
+    tie.close
+    (tie.spec
+    (λ c κs. search needs) (λ c κs. search needs) returns returns-2)

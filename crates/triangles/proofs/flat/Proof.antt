@@ -4,17 +4,11 @@ use borrow.Author.Needs.{needs}
 use Rattle.triangles.proofs.flat.Statement.{statement}
 use Rattle.triangles.proofs.flat.Tie as tie
 
-equals-requires : tie.Need-equals-requires
-equals-requires c κs = search needs
-
 returns : tie.Need-returns
 returns c =
     let a = c .before in
     let x = a .before .before .before .before .args in
     flat-1 (x .c) (x .d) (x .e) _ (a .equals .ensures) (c .if1 .taken)
-
-equals-requires-2 : tie.Need-equals-requires-2
-equals-requires-2 c κs = search needs
 
 returns-2 : tie.Need-returns-2
 returns-2 c =
@@ -23,9 +17,6 @@ returns-2 c =
     let a = i .before in
     let x = a .before .before .before .before .args in
     flat-2 (x .c) (x .d) (x .e) _ (a .equals .ensures) (i .if1 .left) _ (b .equals2 .ensures) (c .if2 .taken)
-
-equals-requires-3 : tie.Need-equals-requires-3
-equals-requires-3 c κs = search needs
 
 returns-3 : tie.Need-returns-3
 returns-3 c =
@@ -39,4 +30,5 @@ returns-3 c =
 pub flat-spec : {M : Type 1} → statement M
 flat-spec =
     tie.close
-    (tie.spec equals-requires returns equals-requires-2 returns-2 equals-requires-3 returns-3)
+    (tie.spec
+    (λ c κs. search needs) returns (λ c κs. search needs) returns-2 (λ c κs. search needs) returns-3)

@@ -4,29 +4,11 @@ use borrow.Author.Needs.{needs}
 use Rattle.triangles.proofs.make.Statement.{statement}
 use Rattle.triangles.proofs.make.Tie as tie
 
-flat-requires : tie.Need-flat-requires
-flat-requires c κs = search needs
-
 returns : tie.Need-returns
 returns c =
     let a = c .before in
     let x = a .before .before .before .before .args in
     make-1 (x .face) (x .second) (x .missing) (x .a) (x .b) (x .c) _ (a .flat .ensures) (c .if1 .taken)
-
-turn-requires : tie.Need-turn-requires
-turn-requires c κs = search needs
-
-raw-s-requires : tie.Need-raw-s-requires
-raw-s-requires c κs = search needs
-
-raw-t-requires : tie.Need-raw-t-requires
-raw-t-requires c κs = search needs
-
-first-order-requires : tie.Need-first-order-requires
-first-order-requires c κs = search needs
-
-unsure-requires : tie.Need-unsure-requires
-unsure-requires c κs = search needs
 
 returns-2 : tie.Need-returns-2
 returns-2 c =
@@ -43,11 +25,5 @@ pub make-spec : {M : Type 1} → statement M
 make-spec =
     tie.close
     (tie.spec
-    flat-requires
-    returns
-    turn-requires
-    raw-s-requires
-    raw-t-requires
-    first-order-requires
-    unsure-requires
-    returns-2)
+    (λ c κs. search needs) returns (λ c κs. search needs) (λ c κs. search needs) (λ c κs. search needs) (λ c κs. search needs)
+    (λ c κs. search needs) returns-2)

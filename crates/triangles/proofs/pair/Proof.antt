@@ -4,24 +4,12 @@ use borrow.Author.Needs.{needs}
 use Rattle.triangles.proofs.pair.Statement.{statement}
 use Rattle.triangles.proofs.pair.Tie as tie
 
-settled-requires : tie.Need-settled-requires
-settled-requires c κs = search needs
-
-settled-requires-2 : tie.Need-settled-requires-2
-settled-requires-2 c κs = search needs
-
 returns : tie.Need-returns
 returns c =
     let a = c .before in
     let i = a .before .before in
     let x = i .before .args in
     pair-1 (x .s) (x .t) (i .if1 .taken) _ _ (a .settled .ensures) (c .settled2 .ensures)
-
-settled-requires-3 : tie.Need-settled-requires-3
-settled-requires-3 c κs = search needs
-
-settled-requires-4 : tie.Need-settled-requires-4
-settled-requires-4 c κs = search needs
 
 returns-2 : tie.Need-returns-2
 returns-2 c =
@@ -31,12 +19,6 @@ returns-2 c =
     let x = i .before .args in
     pair-2 (x .s) (x .t) (i .if1 .left) (j .if2 .taken) _ _ (a .settled3 .ensures) (c .settled4 .ensures)
 
-settled-requires-5 : tie.Need-settled-requires-5
-settled-requires-5 c κs = search needs
-
-settled-requires-6 : tie.Need-settled-requires-6
-settled-requires-6 c κs = search needs
-
 returns-3 : tie.Need-returns-3
 returns-3 c =
     let a = c .before in
@@ -45,15 +27,6 @@ returns-3 c =
     let i = j .before in
     let x = i .before .args in
     pair-3 (x .s) (x .t) (i .if1 .left) (j .if2 .left) (k .if3 .taken) _ _ (a .settled5 .ensures) (c .settled6 .ensures)
-
-quad-way-requires : tie.Need-quad-way-requires
-quad-way-requires c κs = search needs
-
-settled-requires-7 : tie.Need-settled-requires-7
-settled-requires-7 c κs = search needs
-
-settled-requires-8 : tie.Need-settled-requires-8
-settled-requires-8 c κs = search needs
 
 returns-4 : tie.Need-returns-4
 returns-4 c =
@@ -69,16 +42,6 @@ pub pair-spec : {M : Type 1} → statement M
 pair-spec =
     tie.close
     (tie.spec
-    settled-requires
-    settled-requires-2
-    returns
-    settled-requires-3
-    settled-requires-4
-    returns-2
-    settled-requires-5
-    settled-requires-6
-    returns-3
-    quad-way-requires
-    settled-requires-7
-    settled-requires-8
+    (λ c κs. search needs) (λ c κs. search needs) returns (λ c κs. search needs) (λ c κs. search needs) returns-2
+    (λ c κs. search needs) (λ c κs. search needs) returns-3 (λ c κs. search needs) (λ c κs. search needs) (λ c κs. search needs)
     returns-4)

@@ -7,45 +7,12 @@ use borrow.Author.Needs.{needs}
 use Rattle.triangles.proofs.quad.Statement.{statement}
 use Rattle.triangles.proofs.quad.Tie as tie
 
-nook-requires : tie.Need-nook-requires
-nook-requires c κs = search needs
-
-nook-requires-2 : tie.Need-nook-requires-2
-nook-requires-2 c κs = search needs
-
-nook-requires-3 : tie.Need-nook-requires-3
-nook-requires-3 c κs = search needs
-
-nook-requires-4 : tie.Need-nook-requires-4
-nook-requires-4 c κs = search needs
-
-cut02-requires : tie.Need-cut02-requires
-cut02-requires c κs = search needs
-
-make-requires : tie.Need-make-requires
-make-requires c κs = search needs
-
-make-requires-2 : tie.Need-make-requires-2
-make-requires-2 c κs = search needs
-
-pair-requires : tie.Need-pair-requires
-pair-requires c κs = search needs
-
 returns : tie.Need-returns
 returns c =
     let i = c .before .before .before in
     let k = i .before .before in
     let x = k .before .before .before .before .args in
     quad-1 (x .face) (x .c0) (x .c1) (x .c2) (x .c3) _ (i .before .cut02 .ensures) (i .if1 .taken) _ _ (c .before .before .make .ensures ∙ (λ j. make (x .face) false 3 (k .before .before .before .nook .ensures j) (k .before .before .nook2 .ensures j) (k .before .nook3 .ensures j))) (c .before .make2 .ensures ∙ (λ j. make (x .face) true 1 (k .before .before .before .nook .ensures j) (k .before .nook3 .ensures j) (k .nook4 .ensures j))) _ (c .pair .ensures)
-
-make-requires-3 : tie.Need-make-requires-3
-make-requires-3 c κs = search needs
-
-make-requires-4 : tie.Need-make-requires-4
-make-requires-4 c κs = search needs
-
-pair-requires-2 : tie.Need-pair-requires-2
-pair-requires-2 c κs = search needs
 
 returns-2 : tie.Need-returns-2
 returns-2 c =
@@ -58,16 +25,6 @@ pub quad-spec : {M : Type 1} → statement M
 quad-spec =
     tie.close
     (tie.spec
-    nook-requires
-    nook-requires-2
-    nook-requires-3
-    nook-requires-4
-    cut02-requires
-    make-requires
-    make-requires-2
-    pair-requires
-    returns
-    make-requires-3
-    make-requires-4
-    pair-requires-2
-    returns-2)
+    (λ c κs. search needs) (λ c κs. search needs) (λ c κs. search needs) (λ c κs. search needs) (λ c κs. search needs)
+    (λ c κs. search needs) (λ c κs. search needs) (λ c κs. search needs) returns (λ c κs. search needs) (λ c κs. search needs)
+    (λ c κs. search needs) returns-2)

@@ -9,12 +9,6 @@ returns c =
     let x = c .before .args in
     way-1 (x .s) (x .t) (c .if1 .taken)
 
-area-requires : tie.Need-area-requires
-area-requires c κs = search needs
-
-area-requires-2 : tie.Need-area-requires-2
-area-requires-2 c κs = search needs
-
 returns-2 : tie.Need-returns-2
 returns-2 c =
     let b = c .before in
@@ -32,4 +26,7 @@ returns-3 c =
     way-3 (x .s) (x .t) (i .if1 .left) _ _ (a .area .ensures) (b .area2 .ensures) (c .if2 .left)
 
 pub quad-way-spec : {M : Type 1} → statement M
-quad-way-spec = tie.close (tie.spec returns area-requires area-requires-2 returns-2 returns-3)
+quad-way-spec =
+    tie.close
+    (tie.spec
+    returns (λ c κs. search needs) (λ c κs. search needs) returns-2 returns-3)

@@ -4,21 +4,6 @@ use borrow.Author.Needs.{needs}
 use Rattle.triangles.proofs.unsure.Statement.{statement}
 use Rattle.triangles.proofs.unsure.Tie as tie
 
-not-zero-requires : tie.Need-not-zero-requires
-not-zero-requires c κs = search needs
-
-not-zero-requires-2 : tie.Need-not-zero-requires-2
-not-zero-requires-2 c κs = search needs
-
-not-zero-requires-3 : tie.Need-not-zero-requires-3
-not-zero-requires-3 c κs = search needs
-
-points-requires : tie.Need-points-requires
-points-requires c κs = search needs
-
-points-requires-2 : tie.Need-points-requires-2
-points-requires-2 c κs = search needs
-
 returns : tie.Need-returns
 returns c =
     let l = c .before in
@@ -68,13 +53,5 @@ pub unsure-spec : {M : Type 1} → statement M
 unsure-spec =
     tie.close
     (tie.spec
-    not-zero-requires
-    not-zero-requires-2
-    not-zero-requires-3
-    points-requires
-    points-requires-2
-    returns
-    returns-2
-    returns-3
-    returns-4
-    returns-5)
+    (λ c κs. search needs) (λ c κs. search needs) (λ c κs. search needs) (λ c κs. search needs) (λ c κs. search needs) returns
+    returns-2 returns-3 returns-4 returns-5)

@@ -22,17 +22,8 @@ loop-holds c = (omega arith, counting-none _ _)
 cast-parents : tie.Need-cast-parents Inv-loop μ-loop
 cast-parents c = omega (arith, c .loop-test .taken, c .before .before .pre .1)
 
-mul-parents : tie.Need-mul-parents Inv-loop μ-loop
-mul-parents c = search needs
-
 slice-write-parents : tie.Need-slice-write-parents Inv-loop μ-loop
 slice-write-parents c = omega (arith, c .before .loop .inv .1 .beyond .size, c .loop-test .taken, c .before .before .pre .0)
-
-add-x : tie.Need-add-x Inv-loop μ-loop
-add-x c = search needs
-
-loop-less : tie.Need-loop-less Inv-loop μ-loop
-loop-less c = search needs
 
 loop-again : tie.Need-loop-again Inv-loop μ-loop
 loop-again c = (omega (arith, c .loop-test .taken), counting-more _ _ _ _ (c .before .before .pre .0) (c .loop-test .taken) (c .before .loop .inv .1))
@@ -47,4 +38,8 @@ returns c =
     counted _ _ _ (subst (λ n. Counting (s .args .count) (now (s .args .parents)) n (l .parents)) (le-antisymm (l .inv .0) (c .loop-test .left)) (l .inv .1))
 
 pub alone-spec : {M : Type 1} → statement M
-alone-spec = tie.close (tie.spec Inv-loop μ-loop loop-holds cast-parents mul-parents slice-write-parents add-x loop-less loop-again same-length returns)
+alone-spec =
+    tie.close
+    (tie.spec
+    Inv-loop μ-loop loop-holds cast-parents (λ c. search needs) slice-write-parents (λ c. search needs) (λ c. search needs)
+    loop-again same-length returns)

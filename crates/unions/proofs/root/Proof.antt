@@ -46,15 +46,6 @@ bounds c =
       sixth = g .same .beyond .size;
     }
 
-cast-up : tie.Need-cast-up Inv-loop μ-loop
-cast-up c = search needs
-
-mul-up : tie.Need-mul-up Inv-loop μ-loop
-mul-up c = search needs
-
-slice-read-up : tie.Need-slice-read-up Inv-loop μ-loop
-slice-read-up c = search needs
-
 loop-holds : tie.Need-loop-holds Inv-loop μ-loop
 loop-holds c = going-none _ _ _ (c .before .pre .2)
 
@@ -66,12 +57,6 @@ mul-over c = let b = bounds c in omega (arith, b .second, b .third)
 
 slice-read-over : tie.Need-slice-read-over Inv-loop μ-loop
 slice-read-over c = let b = bounds (c .before) in omega (arith, b .second, b .third, b .fourth, b .fifth, b .sixth)
-
-cast-parents : tie.Need-cast-parents Inv-loop μ-loop
-cast-parents c = search needs
-
-mul-parents : tie.Need-mul-parents Inv-loop μ-loop
-mul-parents c = search needs
 
 slice-write-parents : tie.Need-slice-write-parents Inv-loop μ-loop
 slice-write-parents c = let b = bounds (c .before) in omega (arith, b .third, b .fourth, b .fifth, b .sixth)
@@ -103,5 +88,7 @@ returns c = let s = start (c .before) in climbed _ _ _ _ _ _ (s .pre .0) (s .pre
 pub root-spec : {M : Type 1} → statement M
 root-spec =
     tie.close
-    (tie.spec Inv-loop μ-loop cast-up mul-up slice-read-up loop-holds cast-over mul-over slice-read-over cast-parents
-    mul-parents slice-write-parents cast-up-2 mul-up-2 slice-read-up-2 loop-less loop-again same-length returns)
+    (tie.spec
+    Inv-loop μ-loop (λ c. search needs) (λ c. search needs) (λ c. search needs) loop-holds cast-over mul-over slice-read-over
+    (λ c. search needs) (λ c. search needs) slice-write-parents cast-up-2 mul-up-2 slice-read-up-2 loop-less loop-again
+    same-length returns)

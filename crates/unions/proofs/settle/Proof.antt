@@ -25,9 +25,6 @@ up-low c =
 loop-holds : tie.Need-loop-holds Inv-loop μ-loop
 loop-holds c = (omega arith, settling-none _ _)
 
-mul-up : tie.Need-mul-up Inv-loop μ-loop
-mul-up c = search needs
-
 slice-read-up : tie.Need-slice-read-up Inv-loop μ-loop
 slice-read-up c = let i = c .before in omega (arith, i .before .loop .inv .1 .beyond .size, i .loop-test .taken, i .before .before .pre .0)
 
@@ -40,17 +37,8 @@ mul-parents c = omega (arith, c .slice-known .given (c .before .before .loop .x)
 slice-read-parents : tie.Need-slice-read-parents Inv-loop μ-loop
 slice-read-parents c = let i = c .before .before in omega (arith, up-low i, i .before .loop .inv .1 .beyond .size, i .loop-test .taken, i .before .before .pre .0)
 
-mul-parents-2 : tie.Need-mul-parents-2 Inv-loop μ-loop
-mul-parents-2 c = search needs
-
 slice-write-parents : tie.Need-slice-write-parents Inv-loop μ-loop
 slice-write-parents c = let i = c .before .before in omega (arith, i .before .loop .inv .1 .beyond .size, i .loop-test .taken, i .before .before .pre .0)
-
-add-x : tie.Need-add-x Inv-loop μ-loop
-add-x c = search needs
-
-loop-less : tie.Need-loop-less Inv-loop μ-loop
-loop-less c = search needs
 
 loop-again : tie.Need-loop-again Inv-loop μ-loop
 loop-again c =
@@ -71,18 +59,5 @@ pub settle-spec : {M : Type 1} → statement M
 settle-spec =
     tie.close
     (tie.spec
-    Inv-loop
-    μ-loop
-    loop-holds
-    mul-up
-    slice-read-up
-    cast-parents
-    mul-parents
-    slice-read-parents
-    mul-parents-2
-    slice-write-parents
-    add-x
-    loop-less
-    loop-again
-    same-length
-    returns)
+    Inv-loop μ-loop loop-holds (λ c. search needs) slice-read-up cast-parents mul-parents slice-read-parents (λ c. search needs)
+    slice-write-parents (λ c. search needs) (λ c. search needs) loop-again same-length returns)

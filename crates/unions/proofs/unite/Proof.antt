@@ -56,17 +56,8 @@ module _ (c : tie.After-slice-known3) where
   higher-x : y ≤ x → United n (now (start c .args .parents)) (set after x y) (start c .args .a) (start c .args .b)
   higher-x h = united _ _ _ _ _ _ _ _ _ (climbs c .0) (climbs c .1) (united-sym _ _ _ _ _ (join n after y x enough x-below h (climbs c .1 .same .down) (climbs c .1 .same .tops x x-below (climbs c .0 .top))))
 
-root-requires : tie.Need-root-requires
-root-requires c κs = search needs
-
 root-requires-2 : tie.Need-root-requires-2
 root-requires-2 c κs = let r = c .before .before .before .root .ensures in let s = c .before .before .before .before .before .before in (omega (arith, s .pre .0, r .same .beyond .size), s .pre .2, r .same .down)
-
-cast-parents : tie.Need-cast-parents
-cast-parents c = search needs
-
-mul-parents : tie.Need-mul-parents
-mul-parents c = search needs
 
 slice-write-parents : tie.Need-slice-write-parents
 slice-write-parents c = omega (arith, enough (c .before), y-below (c .before))
@@ -76,12 +67,6 @@ same-length c = simp length-set (long (c .before))
 
 returns : tie.Need-returns
 returns c = higher-y (c .before) (omega (arith, c .if1 .taken))
-
-cast-parents-2 : tie.Need-cast-parents-2
-cast-parents-2 c = search needs
-
-mul-parents-2 : tie.Need-mul-parents-2
-mul-parents-2 c = search needs
 
 slice-write-parents-2 : tie.Need-slice-write-parents-2
 slice-write-parents-2 c = omega (arith, enough (c .before), x-below (c .before))
@@ -96,15 +81,5 @@ pub unite-spec : {M : Type 1} → statement M
 unite-spec =
     tie.close
     (tie.spec
-    root-requires
-    root-requires-2
-    cast-parents
-    mul-parents
-    slice-write-parents
-    same-length
-    returns
-    cast-parents-2
-    mul-parents-2
-    slice-write-parents-2
-    same-length-2
-    returns-2)
+    (λ c κs. search needs) root-requires-2 (λ c. search needs) (λ c. search needs) slice-write-parents same-length returns
+    (λ c. search needs) (λ c. search needs) slice-write-parents-2 same-length-2 returns-2)

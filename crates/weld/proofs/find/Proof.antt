@@ -32,35 +32,11 @@ next c = let a = c .before .before .before .before .before .before .args in getD
 loop-holds : tie.Need-loop-holds Inv-loop μ-loop
 loop-holds c = let s = c .before .before .before .before in walking-start _ _ _ _ (s .pre .1) (s .pre .2)
 
-sub-r : tie.Need-sub-r Inv-loop μ-loop
-sub-r c = search needs
-
-cast-r : tie.Need-cast-r Inv-loop μ-loop
-cast-r c = search needs
-
-corner-of-requires : tie.Need-corner-of-requires Inv-loop μ-loop
-corner-of-requires c κs = search needs
-
-same-corner-requires : tie.Need-same-corner-requires Inv-loop μ-loop
-same-corner-requires c κs = search needs
-
 returns : tie.Need-returns Inv-loop μ-loop
 returns c =
     let t = c .before in
     let i = t .before .before in
     walking-here _ _ _ _ _ _ (word-of-row i) (sym (t .same-corner .ensures ∙ ap (welded _) (t .before .corner-of .ensures)) ∙ c .if1 .taken) (i .before .loop .inv)
-
-mul-p : tie.Need-mul-p Inv-loop μ-loop
-mul-p c = search needs
-
-add-p : tie.Need-add-p Inv-loop μ-loop
-add-p c = search needs
-
-mul-p-2 : tie.Need-mul-p-2 Inv-loop μ-loop
-mul-p-2 c = search needs
-
-shared-slice-read-p : tie.Need-shared-slice-read-p Inv-loop μ-loop
-shared-slice-read-p c = search needs
 
 loop-less : tie.Need-loop-less Inv-loop μ-loop
 loop-less c = let i = c .before .before .before .before in walking-falls _ _ _ _ _ _ _ (word-of-row i) (next i) (i .before .loop .inv)
@@ -77,5 +53,6 @@ returns-2 c = walking-end _ _ _ _ _ (c .loop-test .left) (c .before .loop .inv)
 pub find-spec : {M : Type 1} → statement M
 find-spec =
     tie.close
-    (tie.spec Inv-loop μ-loop loop-holds sub-r cast-r corner-of-requires same-corner-requires returns mul-p add-p
-    mul-p-2 shared-slice-read-p loop-less loop-again returns-2)
+    (tie.spec
+    Inv-loop μ-loop loop-holds (λ c. search needs) (λ c. search needs) (λ c κs. search needs) (λ c κs. search needs) returns
+    (λ c. search needs) (λ c. search needs) (λ c. search needs) (λ c. search needs) loop-less loop-again returns-2)

@@ -26,9 +26,6 @@ start c = c .before .before .before .before .before .before .before .before
 cleared : (c : tie.After-slice-known2 Inv-loop μ-loop) → let a = start c .args in Only weldColumns (a .rows) (now (a .work)) (c .before .before .clear .last .0)
 cleared c = only-cleared _ _ _ (start c .pre .1) (c .before .before .clear .ensures)
 
-clear-requires : tie.Need-clear-requires Inv-loop μ-loop
-clear-requires c κs = search needs
-
 loop-holds : tie.Need-loop-holds Inv-loop μ-loop
 loop-holds c = (going-none _ _ _ (start c .pre .1) (c .before .before .clear .ensures) _ _ _, only-none _ _ _, omega arith)
 
@@ -44,12 +41,6 @@ turn-requires c κs =
     let l = i .before .loop in
     let s = start (i .before .before) in
     (omega (arith, s .pre .1, cleared (i .before .before) .size, l .inv .1 .size), omega (arith, s .pre .0, i .loop-test .taken), s .pre .2, l .inv .0)
-
-add-r : tie.Need-add-r Inv-loop μ-loop
-add-r c = search needs
-
-loop-less : tie.Need-loop-less Inv-loop μ-loop
-loop-less c = search needs
 
 loop-again : tie.Need-loop-again Inv-loop μ-loop
 loop-again c =
@@ -75,4 +66,6 @@ returns c =
 pub weld-spec : {M : Type 1} → statement M
 weld-spec =
     tie.close
-    (tie.spec Inv-loop μ-loop clear-requires loop-holds cast-turn turn-requires add-r loop-less loop-again same-length returns)
+    (tie.spec
+    Inv-loop μ-loop (λ c κs. search needs) loop-holds cast-turn turn-requires (λ c. search needs) (λ c. search needs) loop-again
+    same-length returns)

@@ -22,35 +22,11 @@ loop-holds c =
     let a = c .before .before .args in
     (omega arith, get-none (a .bytes .now) (a .from) (a .words .now) (a .to), refl)
 
-add-word-at : tie.Need-add-word-at Inv-loop μ-loop
-add-word-at c = search needs
-
-word-at-requires : tie.Need-word-at-requires Inv-loop μ-loop
-word-at-requires c κs = search needs
-
-add-words : tie.Need-add-words Inv-loop μ-loop
-add-words c = search needs
-
-mul-words : tie.Need-mul-words Inv-loop μ-loop
-mul-words c = search needs
-
-slice-write-words : tie.Need-slice-write-words Inv-loop μ-loop
-slice-write-words c = search needs
-
-add-i : tie.Need-add-i Inv-loop μ-loop
-add-i c = search needs
-
-loop-less : tie.Need-loop-less Inv-loop μ-loop
-loop-less c = search needs
-
 loop-again : tie.Need-loop-again Inv-loop μ-loop
 loop-again c =
     let l = c .before .before .loop in
     let a = c .before .before .before .before .before .args in
     (omega arith, ap (set (l .words) (a .to + l .i)) (c .word-at .ensures) ∙ get-more (a .bytes .now) (a .from) (a .words .now) (l .words) (a .to) (l .i) (l .inv .1), simp length-set (l .inv .2))
-
-same-length : tie.Need-same-length Inv-loop μ-loop
-same-length c = search needs
 
 returns : tie.Need-returns Inv-loop μ-loop
 returns c =
@@ -62,5 +38,5 @@ pub get-words-spec : {M : Type 1} → statement M
 get-words-spec =
     tie.close
     (tie.spec
-    Inv-loop μ-loop loop-holds add-word-at word-at-requires add-words mul-words slice-write-words add-i loop-less
-    loop-again same-length returns)
+    Inv-loop μ-loop loop-holds (λ c. search needs) (λ c κs. search needs) (λ c. search needs) (λ c. search needs)
+    (λ c. search needs) (λ c. search needs) (λ c. search needs) loop-again (λ c. search needs) returns)

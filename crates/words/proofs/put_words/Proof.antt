@@ -24,21 +24,6 @@ loop-holds c =
     let a = c .before .before .args in
     (omega arith, put-none (a .bytes .now) (a .words .now) (a .to) (a .from), part-sum-none (a .from) (a .words .now), omega arith, refl)
 
-add-w : tie.Need-add-w Inv-loop μ-loop
-add-w c = search needs
-
-mul-w : tie.Need-mul-w Inv-loop μ-loop
-mul-w c = search needs
-
-shared-slice-read-w : tie.Need-shared-slice-read-w Inv-loop μ-loop
-shared-slice-read-w c = search needs
-
-add-put-word : tie.Need-add-put-word Inv-loop μ-loop
-add-put-word c = search needs
-
-put-word-requires : tie.Need-put-word-requires Inv-loop μ-loop
-put-word-requires c κs = search needs
-
 cast-sum : tie.Need-cast-sum Inv-loop μ-loop
 cast-sum c =
     let a = c .before .before .before .before .before .before .before .before .before .args in
@@ -50,12 +35,6 @@ add-sum c =
     let a = c .before .before .before .before .before .before .before .before .before .args in
     let l = c .before .before .before .before .before .before .loop in
     omega (arith, c .before .before .before .before .shared-slice-known2 .given (a .from + l .i))
-
-add-i : tie.Need-add-i Inv-loop μ-loop
-add-i c = search needs
-
-loop-less : tie.Need-loop-less Inv-loop μ-loop
-loop-less c = search needs
 
 loop-again : tie.Need-loop-again Inv-loop μ-loop
 loop-again c =
@@ -71,9 +50,6 @@ loop-again c =
       p .put-word .kept .0 ∙ l .inv .4,
     )
 
-same-length : tie.Need-same-length Inv-loop μ-loop
-same-length c = search needs
-
 returns : tie.Need-returns Inv-loop μ-loop
 returns c =
     let l = c .before .loop in
@@ -85,5 +61,5 @@ pub put-words-spec : {M : Type 1} → statement M
 put-words-spec =
     tie.close
     (tie.spec
-    Inv-loop μ-loop loop-holds add-w mul-w shared-slice-read-w add-put-word put-word-requires cast-sum add-sum add-i
-    loop-less loop-again same-length returns)
+    Inv-loop μ-loop loop-holds (λ c. search needs) (λ c. search needs) (λ c. search needs) (λ c. search needs)
+    (λ c κs. search needs) cast-sum add-sum (λ c. search needs) (λ c. search needs) loop-again (λ c. search needs) returns)

@@ -12,15 +12,6 @@ use Rattle.math.specs.Vector.{direction}
 use Rattle.math.proofs.Vec3.direction.Statement.{statement}
 use Rattle.math.proofs.Vec3.direction.Tie as tie
 
-points-requires : tie.Need-points-requires
-points-requires c κs = search needs
-
-length-requires : tie.Need-length-requires
-length-requires c κs = search needs
-
-scale-requires : tie.Need-scale-requires
-scale-requires c κs = search needs
-
 -- the vector at unit length
 abbrev unit : Vec3 → Direction
 unit u = Along (spec.scaledBy u (Ieee.div binary32 (ofBits binary32 0x3f80_0000) (spec.lengthOf u)))
@@ -40,4 +31,6 @@ returns-2 c =
 
 pub direction-spec : {M : Type 1} → statement M
 direction-spec =
-    tie.close (tie.spec points-requires length-requires scale-requires returns returns-2)
+    tie.close
+    (tie.spec
+    (λ c κs. search needs) (λ c κs. search needs) (λ c κs. search needs) returns returns-2)

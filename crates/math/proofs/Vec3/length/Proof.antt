@@ -6,15 +6,12 @@ use Rattle.math.specs.Vector.{lengthOf}
 use Rattle.math.proofs.Vec3.length.Statement.{statement}
 use Rattle.math.proofs.Vec3.length.Tie as tie
 
-length-squared-requires : tie.Need-length-squared-requires
-length-squared-requires c κs = search needs
-
-sqrt-requires : tie.Need-sqrt-requires
-sqrt-requires c κs = search needs
-
 returns : tie.Need-returns
 unfolding lengthOf
 returns c = c .sqrt .ensures ∙ ap sqrt (c .before .length-squared .ensures)
 
 pub length-spec : {M : Type 1} → statement M
-length-spec = tie.close (tie.spec length-squared-requires sqrt-requires returns)
+length-spec =
+    tie.close
+    (tie.spec
+    (λ c κs. search needs) (λ c κs. search needs) returns)

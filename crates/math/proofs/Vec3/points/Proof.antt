@@ -14,21 +14,6 @@ two c = ⊎-elim (λ w. or-held _ (c .before .not-zero .ensures) (w .0 .taken) (
 three : (c : tie.Joined2) → c .if2 .if3 ≡ (counts (c .before .before .before .args .self .x) || counts (c .before .before .before .args .self .y) || counts (c .before .before .before .args .self .z))
 three c = ⊎-elim (λ w. or-held _ (two (c .before)) (w .0 .taken) (w .1)) (λ w. or-failed (two (c .before)) (w .0 .left) (w .1 .ensures) (w .2)) (c .if2 .came)
 
-not-zero-requires : tie.Need-not-zero-requires
-not-zero-requires c κs = search needs
-
-not-zero-requires-2 : tie.Need-not-zero-requires-2
-not-zero-requires-2 c κs = search needs
-
-not-zero-requires-3 : tie.Need-not-zero-requires-3
-not-zero-requires-3 c κs = search needs
-
-length-squared-requires : tie.Need-length-squared-requires
-length-squared-requires c κs = search needs
-
-spans-requires : tie.Need-spans-requires
-spans-requires c κs = search needs
-
 returns : tie.Need-returns
 unfolding points
 returns c =
@@ -46,10 +31,5 @@ pub points-spec : {M : Type 1} → statement M
 points-spec =
     tie.close
     (tie.spec
-    not-zero-requires
-    not-zero-requires-2
-    not-zero-requires-3
-    length-squared-requires
-    spans-requires
-    returns
+    (λ c κs. search needs) (λ c κs. search needs) (λ c κs. search needs) (λ c κs. search needs) (λ c κs. search needs) returns
     returns-2)

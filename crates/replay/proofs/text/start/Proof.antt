@@ -12,29 +12,8 @@ Inv-loop text from at₀ remark₀ at remark = from ≤ at
 abbrev μ-loop : tie.MeasureT-loop
 μ-loop text from at₀ remark₀ at remark = length text - at
 
-loop-holds : tie.Need-loop-holds Inv-loop μ-loop
-loop-holds c = omega arith
-
-shared-slice-read-b : tie.Need-shared-slice-read-b Inv-loop μ-loop
-shared-slice-read-b c = omega arith
-
-in-remark-requires : tie.Need-in-remark-requires Inv-loop μ-loop
-in-remark-requires c κs = search needs
-
-digit-requires : tie.Need-digit-requires Inv-loop μ-loop
-digit-requires c κs = search needs
-
 returns : tie.Need-returns Inv-loop μ-loop
 returns c = tt
-
-add-at : tie.Need-add-at Inv-loop μ-loop
-add-at c = omega arith
-
-loop-less : tie.Need-loop-less Inv-loop μ-loop
-loop-less c = omega arith
-
-loop-again : tie.Need-loop-again Inv-loop μ-loop
-loop-again c = omega arith
 
 returns-2 : tie.Need-returns-2 Inv-loop μ-loop
 returns-2 c = tt
@@ -43,5 +22,5 @@ pub start-spec : {M : Type 1} → statement M
 start-spec =
     tie.close
     (tie.spec
-    Inv-loop μ-loop loop-holds shared-slice-read-b in-remark-requires digit-requires returns add-at loop-less
-    loop-again returns-2)
+    Inv-loop μ-loop (λ c. omega arith) (λ c. omega arith) (λ c κs. search needs) (λ c κs. search needs) returns (λ c. omega arith)
+    (λ c. omega arith) (λ c. omega arith) returns-2)

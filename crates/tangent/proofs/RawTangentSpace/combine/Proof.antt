@@ -17,27 +17,12 @@ made a b s t = record { s = s; t = t; «s_magnitude» = spec.mean (a .«s_magnit
 abbrev mixed : RawTangentSpace → RawTangentSpace → RawTangentSpace
 mixed a b = made a b (math.unitOf (math.added (a .s) (b .s))) (math.unitOf (math.added (a .t) (b .t)))
 
-equals-requires : tie.Need-equals-requires
-equals-requires c κs = search needs
-
 returns : tie.Need-returns
 unfolding combine
 returns c =
     let a = c .before .before .args .self in
     let b = c .before .before .args .rhs in
     sym (ap (λ (t : Bool). cond t a (mixed a b)) (sym (c .before .equals .ensures) ∙ c .if1 .taken))
-
-add-requires : tie.Need-add-requires
-add-requires c κs = search needs
-
-normalized-or-zero-requires : tie.Need-normalized-or-zero-requires
-normalized-or-zero-requires c κs = search needs
-
-add-requires-2 : tie.Need-add-requires-2
-add-requires-2 c κs = search needs
-
-normalized-or-zero-requires-2 : tie.Need-normalized-or-zero-requires-2
-normalized-or-zero-requires-2 c κs = search needs
 
 -- the steps on plain values: what each call gave, in the order of the code
 mixed-is : (a b : RawTangentSpace) (q : Bool) (u s v t : Vec3)
@@ -61,4 +46,7 @@ returns-2 c =
 
 pub combine-spec : {M : Type 1} → statement M
 combine-spec =
-    tie.close (tie.spec equals-requires returns add-requires normalized-or-zero-requires add-requires-2 normalized-or-zero-requires-2 returns-2)
+    tie.close
+    (tie.spec
+    (λ c κs. search needs) returns (λ c κs. search needs) (λ c κs. search needs) (λ c κs. search needs) (λ c κs. search needs)
+    returns-2)

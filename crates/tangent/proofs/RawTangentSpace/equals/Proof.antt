@@ -10,12 +10,6 @@ use Rattle.bits.proofs.Bools.{all, third, second, first}
 use Rattle.tangent.proofs.RawTangentSpace.equals.Statement.{statement}
 use Rattle.tangent.proofs.RawTangentSpace.equals.Tie as tie
 
-equals-requires : tie.Need-equals-requires
-equals-requires c κs = search needs
-
-equals-requires-2 : tie.Need-equals-requires-2
-equals-requires-2 c κs = search needs
-
 returns : tie.Need-returns
 unfolding equals
 returns c =
@@ -61,4 +55,7 @@ returns-4 c =
     first (one a b) (two a b) (three a b) (four a b) (sym (c .before .equals .ensures) ∙ c .if1 .left)
 
 pub equals-spec : {M : Type 1} → statement M
-equals-spec = tie.close (tie.spec equals-requires equals-requires-2 returns returns-2 returns-3 returns-4)
+equals-spec =
+    tie.close
+    (tie.spec
+    (λ c κs. search needs) (λ c κs. search needs) returns returns-2 returns-3 returns-4)
