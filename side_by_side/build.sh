@@ -15,23 +15,23 @@ build() {
     (cd "$root" && cargo build --quiet --offline --release --target-dir target/cargo --package "$1") || exit 1
 }
 
-# The folder of the crate's source: the one of MIKKTSPACE_SRC, else ../shared/docs/src; nothing where there is neither.
+# The folder of the crate's source: the one of MIKKTSPACE_SRC, which has to be one, else ../shared/docs/src; nothing where that is not there.
 crate_folder() {
-    local folder
-    for folder in "${MIKKTSPACE_SRC:-}" "$root/../shared/docs/src"; do
-        if [ -f "$folder/src/lib.rs" ]; then
-            realpath "$folder"
-            return
-        fi
-    done
+    local folder=${MIKKTSPACE_SRC:-$root/../shared/docs/src}
+    if [ -f "$folder/src/lib.rs" ]; then
+        realpath "$folder"
+    elif [ -n "${MIKKTSPACE_SRC:-}" ]; then
+        echo "MIKKTSPACE_SRC is $folder, and there is no src/lib.rs in it" >&2
+        return 1
+    fi
 }
 
 # Builds what compares with the crate; ends with 0, the reason and $1 where there is no crate.
 build_beside() {
     local crate
-    crate=$(crate_folder)
+    crate=$(crate_folder) || exit 1
     if [ -z "$crate" ]; then
-        echo "no crate here, neither in MIKKTSPACE_SRC (${MIKKTSPACE_SRC:-not set}) nor in ../shared/docs/src: $1"
+        echo "no crate here, MIKKTSPACE_SRC is not set and ../shared/docs/src is not there: $1"
         exit 0
     fi
     echo "the crate of $crate beside the archive"

@@ -53,5 +53,8 @@ pub fn check(meshes: &str, answers: &str) -> bool {
     println!(
         "desk against the oracle: accepted, refused with 1 to 6: {numbers:?}; {differed} differed"
     );
-    differed == 0 && answers.0.is_empty()
+    if numbers == [0; 7] {
+        println!("there is no mesh in the file: nothing was compared");
+    }
+    differed == 0 && answers.0.is_empty() && numbers != [0; 7]
 }

@@ -2,7 +2,7 @@
 #[allow(dead_code, reason = "not every test needs all of it")]
 mod room;
 
-use models::files::{self as shapes, FACES};
+use models::files::{self as shapes, FACES, FIVE};
 use room::Room;
 
 /// A folder with a mesh of 24 slots and its card of two blocks.
@@ -22,6 +22,21 @@ fn a_good_card() {
         .ends(0, "all 24 slots are present (exit status 0)");
     room.run("read a.card --total 24 --mesh a.ply")
         .ends(0, "torn bytes    0");
+}
+
+/// docs/COMMAND.md, 'What its 0 says': a face without slots leaves nothing on the card.
+#[test]
+fn only_with_its_mesh_does_reading_see_a_face_without_slots() {
+    let room = Room::new("without");
+    let faces: Vec<&[usize]> = FACES.into_iter().chain([FIVE]).collect();
+    room.put("five.ply", shapes::ply_bytes(&faces));
+    room.run("frames five.ply -o five.card").ends(3, "NO SLOT");
+    room.run("read five.card --total 11 --mesh five.ply")
+        .ends(3, "NO SLOT       face 3: 5 corners");
+    room.run("read five.card --total 11")
+        .ends(0, "all 11 slots are present (exit status 0)");
+    room.run("links five.ply -o five.lists").ends(0, "");
+    room.run("examine five.ply five.lists").ends(0, "accepted");
 }
 
 #[test]

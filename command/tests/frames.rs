@@ -2,7 +2,9 @@
 #[allow(dead_code, reason = "not every test needs all of it")]
 mod room;
 
-use models::files::{self as shapes, FACES, FIVE};
+use dokphalun::Buffers;
+use models::files::{self as shapes, FACES, FIVE, VERTICES};
+use models::{Corner, Faces};
 use room::Room;
 
 /// A triangle and one whose texture has no area.
@@ -10,6 +12,19 @@ const ABSENT: &str = "ply\nformat ascii 1.0\nelement vertex 6\nproperty float x\
 property float nx\nproperty float ny\nproperty float nz\nproperty float s\nproperty float t\n\
 element face 2\nproperty list uchar int vertex_indices\nend_header\n\
 0 0 0 0 0 1 0 0\n1 0 0 0 0 1 1 0\n0 1 0 0 0 1 0 1\n5 0 0 0 0 1 .5 .5\n6 0 0 0 0 1 .5 .5\n5 1 0 0 0 1 .5 .5\n3 0 1 2\n3 3 4 5\n";
+
+/// The card of those faces, made without any file.
+fn card() -> Vec<u8> {
+    let corner = |&vertex: &usize| -> Corner {
+        let [x, y, z, a, b, c, s, t] = VERTICES[vertex];
+        ([x, y, z], [a, b, c], [s, t])
+    };
+    let corners = |face: &[usize]| face.iter().map(corner).collect::<Vec<_>>();
+    let (faces, mut buffers, mut card) = (Faces::of(FACES.map(corners)), Buffers::new(), vec![]);
+    let answer = buffers.frames(faces.mesh(), -1.0).expect("it is refused");
+    answer.write_card(&mut card).expect("it is not written");
+    card
+}
 
 #[test]
 fn every_form_gives_the_same_card() {
@@ -32,7 +47,7 @@ fn every_form_gives_the_same_card() {
             0,
             &format!("dokphalun read {mesh}.card --total 11 --mesh {mesh}"),
         );
-        assert_eq!(room.get(&format!("{mesh}.card")), room.get("text.ply.card"));
+        assert_eq!(room.bytes(&format!("{mesh}.card")), card(), "{mesh}");
     }
 }
 
@@ -159,9 +174,10 @@ fn the_threshold_is_a_cosine_or_an_angle() {
         room.run(&format!("frames a.ply {words}"))
             .ends(0, "present");
     }
-    assert_eq!(room.get("usual"), room.get("angle"));
-    assert_eq!(room.get("usual"), room.get("cosine"));
-    assert_ne!(room.get("usual"), room.get("none"));
+    assert_eq!(room.bytes("usual"), card());
+    assert_eq!(room.bytes("angle"), card());
+    assert_eq!(room.bytes("cosine"), card());
+    assert_ne!(room.bytes("none"), card());
     room.runs(include_str!("tables/thresholds.txt"));
     assert_eq!(room.get("x"), None);
 }

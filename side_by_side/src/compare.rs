@@ -64,10 +64,11 @@ fn differing(case: &Case, spoil: Option<Spoil>, seen: &mut Seen) -> Result<(), S
 
 /// What ours leaves, one word of it altered where that is asked for.
 fn spoiled(mesh: &Mesh, spoil: Option<Spoil>) -> Result<Left, String> {
-    let mut left = ours::left(mesh)?;
-    if let Some(spoil) = spoil {
-        spoil.call(mesh, &mut left);
-    }
+    let Some(spoil) = spoil else {
+        return ours::left(mesh);
+    };
+    let mut left = ours::left_with(mesh, |held| spoil.beside(held))?;
+    spoil.call(mesh, &mut left);
     Ok(left)
 }
 
@@ -88,29 +89,33 @@ fn same(mesh: &Mesh, ours: &Left, theirs: &Left) -> Result<(), String> {
             at if at < mesh.needed_work() => "of the first 128F",
             _ => "past 128F",
         };
-        let (ours, theirs) = (ours.work[at], theirs.work[at]);
+        let (ours, theirs) = (word(&ours.work, at), word(&theirs.work, at));
         return Err(format!(
-            "work word {at}, {part}: ours {ours:08X}, expected {theirs:08X}"
+            "work word {at}, {part}: ours {ours}, expected {theirs}"
         ));
     }
     Ok(())
 }
 
-/// Where two lists of one length first differ.
+/// Where two lists first differ; where one is the beginning of the other, past its end.
 fn first_difference(a: &[u32], b: &[u32]) -> Option<usize> {
     if a == b {
         None
     } else {
-        (0..a.len()).find(|&i| a[i] != b[i])
+        (0..a.len().max(b.len())).find(|&i| a.get(i) != b.get(i))
     }
+}
+
+/// A word of a list as it is shown; the list may end before it.
+fn word(list: &[u32], at: usize) -> String {
+    let word = list.get(at);
+    word.map_or("none".into(), |word| format!("{word:08X}"))
 }
 
 /// Says which answer word differs, with both slots where it is of one.
 fn answer_difference(mesh: &Mesh, at: usize, ours: &Left, theirs: &Left) -> String {
-    let words = format!(
-        "ours {:08X}, expected {:08X}",
-        ours.answer[at], theirs.answer[at]
-    );
+    let shown = [ours, theirs].map(|left| word(&left.answer, at));
+    let words = format!("ours {}, expected {}", shown[0], shown[1]);
     if theirs.outcome.number != 0 {
         return format!("answer word {at} after a refusal: {words}");
     }
@@ -118,7 +123,10 @@ fn answer_difference(mesh: &Mesh, at: usize, ours: &Left, theirs: &Left) -> Stri
         return format!("answer word {at}, past 10S: {words}");
     }
     let slot = at / 10;
-    let slots = [ours, theirs].map(|left| slot_row(&left.answer[10 * slot..10 * slot + 10]));
+    let slots = [ours, theirs].map(|left| {
+        let words = left.answer.get(10 * slot..10 * slot + 10);
+        words.map_or("none".into(), slot_row)
+    });
     let [ours, theirs] = slots;
     format!(
         "{}: {words}\n  ours     {ours}\n  expected {theirs}",
@@ -208,10 +216,10 @@ fn as_alone(
     match first_difference(&together, &expected) {
         None => Ok(()),
         Some(at) => Err(format!(
-            "{}: {:08X} in the shuffle, {:08X} alone",
+            "{}: {} in the shuffle, {} alone",
             place(&case.mesh, at / 10, at % 10),
-            together[at],
-            expected[at]
+            word(&together, at),
+            word(&expected, at)
         )),
     }
 }
@@ -231,4 +239,17 @@ fn interleaved(case: &Case, alone: Vec<Vec<u32>>) -> Vec<u32> {
         taken[owner] += count;
     }
     words
+}
+
+#[cfg(test)]
+mod tests {
+    use super::first_difference;
+
+    #[test]
+    fn a_list_that_ends_early_differs() {
+        assert_eq!(first_difference(&[1, 2, 3], &[1, 2, 3]), None);
+        assert_eq!(first_difference(&[1, 2], &[1, 2, 3]), Some(2));
+        assert_eq!(first_difference(&[1, 2, 3], &[1, 2]), Some(2));
+        assert_eq!(first_difference(&[1, 9, 3], &[1, 2]), Some(1));
+    }
 }

@@ -13,7 +13,7 @@ pub struct Left {
 }
 
 /// How many words stand on each side of a lent list, to show that nothing outside it is altered.
-const GUARD: usize = 16;
+pub const GUARD: usize = 16;
 
 /// From so many faces on ours is called in a thread of little stack.
 const LARGE: usize = 4096;
@@ -26,6 +26,13 @@ pub fn fresh_answer(count: usize) -> Vec<u32> {
 /// The words of a work list before a call: word i is 5A5A0000 + i.
 pub fn fresh_work(count: usize) -> Vec<u32> {
     (0x5A5A_0000..).take(count).collect()
+}
+
+/// All that a call could alter: what was handed in, and both lent lists with their guards.
+pub struct Held<'a> {
+    pub handed: &'a mut Mesh,
+    pub answer: &'a mut [u32],
+    pub work: &'a mut [u32],
 }
 
 /// A list between two guards.
@@ -63,7 +70,12 @@ pub fn call(mesh: &Mesh, answer: &mut [u32], work: &mut [u32]) -> Outcome {
 
 /// What the call leaves of fresh lists; an error says that it altered something that was not lent.
 pub fn left(mesh: &Mesh) -> Result<Left, String> {
-    let handed = mesh.clone();
+    left_with(mesh, |_| {})
+}
+
+/// The same, where something is altered between the call and the look at what it left.
+pub fn left_with(mesh: &Mesh, alter: impl FnOnce(&mut Held)) -> Result<Left, String> {
+    let mut handed = mesh.clone();
     let mut answer = Guarded::new(fresh_answer(mesh.answer));
     let mut work = Guarded::new(fresh_work(mesh.work));
     let mut run = || call(&handed, answer.list(), work.list());
@@ -72,6 +84,11 @@ pub fn left(mesh: &Mesh) -> Result<Left, String> {
     } else {
         stack::within(stack::OURS, run)
     };
+    alter(&mut Held {
+        handed: &mut handed,
+        answer: &mut answer.words,
+        work: &mut work.words,
+    });
     let ((answer, answer_stands), (work, work_stands)) = (answer.taken(), work.taken());
     if handed != *mesh {
         return Err("ours altered what was handed in".into());

@@ -1,10 +1,12 @@
 //! Wrong words on purpose: each alters one word of what ours leaves, to show that the comparison notices it.
 use crate::mesh::Mesh;
-use crate::ours::Left;
+use crate::ours::{GUARD, Held, Left};
 
 /// Which word is altered.
 #[derive(Clone, Copy, Debug, PartialEq)]
 pub enum Spoil {
+    /// The lowest bit of this word, 1 to 7, of the last present slot.
+    Word(usize),
     /// The orientation of the last slot that is present and mirrored.
     Orientation,
     /// The lowest bit of the last mag_t that is not 1.
@@ -29,10 +31,27 @@ pub enum Spoil {
     RefusedWork,
     /// The last word of a shuffle's last present slot, only where faces are compared with the same faces alone.
     Shuffled,
+    /// The word before the answer list.
+    BeforeAnswer,
+    /// The last of the words that stand past the answer list.
+    BesideAnswer,
+    /// The word before the work list.
+    BeforeWork,
+    /// The last of the words that stand past the work list.
+    BesideWork,
+    /// The last size that is handed in.
+    Handed,
 }
 
 /// All of them, by the names that the options have.
-pub const SPOILS: [(&str, Spoil); 12] = [
+pub const SPOILS: [(&str, Spoil); 24] = [
+    ("tangent-x", Spoil::Word(1)),
+    ("tangent-y", Spoil::Word(2)),
+    ("tangent-z", Spoil::Word(3)),
+    ("bitangent-x", Spoil::Word(4)),
+    ("bitangent-y", Spoil::Word(5)),
+    ("bitangent-z", Spoil::Word(6)),
+    ("mag-s", Spoil::Word(7)),
     ("orientation", Spoil::Orientation),
     ("magnitude", Spoil::Magnitude),
     ("absent", Spoil::Absent),
@@ -45,6 +64,11 @@ pub const SPOILS: [(&str, Spoil); 12] = [
     ("refused-answer", Spoil::RefusedAnswer),
     ("refused-work", Spoil::RefusedWork),
     ("shuffled", Spoil::Shuffled),
+    ("before-answer", Spoil::BeforeAnswer),
+    ("beside-answer", Spoil::BesideAnswer),
+    ("before-work", Spoil::BeforeWork),
+    ("beside-work", Spoil::BesideWork),
+    ("handed", Spoil::Handed),
 ];
 
 impl Spoil {
@@ -54,6 +78,7 @@ impl Spoil {
         let answer = if accepted { mesh.needed_answer() } else { 0 };
         let work = if accepted { mesh.needed_work() } else { 0 };
         match self {
+            Spoil::Word(word) => flip(last(&mut left.answer[..answer], word, |_| true)),
             Spoil::Orientation => flip(last(&mut left.answer[..answer], 9, |slot| slot[9] == 0)),
             Spoil::Magnitude => flip(last(&mut left.answer[..answer], 8, |slot| {
                 slot[8] != 0x3F80_0000
@@ -72,6 +97,24 @@ impl Spoil {
             Spoil::Slots if accepted => left.outcome.slots += 1,
             Spoil::RefusedAnswer if !accepted => flip(left.answer.last_mut()),
             Spoil::RefusedWork if !accepted => flip(left.work.first_mut()),
+            _ => {}
+        }
+    }
+
+    /// Alters the word in what was handed in, or beside a lent list.
+    pub fn beside(self, held: &mut Held) {
+        match self {
+            Spoil::BeforeAnswer => flip(held.answer.get_mut(GUARD - 1)),
+            Spoil::BesideAnswer => flip(held.answer.last_mut()),
+            Spoil::BeforeWork => flip(held.work.get_mut(GUARD - 1)),
+            Spoil::BesideWork => flip(held.work.last_mut()),
+            Spoil::Handed => held
+                .handed
+                .sizes
+                .iter_mut()
+                .rev()
+                .take(1)
+                .for_each(|size| *size ^= 1),
             _ => {}
         }
     }

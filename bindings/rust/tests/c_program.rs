@@ -1,4 +1,7 @@
 //! The C program of docs/PROGRAMMERS.md, compiled with the header and the archive, and run.
+mod cc;
+
+use cc::{compiled, root};
 use std::fs;
 use std::path::Path;
 use std::process::Command;
@@ -16,22 +19,10 @@ fn program(page: &str) -> &str {
 
 #[test]
 fn the_c_program_of_the_page_runs() {
-    let root = Path::new(env!("CARGO_MANIFEST_DIR")).join("../..");
-    let page = fs::read_to_string(root.join("docs/PROGRAMMERS.md")).unwrap();
-    let made = Path::new(env!("CARGO_TARGET_TMPDIR"));
-    let (source, out) = (made.join("page.c"), made.join("page"));
+    let page = fs::read_to_string(root().join("docs/PROGRAMMERS.md")).unwrap();
+    let source = Path::new(env!("CARGO_TARGET_TMPDIR")).join("page.c");
     fs::write(&source, program(&page)).unwrap();
-    let archive = Path::new(dokphalun_sys::FOLDER).join("libdokphalun.a");
-    let built = Command::new("cc")
-        .args(["-std=c99", "-Wall", "-Wextra", "-Werror", "-pedantic", "-I"])
-        .arg(root.join("include"))
-        .args([&source, &archive])
-        .arg("-o")
-        .arg(&out)
-        .status()
-        .expect("no C compiler `cc` here");
-    assert!(built.success(), "the C program does not compile");
-    let said = Command::new(&out).output().unwrap();
+    let said = Command::new(compiled(&source, "page")).output().unwrap();
     assert!(said.status.success());
     assert_eq!(String::from_utf8_lossy(&said.stdout), SAID);
 }

@@ -31,9 +31,14 @@ impl Room {
         fs::read(self.0.join(name)).ok()
     }
 
+    /// The bytes of a file that is there.
+    pub fn bytes(&self, name: &str) -> Vec<u8> {
+        self.get(name).unwrap_or_else(|| panic!("no file {name}"))
+    }
+
     /// The text of a file that is there.
     pub fn text(&self, name: &str) -> String {
-        String::from_utf8(self.get(name).unwrap()).unwrap()
+        String::from_utf8(self.bytes(name)).unwrap()
     }
 
     /// The names of all files there.

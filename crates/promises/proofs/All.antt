@@ -6,6 +6,7 @@ use Rattle.promises.proofs.Determined as Determined
 use Rattle.promises.proofs.Demand3 as Demand3
 use Rattle.promises.proofs.Directions as Directions
 use Rattle.promises.proofs.Impostors as Impostors
+use Rattle.promises.proofs.Faithful as Faithful
 use Rattle.promises.proofs.OwnLinks as OwnLinks
 use Rattle.promises.proofs.OwnColumns as OwnColumns
 use Rattle.promises.proofs.TwoWalks as TwoWalks
@@ -30,6 +31,7 @@ all-promised =
       demand-3 = Demand3.demand3;
       directions = Directions.directions;
       impostors = Impostors.impostors;
+      faithful = Faithful.faithful;
       own-links = OwnLinks.own-links;
       own-columns = OwnColumns.own-columns;
       same-members = TwoWalks.same-members;

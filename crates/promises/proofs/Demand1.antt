@@ -42,13 +42,14 @@ unfolding leaves outcome
 leaves-is x o e = ap (by x) e
 
 -- ---- a refusal
-refused : (x : Call) (r : Row) → verdictOf x ≡ some r → Numbered r → Refused x (leaves x)
+refused : (x : Call) (r : Row) → verdictOf x ≡ some r → InTable r → Refused x (leaves x)
 unfolding answered
 refused x r e h =
     let is = leaves-is x (some r) e in
     record {
-      low = subst (λ (y : Result). 0 < y .number) (sym is) (h .0);
-      high = subst (λ (y : Result). y .number ≤ highestRefusal) (sym is) (h .1);
+      row = e ∙ (λ i. some (record { number = sym is i .number; applies = h .passes i; place = sym is i .place }));
+      low = subst (λ (y : Result). 0 < y .number) (sym is) (h .known .0);
+      high = subst (λ (y : Result). y .number ≤ highestRefusal) (sym is) (h .known .1);
       no-slots = ap (λ (y : Result). y .slots) is;
       same-answer = ap (λ (y : Result). y .answer) is;
       same-work = ap (λ (y : Result). y .work) is;
@@ -126,7 +127,7 @@ by-verdict x = go (verdictOf x) refl (numbers-of x)
   where
     go : (o : Option Row) → verdictOf x ≡ o → Each InTable o → Refused x (leaves x) ⊎ Taken x (leaves x)
     go none e each-none = inr (taken x e)
-    go (some r) e (each-some h) = inl (refused x r e (h .known))
+    go (some r) e (each-some h) = inl (refused x r e h)
 
 pub demand1 : Promised
 unfolding Promised

@@ -88,7 +88,7 @@ faces-length (one-face e r) = ap suc (faces-length r)
 
 -- ---- a shuffle, element by element
 module _ {X : Type 0} (d : X) where
-  left-is : {p : List Bool} {a b m : List X} → Shuffle p a b m → (n : ℕ) → n < length a → (getD m (leftAt p n) d ≡ getD a n d) × (leftAt p n < length m)
+  pub left-is : {p : List Bool} {a b m : List X} → Shuffle p a b m → (n : ℕ) → n < length a → (getD m (leftAt p n) d ≡ getD a n d) × (leftAt p n < length m)
   unfolding leftAt
   left-is done n h = absurd (not-suc-le-zero h)
   left-is (left s) zero h = (refl, zero-lt-suc _)

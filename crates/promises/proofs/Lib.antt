@@ -25,4 +25,5 @@ pub mod Labels
 pub mod Examiner
 pub mod OwnGiven
 pub mod ThreeSides
+pub mod Faithful
 pub mod All

@@ -1,18 +1,17 @@
 -- Request E11 holds of every accepted mesh. Assumes nothing.
 use mathlib.Core.Path.{_≡_, ap, _∙_}
-use mathlib.Core.Bool.{false}
+use mathlib.Core.Bool.{Bool, false, cond}
 use mathlib.Core.List.{List}
-use lib.ListN.{length}
-use Rattle.definition.specs.Desk.{shown}
+use Rattle.definition.specs.Desk.{atDesk}
 use Rattle.definition.specs.declared.Corner.{Corner}
 use Rattle.definition.specs.declared.Triangle.{Triangle}
 use Rattle.definition.specs.Mesh.{Spot, next, cornerOf}
-use Rattle.definition.specs.Frames.{numbered}
-use Rattle.definition.specs.Handed.{handed, meshFrom}
+use Rattle.definition.specs.Frames.{numbered, trianglesOf}
+use Rattle.definition.specs.Handed.{meshOf}
 use Rattle.definition.specs.Triangles.{triangles}
 use Rattle.definition.specs.Step4Order.{isSound, sound, welded}
 use Rattle.definition.specs.Step5Links.{endOf, links}
-use Rattle.definition.specs.Step6Groups.{Mark, facing}
+use Rattle.definition.specs.Step6Groups.{Mark, facing, wayOf, touched, marks}
 use Rattle.laws.proofs.Closed.{links-sound, spots-every}
 use Rattle.lists.specs.Every.{Every}
 use Rattle.definition.specs.Names.{Names}
@@ -51,9 +50,16 @@ module _ (ss : List Triangle) (N : Names ss) (S : Every Sharp ss) where
   met earlier m (reach.at-start e) = start e
   met earlier m (reach.from k h e c) = member k h e (joined k (m .spot) c)
 
+  own-way : (t : Triangle) (v : Bool) → t .any ≡ false → facing (marks ss (links ss)) t v ≡ t .orientation
+  unfolding facing
+  own-way t v e = ap (λ b. cond b (wayOf v (touched (marks ss (links ss)) t)) (t .orientation)) e
+
   pub of-groups : OfGroups ss
   of-groups =
       record {
+        inside = λ m h. every-at (laws.marks-inside ss (links ss) (links-sound ss)) h;
+        start-way = λ m h. every-at (laws.one-way ss (links ss) (links-sound ss)) h;
+        own-way = own-way;
         one-corner = λ m h. every-at (laws.one-corner ss (links ss) (links-sound ss)) h;
         one-way = λ m h v. every-at (laws.final-way ss (links ss) (links-sound ss)) h v ∙ every-at (laws.one-way ss (links ss) (links-sound ss)) h .0;
         at-most-one = λ s m n h k p q. group.one-mark ss s m n (record { here = h; at = p }) (record { here = k; at = q });
@@ -67,15 +73,10 @@ module _ (ss : List Triangle) (N : Names ss) (S : Every Sharp ss) where
 pub own-links : Promised
 unfolding Promised soundOf
 own-links x fit e =
-    let sizes = x .mesh .sizes in
-    let ps = x .mesh .positions in
-    let ns = x .mesh .normals in
-    let ts = x .mesh .texture in
-    let good = fine (shown (handed sizes ps ns ts) (x .threshold) (length (x .answer)) (length (x .work))) (no-row x e) .good in
-    let m = meshFrom ps ns ts 0 sizes in
-    let S = mesh-sharp m (accepted-real ps ns ts fit 0 sizes good) in
-    let N = own-names m in
-    (of-links (sound (triangles (numbered 0 m))) N S, of-groups (sound (triangles (numbered 0 m))) N S)
+    let good = fine (atDesk x) (no-row x e) .good in
+    let S = mesh-sharp (meshOf (x .mesh)) (accepted-real (x .mesh .positions) (x .mesh .normals) (x .mesh .texture) fit 0 (x .mesh .sizes) good) in
+    let N = own-names (meshOf (x .mesh)) in
+    (of-links (sound (trianglesOf (x .mesh))) N S, of-groups (sound (trianglesOf (x .mesh))) N S)
   where
     own-names : (m : List (List Corner)) → Names (sound (triangles (numbered 0 m)))
     own-names m = unfold sound in names-keep isSound (triangles-names 0 m)

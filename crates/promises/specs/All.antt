@@ -5,6 +5,7 @@ use Rattle.promises.specs.Determined as Determined
 use Rattle.promises.specs.Demand3 as Demand3
 use Rattle.promises.specs.Directions as Directions
 use Rattle.promises.specs.Impostors as Impostors
+use Rattle.promises.specs.Faithful as Faithful
 use Rattle.promises.specs.OwnLinks as OwnLinks
 use Rattle.promises.specs.OwnColumns as OwnColumns
 use Rattle.promises.specs.TwoWalks as TwoWalks
@@ -29,6 +30,8 @@ pub record AllPromised : Type 1 where
   pub directions : Directions.Promised
   -- what tells the definition from its impostors
   pub impostors : Impostors.Promised
+  -- what joins the definition to document 01's own words
+  pub faithful : Faithful.Promised
   -- links, groups and orientations (E11), in the definition and in the columns
   pub own-links : OwnLinks.Promised
   pub own-columns : OwnColumns.Promised

@@ -2,20 +2,24 @@
 -- (That a call ends is part of what every contract says; here is what it leaves behind.)
 use Prim.Native.Nat.{ℕ, _*_, _≤_, _<_}
 use mathlib.Core.Path.{_≡_}
+use mathlib.Core.Bool.{true}
 use mathlib.Core.Logic.{_⊎_}
 use mathlib.Core.List.{List}
+use mathlib.Core.Option.{some}
 use lib.ListN.{length, take, drop, replicate}
 use Rattle.tangent.specs.declared.Reading.{Reading}
 use Rattle.tangent.specs.declared.Reading.the-variants.{Absent}
 use Rattle.tangent.specs.Slot.{slotWords, words}
 use Rattle.definition.specs.Limits.{workWords, highestRefusal}
 use Rattle.definition.specs.Handed.{Call, slotCount}
+use Rattle.definition.specs.Desk.{atDesk, verdict}
 use Rattle.definition.specs.Outcome.{Result}
 use Rattle.view.specs.Answer.{slotNumber, HasSlot}
 use Rattle.promises.specs.Calls.{Answers, readingAt}
 
--- the call is refused with one of the numbers 1 to 6, no slot is counted, and both lists are as they were
+-- the call is refused with the number and the place of the first row of the table that applies, one of the numbers 1 to the highest; no slot is counted, and both lists are as they were
 pub record Refused (x : Call) (z : Result) : Type 0 where
+  pub row : verdict (atDesk x) ≡ some (record { number = z .number; applies = true; place = z .place })
   pub low : 0 < z .number
   pub high : z .number ≤ highestRefusal
   pub no-slots : z .slots ≡ 0

@@ -19,4 +19,5 @@ pub mod Islands
 pub mod Labels
 pub mod Examiner
 pub mod ThreeSides
+pub mod Faithful
 pub mod All

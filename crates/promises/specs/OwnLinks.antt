@@ -50,6 +50,12 @@ pub data MetFrom (ss : List Triangle) (earlier : List Mark) (m : Mark) : Type 0 
   member : (k : Mark) → List·Memᴰ k earlier → k .start ≡ m .start → Joined ss k (m .spot) → MetFrom ss earlier m
 
 pub record OfGroups (ss : List Triangle) : Type 0 where
+  -- a mark is a corner of the triangles
+  pub inside : (m : Mark) → List·Memᴰ m (marksOf ss) → Of ss (m .spot)
+  -- its orientation is that of the triangle at which its group started, which isn't `group_with_any`
+  pub start-way : (m : Mark) → List·Memᴰ m (marksOf ss) → (m .orientation ≡ m .start .tri .orientation) × (m .start .tri .any ≡ false)
+  -- a triangle that isn't `group_with_any` keeps step 3's orientation
+  pub own-way : (t : Triangle) (v : Bool) → t .any ≡ false → facing (marksOf ss) t v ≡ t .orientation
   -- one welded corner per group: each member's corner is welded to the corner at which the group started
   pub one-corner : (m : Mark) → List·Memᴰ m (marksOf ss) → welded (cornerOf (m .start)) (cornerOf (m .spot)) ≡ true
   -- one final orientation per group: each member's triangle ends with the orientation of the triangle at which the group started

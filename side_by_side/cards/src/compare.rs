@@ -26,6 +26,15 @@ pub fn read(card: &[u8], total: u32, room: usize) -> Result<Left<u32, Said>, Str
     same(fill, room, plain, ours).map_err(|what| format!("read: {what}"))
 }
 
+/// What comes next on a card of so many bytes, by both.
+pub fn next(long: usize, total: u32) -> Result<(), String> {
+    let plain = |_: &mut [u8]| plain::next(long, total);
+    let ours = |_: &mut [u8]| ours::next(long, total);
+    let found = same(byte, 0, plain, ours);
+    let of = |what| format!("next: of {long} bytes and {total} records: {what}");
+    found.map(drop).map_err(of)
+}
+
 /// The next records for a card of so many bytes, into a lent list of `room` bytes, by both.
 pub fn append(
     long: usize,
@@ -33,9 +42,6 @@ pub fn append(
     records: &[u32],
     room: usize,
 ) -> Result<Left<u8, Placed>, String> {
-    if plain::next(long, total) != ours::next(long, total) {
-        return Err(format!("next: of {long} bytes and {total} records"));
-    }
     let plain = |blocks: &mut [u8]| plain::append(long, total, records, blocks);
     let ours = |blocks: &mut [u8]| ours::append(long, total, records, blocks);
     same(byte, room, plain, ours).map_err(|what| format!("append: {what}"))

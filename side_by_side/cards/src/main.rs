@@ -5,6 +5,7 @@ mod damage;
 mod ours;
 mod plain;
 mod runs;
+mod spoils;
 mod walks;
 mod writer;
 
@@ -93,6 +94,8 @@ fn walks(seed: u64, count: u64, folder: &Path) -> Result<Tally, String> {
 
 /// All runs; each prints what it compared.
 fn run(seed: u64, cards: u64, count: u64) -> Result<(), String> {
+    let spoiled = spoils::all_noticed(&mut Random::of(seed, "spoils", 0))?;
+    println!("spoiled words: {spoiled}, each noticed");
     let words = runs::single_words(&mut Random::of(seed, "words", 0))?;
     println!("one word changed in a card of three blocks: {words} cards, each noticed");
     let moved = runs::moved_blocks(&mut Random::of(seed, "moved", 0))?;

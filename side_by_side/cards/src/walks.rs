@@ -35,6 +35,7 @@ pub fn random_append(random: &mut Random) -> Result<(), String> {
     };
     let need = (list.len() / WIDTH).div_ceil(HELD) * BLOCK;
     let lent = room(random, need);
+    compare::next(long, total)?;
     compare::append(long, total, &list, lent).map(|_| ())
 }
 
@@ -52,6 +53,7 @@ fn near_next(random: &mut Random, long: usize, total: u32) -> Result<u64, String
     let next = plain::next(long, total).1 as usize;
     let list = records(random, next + 1);
     let counts = next.saturating_sub(1)..=next + 1;
+    compare::next(long, total)?;
     for count in counts.clone() {
         let part = &list[..count * WIDTH];
         compare::append(long, total, part, BLOCK)?;

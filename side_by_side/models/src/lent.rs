@@ -1,4 +1,5 @@
 //! Lent lists: two calls on the same lists, compared, every element, also outside what was lent.
+use std::cell::Cell;
 use std::fmt::Debug;
 
 /// How many elements stand on each side of a lent list.
@@ -6,6 +7,101 @@ const GUARD: usize = 24;
 
 /// What a call says, and its list.
 pub type Left<T, S> = (S, Vec<T>);
+
+/// What is altered of ours on purpose, to show that the comparison notices it.
+#[derive(Clone, Copy, Debug, PartialEq)]
+pub enum Spoil {
+    /// A part of what it says.
+    Said(usize),
+    /// The element before the lent list.
+    Before,
+    /// The first element of the lent list.
+    First,
+    /// The last element of the lent list.
+    Last,
+    /// The element past the lent list.
+    Past,
+}
+
+/// All of them, for a call that says three numbers or fewer.
+pub const SPOILS: [Spoil; 7] = [
+    Spoil::Said(0),
+    Spoil::Said(1),
+    Spoil::Said(2),
+    Spoil::Before,
+    Spoil::First,
+    Spoil::Last,
+    Spoil::Past,
+];
+
+/// What can be spoiled: a bit of some part of it is turned.
+pub trait Turn {
+    /// Turns a bit of this part, counted from 0; of the last one where there are fewer.
+    fn turn(&mut self, part: usize);
+}
+
+/// Elements have one part.
+macro_rules! elements {
+    ($($element:ty),*) => {
+        $(impl Turn for $element {
+            fn turn(&mut self, _: usize) {
+                *self ^= 1;
+            }
+        })*
+    };
+}
+elements!(u8, u32, i16, usize);
+
+impl<A: Turn, B: Turn> Turn for (A, B) {
+    fn turn(&mut self, part: usize) {
+        match part {
+            0 => self.0.turn(0),
+            _ => self.1.turn(0),
+        }
+    }
+}
+
+impl<A: Turn, B: Turn, C: Turn> Turn for (A, B, C) {
+    fn turn(&mut self, part: usize) {
+        match part {
+            0 => self.0.turn(0),
+            1 => self.1.turn(0),
+            _ => self.2.turn(0),
+        }
+    }
+}
+
+impl Spoil {
+    /// Alters what a call on so many lent elements left.
+    fn put<T: Turn, S: Turn>(self, (said, list): &mut Left<T, S>, count: usize) {
+        match self {
+            Spoil::Said(part) => said.turn(part),
+            Spoil::Before => list[GUARD - 1].turn(0),
+            Spoil::First => list[GUARD].turn(0),
+            Spoil::Last => list[GUARD + count - 1].turn(0),
+            Spoil::Past => list[GUARD + count].turn(0),
+        }
+    }
+}
+
+thread_local! {
+    /// What is spoiled in this thread's comparisons.
+    static SPOILED: Cell<Option<Spoil>> = const { Cell::new(None) };
+}
+
+/// Sees that a comparison finds nothing as it is, and something with each word spoiled; how many that were.
+pub fn each_noticed(name: &str, compare: impl Fn() -> Result<(), String>) -> Result<usize, String> {
+    compare()?;
+    for spoil in SPOILS {
+        SPOILED.set(Some(spoil));
+        let found = compare();
+        SPOILED.set(None);
+        if found.is_ok() {
+            return Err(format!("{name}: {spoil:?} is spoiled, and not noticed"));
+        }
+    }
+    Ok(SPOILS.len())
+}
 
 /// A call on `count` lent elements between two guards; what it says, and the list with both guards.
 fn lent<T, S>(fill: fn(usize) -> T, count: usize, call: impl Fn(&mut [T]) -> S) -> Left<T, S> {
@@ -15,13 +111,16 @@ fn lent<T, S>(fill: fn(usize) -> T, count: usize, call: impl Fn(&mut [T]) -> S) 
 }
 
 /// What both calls leave between the guards, if all is the same; else what differs.
-pub fn same<T: PartialEq + Debug, S: PartialEq + Debug>(
+pub fn same<T: PartialEq + Debug + Turn, S: PartialEq + Debug + Turn>(
     fill: fn(usize) -> T,
     count: usize,
     plain: impl Fn(&mut [T]) -> S,
     ours: impl Fn(&mut [T]) -> S,
 ) -> Result<Left<T, S>, String> {
-    let (plain, ours) = (lent(fill, count, plain), lent(fill, count, ours));
+    let (plain, mut ours) = (lent(fill, count, plain), lent(fill, count, ours));
+    if let Some(spoil) = SPOILED.get() {
+        spoil.put(&mut ours, count);
+    }
     if plain.0 != ours.0 {
         return Err(format!("plain says {:?}, ours {:?}", plain.0, ours.0));
     }

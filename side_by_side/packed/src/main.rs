@@ -5,6 +5,7 @@ mod ours;
 mod patterns;
 mod plain;
 mod runs;
+mod spoils;
 
 use models::random::Random;
 use models::{lent, random};
@@ -70,6 +71,8 @@ fn all() -> Result<(), String> {
 /// The runs of some seconds; each prints what it compared.
 fn run(asked: &Asked) -> Result<(), String> {
     let seed = asked.seed;
+    let spoiled = spoils::all_noticed()?;
+    println!("spoiled words: {spoiled}, each noticed");
     for at in 1..=6 {
         let seen = patterns::compare(at, patterns::sample().into_iter())?;
         println!(

@@ -14,6 +14,15 @@ pub struct Seen {
 }
 
 impl Seen {
+    /// Nothing yet.
+    fn new() -> Seen {
+        Seen {
+            patterns: 0,
+            absent: 0,
+            numbers: vec![false; 1 << 16],
+        }
+    }
+
     /// How many numbers were written for a component.
     pub fn numbers(&self) -> usize {
         self.numbers.iter().filter(|seen| **seen).count()
@@ -28,11 +37,7 @@ fn by_product(bits: u32) -> i16 {
 
 /// Packs slots whose component number `at`, from 1 to 6, has these patterns, and compares every number.
 pub fn compare(at: usize, patterns: impl Iterator<Item = u32>) -> Result<Seen, String> {
-    let mut seen = Seen {
-        patterns: 0,
-        absent: 0,
-        numbers: vec![false; 1 << 16],
-    };
+    let mut seen = Seen::new();
     let mut patterns = patterns.fuse().peekable();
     let mut answer = [1, 0, 0, 0, 0, 0, 0, 0, 0, 1].repeat(SLOTS);
     let mut packed = vec![0; SLOTS * SEVEN];
@@ -55,6 +60,21 @@ pub fn compare(at: usize, patterns: impl Iterator<Item = u32>) -> Result<Seen, S
         }
     }
     Ok(seen)
+}
+
+/// Each of the seven numbers of a pattern spoiled has to be noticed; how many.
+pub fn each_noticed() -> Result<usize, String> {
+    let right = [32_767, 0, 0, 0, 0, 0, 1];
+    let compare = |seven: [i16; SEVEN]| one(&mut Seen::new(), 1, 0x3F80_0000, &seven);
+    compare(right)?;
+    for place in 0..SEVEN {
+        let mut seven = right;
+        seven[place] ^= 2;
+        if compare(seven).is_ok() {
+            return Err(format!("patterns: {seven:?} for {right:?} is not noticed"));
+        }
+    }
+    Ok(SEVEN)
 }
 
 /// One pattern and the seven numbers that were written for it.

@@ -1,0 +1,92 @@
+//! Random cases: a mesh, and records of any words.
+use models::random::Random;
+use models::{Corner, Faces};
+
+/// The most faces and records of a case.
+const MOST: [usize; 2] = [16, 40];
+
+/// A mesh, its threshold, records, and numbers by which a word is chosen that is changed.
+pub struct Case {
+    pub faces: Faces,
+    pub threshold: f32,
+    /// Which row, byte or slot is changed.
+    pub row: usize,
+    /// How long the card is that is read or appended to.
+    pub length: usize,
+    /// Ten words a record.
+    pub words: Vec<u32>,
+}
+
+/// A corner of a small pool, whose texture runs at scales of its own.
+fn corner(random: &mut Random, scales: [f32; 2]) -> Corner {
+    let [x, y, z] = [0; 3].map(|_| random.below(3) as f32);
+    let normal = [0.1 * x, 0.2 * y, 1.0];
+    ([x, y, 0.25 * z], normal, [scales[0] * x, scales[1] * y])
+}
+
+/// Faces of two to five corners; in one of four meshes a number is not finite.
+fn faces(random: &mut Random) -> Faces {
+    let scales = [0; 2].map(|_| random.pick(&[0.5, 1.5, 3.0, -2.0]));
+    let count = random.below(MOST[0] + 1);
+    let mut faces = Faces::default();
+    for _ in 0..count {
+        let size = random.pick(&[2, 3, 3, 4, 4, 5]);
+        let corners: Vec<Corner> = (0..size).map(|_| corner(random, scales)).collect();
+        faces.push(&corners);
+    }
+    if count > 0 && random.chance(1, 4) {
+        let at = random.below(faces.texture.len());
+        faces.texture[at][1] = f32::NAN;
+    }
+    faces
+}
+
+/// A record: present or not, numbers that can be packed most of the time, magnitudes of any bits, and an orientation.
+fn record(random: &mut Random) -> [u32; 10] {
+    let mut words = [0; 10].map(|_| random.signed().to_bits());
+    words[0] = random.below(2) as u32;
+    words[7] = random.word();
+    words[8] = random.word();
+    words[9] = random.below(2) as u32;
+    if random.chance(1, 8) {
+        words[random.from_to(1, 6)] = random.word();
+    }
+    words
+}
+
+impl Case {
+    /// A random case.
+    pub fn of(random: &mut Random) -> Case {
+        let records = random.below(MOST[1] + 1);
+        Case {
+            faces: faces(random),
+            threshold: random.pick(&[-1.0, -1.0, 0.5, 0.99, f32::NAN]),
+            row: random.below(1 << 20),
+            length: random.below(512 * 5),
+            words: (0..records).flat_map(|_| record(random)).collect(),
+        }
+    }
+
+    /// How many records there are.
+    pub fn records(&self) -> u32 {
+        (self.words.len() / 10) as u32
+    }
+
+    /// The words that every_call.c takes.
+    pub fn input(&self) -> Vec<u32> {
+        let faces = &self.faces;
+        let (row, length) = (self.row as u32, self.length as u32);
+        let counts = [faces.sizes.len() as u32, faces.positions.len() as u32];
+        let head = [self.threshold.to_bits(), row, length, self.records()];
+        let sizes = faces.sizes.iter().map(|&size| u32::from(size));
+        let numbers = [
+            faces.positions.as_flattened(),
+            faces.normals.as_flattened(),
+            faces.texture.as_flattened(),
+        ];
+        let bits = numbers.concat().into_iter().map(f32::to_bits);
+        let words = self.words.iter().copied();
+        let mesh = counts.into_iter().chain(head).chain(sizes).chain(bits);
+        mesh.chain(words).collect()
+    }
+}

@@ -1,0 +1,208 @@
+/* Makes every call of dokphalun.h on each case of its input. A line says what a call said, or what it left; by_rust.rs and by_words.rs say the same. */
+#include "dokphalun.h"
+#include <stdio.h>
+
+#define FACES 16
+#define CORNERS 80
+#define RECORDS 40
+
+/* A case: a mesh, and records of any words. */
+static struct {
+    uint32_t faces, corners, threshold, row, length, records;
+} in;
+static float threshold, positions[3 * CORNERS], normals[3 * CORNERS], texture[2 * CORNERS];
+static uint8_t sizes[FACES];
+static uint32_t words[DOKPHALUN_SLOT_WORDS * RECORDS];
+#define MESH sizes, in.faces, positions, 3 * in.corners, normals, 3 * in.corners, texture, 2 * in.corners
+
+/* The lists that are lent. */
+static uint32_t answer[4 * DOKPHALUN_SLOT_WORDS * FACES], work[DOKPHALUN_WORK_WORDS * FACES];
+static uint32_t labels[FACES], order[DOKPHALUN_ORDER_WORDS * FACES], own_frames[DOKPHALUN_OWN_FRAME_WORDS * FACES];
+static float own_numbers[DOKPHALUN_OWN_NUMBERS * FACES];
+static uint8_t own_sizes[FACES];
+static uint32_t links[DOKPHALUN_LINK_WORDS * FACES], groups[DOKPHALUN_LINK_WORDS * FACES];
+static uint32_t orientations[DOKPHALUN_ORIENTATION_WORDS * FACES];
+static uint8_t card[DOKPHALUN_CARD_BYTES(RECORDS)];
+static int16_t packed[7 * RECORDS];
+static uint32_t read_back[DOKPHALUN_SLOT_WORDS * RECORDS];
+#define LENT(list) list, sizeof list / sizeof *list
+
+/* Takes so many words of the input. */
+static int take(void *list, size_t count)
+{
+    return fread(list, 4, count, stdin) == count;
+}
+
+/* Takes a case; 0 where there is none. */
+static int take_case(void)
+{
+    uint32_t size, i;
+    if (!take(&in, 6) || in.faces > FACES || in.corners > CORNERS || in.records > RECORDS)
+        return 0;
+    memcpy(&threshold, &in.threshold, 4);
+    for (i = 0; i < in.faces; i++) {
+        if (!take(&size, 1))
+            return 0;
+        sizes[i] = (uint8_t)size;
+    }
+    return take(positions, 3 * in.corners) && take(normals, 3 * in.corners) && take(texture, 2 * in.corners)
+        && take(words, 10 * in.records);
+}
+
+/* What a call said: three numbers. */
+static void said(const char *name, size_t a, size_t b, size_t c)
+{
+    printf("%s %zu %zu %zu\n", name, a, b, c);
+}
+
+/* A list of words. */
+static void list(const char *name, const uint32_t *all, size_t count)
+{
+    size_t i;
+    printf("%s", name);
+    for (i = 0; i < count; i++)
+        printf(" %lu", (unsigned long)all[i]);
+    printf("\n");
+}
+
+/* A list of bytes. */
+static void bytes(const char *name, const uint8_t *all, size_t count)
+{
+    size_t i;
+    printf("%s", name);
+    for (i = 0; i < count; i++)
+        printf(" %u", (unsigned)all[i]);
+    printf("\n");
+}
+
+/* A number's bits. */
+static uint32_t bits(float number)
+{
+    uint32_t word;
+    memcpy(&word, &number, 4);
+    return word;
+}
+
+/* Each slot, field by field; one without a frame has to be all NaN. */
+static void slots(const uint32_t *all, size_t count)
+{
+    size_t k, i;
+    for (k = 0; k < count; k++) {
+        struct dokphalun_frame f;
+        enum dokphalun_reading reading = dokphalun_slot(all, k, &f);
+        const float numbers[8] = {f.tangent[0], f.tangent[1], f.tangent[2], f.bitangent[0], f.bitangent[1], f.bitangent[2], f.mag_s, f.mag_t};
+        printf(reading == DOKPHALUN_PRESENT ? "present" : reading == DOKPHALUN_ABSENT ? "absent" : "lost");
+        for (i = 0; i < 8; i++)
+            if (reading == DOKPHALUN_PRESENT)
+                printf(" %lu", (unsigned long)bits(numbers[i]));
+            else if (!isnan(numbers[i]))
+                printf(" a number");
+        if (reading == DOKPHALUN_PRESENT)
+            printf(" %lu", (unsigned long)f.preserving);
+        printf("\n");
+    }
+}
+
+/* Frames, in one call and by islands, and the islands. */
+static void frames(void)
+{
+    struct dokphalun_outcome one = dokphalun_frames(MESH, threshold, LENT(answer), LENT(work));
+    struct dokphalun_outcome by;
+    struct dokphalun_labelled labelled;
+    said("frames", one.number, one.place, one.slots);
+    slots(answer, one.slots);
+    memset(answer, 0x5A, sizeof answer);
+    by = dokphalun_frames_by_islands(
+        MESH, threshold, LENT(answer), LENT(work), LENT(labels), LENT(order), LENT(own_sizes), LENT(own_numbers), LENT(own_frames));
+    said("by islands", by.number, by.place, by.slots);
+    slots(answer, by.slots);
+    memset(labels, 0x5A, sizeof labels);
+    labelled = dokphalun_labels(MESH, LENT(labels), LENT(work));
+    said("labels", labelled.number, labelled.place, labelled.islands);
+    list("of faces", labels, labelled.number == 0 ? in.faces : 0);
+}
+
+/* The lists of so many triangles, examined. */
+static void examine(size_t sound)
+{
+    struct dokphalun_examined found = dokphalun_examine(MESH, links, 3 * sound, groups, 3 * sound, orientations, sound, LENT(work));
+    said("examine", found.refusal, found.objection, found.place);
+}
+
+/* Our own links, examined as they are, and with one word of groups, of orientations and of links changed, one after the other. */
+static void hung(void)
+{
+    struct dokphalun_handed own = dokphalun_links(MESH, LENT(links), LENT(groups), LENT(orientations), LENT(work));
+    size_t n = own.sound;
+    said("links", own.number, own.place, n);
+    list("links", links, 3 * n);
+    list("groups", groups, 3 * n);
+    list("orientations", orientations, n);
+    examine(n);
+    if (n == 0)
+        return;
+    groups[in.row % (3 * n)] += 1;
+    examine(n);
+    orientations[in.row % n] ^= 1;
+    examine(n);
+    links[in.row % (3 * n)] ^= 1;
+    examine(n);
+}
+
+/* The records to a card and back, the card with one byte turned. */
+static void cards(void)
+{
+    struct dokphalun_written written = dokphalun_card_write(words, 10 * in.records, LENT(card));
+    struct dokphalun_found found;
+    said("write", written.number, written.bytes, 0);
+    bytes("card", card, written.bytes);
+    if (written.bytes > 0)
+        card[in.row % written.bytes] ^= 1;
+    found = dokphalun_card_read(card, written.bytes < in.length ? written.bytes : in.length, in.records, LENT(read_back));
+    said("read", found.number, found.past, 0);
+    slots(read_back, in.records);
+}
+
+/* What comes next on a card of some length, and all that is left of it appended. */
+static void appends(void)
+{
+    struct dokphalun_next next = dokphalun_card_next(in.length, in.records);
+    size_t done = next.at / 512 * 12 < in.records ? next.at / 512 * 12 : in.records;
+    struct dokphalun_appended added = dokphalun_card_append(in.length, in.records, words + 10 * done, 10 * (in.records - done), LENT(card));
+    said("next", next.number, next.records, next.at);
+    said("append", added.number, added.blocks, added.at);
+    bytes("blocks", card, 512 * (size_t)added.blocks);
+}
+
+/* The records packed and read, and read again with one slot spoilt. */
+static void packs(void)
+{
+    struct dokphalun_packed made = dokphalun_pack(words, 10 * in.records, LENT(packed));
+    struct dokphalun_unpacked found = dokphalun_unpack(packed, made.count, LENT(read_back));
+    size_t i;
+    said("pack", made.number, made.count, 0);
+    printf("packed");
+    for (i = 0; i < made.count; i++)
+        printf(" %d", (int)packed[i]);
+    printf("\n");
+    said("unpack", found.number, found.place, 0);
+    for (i = 0; i < in.records; i++)
+        list(read_back[8 * i] == 1 ? "present" : "absent", read_back + 8 * i + 1, read_back[8 * i] == 1 ? 7 : 0);
+    if (in.records > 0)
+        packed[7 * (in.row % in.records) + 6] = 0;
+    found = dokphalun_unpack(packed, made.count, LENT(read_back));
+    said("unpack", found.number, found.place, 0);
+}
+
+int main(void)
+{
+    said("archive", dokphalun_interface(), dokphalun_slot_words(), 0);
+    while (take_case()) {
+        frames();
+        hung();
+        cards();
+        appends();
+        packs();
+    }
+    return 0;
+}

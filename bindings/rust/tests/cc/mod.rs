@@ -1,0 +1,24 @@
+//! C programs, compiled with the header and the archive.
+use std::path::{Path, PathBuf};
+use std::process::Command;
+
+/// The repository.
+pub fn root() -> PathBuf {
+    Path::new(env!("CARGO_MANIFEST_DIR")).join("../..")
+}
+
+/// Compiles a C program; its file.
+pub fn compiled(source: &Path, name: &str) -> PathBuf {
+    let out = Path::new(env!("CARGO_TARGET_TMPDIR")).join(name);
+    let archive = Path::new(dokphalun_sys::FOLDER).join("libdokphalun.a");
+    let built = Command::new("cc")
+        .args(["-std=c99", "-Wall", "-Wextra", "-Werror", "-pedantic", "-I"])
+        .arg(root().join("include"))
+        .args([source, &archive])
+        .arg("-o")
+        .arg(&out)
+        .status()
+        .expect("no C compiler `cc` here");
+    assert!(built.success(), "the C program does not compile");
+    out
+}
