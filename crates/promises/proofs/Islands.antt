@@ -20,7 +20,7 @@ use Rattle.apart.proofs.Call.{same-result, outcome-by}
 use Rattle.islands.proofs.Labels.{label-at}
 use Rattle.apart.proofs.Finishing.{long-is}
 use Rattle.promises.specs.Calls.{leaves, Accepted}
-use Rattle.promises.specs.Islands.{Made, remains, facesOf, Entries, Promised}
+use Rattle.promises.specs.Islands.{IslandsMade, remains, facesOf, Entries, Promised}
 use Rattle.promises.proofs.Acceptance.{verdictOf, numbered, no-row}
 
 module _ (x : Call) (o : Own) where
@@ -44,7 +44,7 @@ module _ (x : Call) (o : Own) where
       go none each-none e k = let z = ap (λ r. r .number) (leaves-by none e) in omega (arith, z, k)
       go (some r) (each-some f) e k = let z = ap (λ r. r .number) (leaves-by (some r) e) in omega (arith, z, k, f .known .1)
 
-  module _ (m : Made x o) where
+  module _ (m : IslandsMade x o) where
     -- what it left, by the verdict and by whether its own lists are too short
     result-by : (v : Option Row) (s : Bool) → verdictOf x ≡ v → short (facesOf x) o ≡ s → remains m ≡ answered (afterwards v s) taken (x .answer) (x .work)
     unfolding leaving
@@ -95,7 +95,7 @@ module _ (x : Call) (o : Own) where
         (sym (ap (λ z. getD (z .labels) f 0) (cleared-is k) ∙ label-at (x .mesh) (o .labels) f h))
         (given (meshOf (x .mesh)) f)
 
-  determined-is : (m n : Made x o) → (m .returned ≡ n .returned) × (m .answer ≡ n .answer) × (m .work ≡ n .work) × (m .own ≡ n .own)
+  determined-is : (m n : IslandsMade x o) → (m .returned ≡ n .returned) × (m .answer ≡ n .answer) × (m .work ≡ n .work) × (m .own ≡ n .own)
   unfolding leaving left
   determined-is m n =
       let e = m .meets ∙ sym (n .meets) in

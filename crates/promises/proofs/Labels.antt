@@ -16,9 +16,9 @@ use Rattle.islands.proofs.Labels.{label-at}
 use Rattle.labels.specs.Labels.{Leaving, left, answered, acceptedLabels, labelsVerdict, labelsOutcome, ownNumbers, islandCount}
 use Rattle.labels.proofs.Counting.{own-same}
 use Rattle.labels.proofs.Verdicts.{given-number}
-use Rattle.promises.specs.Labels.{Made, numberOf, Promised}
+use Rattle.promises.specs.Labels.{LabelsMade, numberOf, Promised}
 
-module _ (x : Handed) (l w : List ℕ) (m : Made x l w) where
+module _ (x : Handed) (l w : List ℕ) (m : LabelsMade x l w) where
   abbrev verdictOf : Option Row
   verdictOf = labelsVerdict x (length l) (length w)
 
@@ -64,7 +64,7 @@ module _ (x : Handed) (l w : List ℕ) (m : Made x l w) where
       go none e = absurd (k (ap (λ z. z .number) (left-by none e)))
       go (some r) e = let q = left-by (some r) e in (ap (λ z. z .islands) q, ap (λ z. z .labels) q, ap (λ z. z .work) q)
 
-determined-is : (x : Handed) (l w : List ℕ) (m n : Made x l w) → (m .returned ≡ n .returned) × (m .labels ≡ n .labels) × (m .work ≡ n .work)
+determined-is : (x : Handed) (l w : List ℕ) (m n : LabelsMade x l w) → (m .returned ≡ n .returned) × (m .labels ≡ n .labels) × (m .work ≡ n .work)
 unfolding left
 determined-is x l w m n =
     let e = m .meets ∙ sym (n .meets) in
