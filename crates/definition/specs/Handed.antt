@@ -9,7 +9,7 @@ use Rattle.math.specs.declared.Vec3.{Vec3}
 use Rattle.math.specs.Vector.{vec}
 use Rattle.definition.specs.declared.Corner.{Corner}
 
--- a mesh as it is handed in: 'a size for each face', positions and normals, three numbers a corner, and texture coordinates, two
+-- a mesh as it is handed in: 'face sizes .., positions and normals (three single-precision numbers a corner), texture coordinates (two)'
 pub record Handed : Type 0 where
   pub sizes : List ℕ
   pub positions : List Float
