@@ -63,6 +63,19 @@ struct dokphalun_outcome {
     uint32_t slots;
 };
 
+/* The lists of a mesh that dokphalun_part is asked of. */
+enum dokphalun_list {
+    DOKPHALUN_POSITIONS = 0,
+    DOKPHALUN_NORMALS = 1,
+    DOKPHALUN_TEXTURE = 2
+};
+
+/* Where a face's numbers stand in a list: from this place on, so many. */
+struct dokphalun_span {
+    size_t from;
+    size_t count;
+};
+
 /* What dokphalun_labels says: number 0, place 0 and how many islands there are; or a refusal's number, its place and 0.
  *   1, 2, 4, 6  as dokphalun_frames
  *   9  the list of labels is shorter than one a face
@@ -180,6 +193,16 @@ DOKPHALUN_ASK struct dokphalun_outcome dokphalun_frames(
     float threshold,
     uint32_t *answer, size_t answer_words,
     uint32_t *work, size_t work_words);
+
+/* The part of a list (enum dokphalun_list) that belongs to a face: where it stands, never a copy. It is empty, from 0 on, for a face
+ * number that is not below faces, for lists that refusal 1 or 2 would catch, and for a list that there is not. Each call adds up the
+ * sizes of the faces before. */
+DOKPHALUN_ASK struct dokphalun_span dokphalun_part(
+    const uint8_t *sizes, size_t faces,
+    const float *positions, size_t position_numbers,
+    const float *normals, size_t normal_numbers,
+    const float *texture, size_t texture_numbers,
+    uint32_t list, size_t face);
 
 /* The islands of a mesh. Two faces of 3 or 4 are in one if a chain of faces, each sharing a welded corner with the next, leads
  * from one to the other. Each such face gets the lowest face number of its island, every other face DOKPHALUN_NO_ISLAND. */

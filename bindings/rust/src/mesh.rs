@@ -30,6 +30,28 @@ impl<'a> Mesh<'a> {
             texture: self.texture.as_flattened(),
         }
     }
+
+    /// The part of a list that belongs to a face, where it stands: the numbers that list `list` of the archive has, `N` a corner.
+    fn part<const N: usize>(self, list: u32, all: &'a [[f32; N]], face: usize) -> &'a [[f32; N]] {
+        let span = archive::part(self.flat(), list, face);
+        &all[span.from / N..(span.from + span.count) / N]
+    }
+
+    /// The positions of a face, where they stand in their list: nothing for a face number that is not below the number of faces, and for
+    /// lists that refusal 1 or 2 would catch. The archive says where; it adds up the sizes of the faces before.
+    pub fn positions_of(self, face: usize) -> &'a [[f32; 3]] {
+        self.part(0, self.positions, face)
+    }
+
+    /// The normals of a face, in the same way.
+    pub fn normals_of(self, face: usize) -> &'a [[f32; 3]] {
+        self.part(1, self.normals, face)
+    }
+
+    /// The texture coordinates of a face, in the same way.
+    pub fn texture_of(self, face: usize) -> &'a [[f32; 2]] {
+        self.part(2, self.texture, face)
+    }
 }
 
 /// A corner of a mesh; both are counted from 0.

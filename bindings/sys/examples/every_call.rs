@@ -24,8 +24,9 @@ fn by_islands() -> Outcome {
 }
 
 /// Every call.
-const CALLS: [fn(); 11] = [
+const CALLS: [fn(); 12] = [
     || _ = frames(NOTHING, -1.0, &mut [], &mut []),
+    || _ = part(NOTHING, 0, 0),
     || _ = labels(NOTHING, &mut [], &mut []),
     || _ = by_islands(),
     || _ = examine(NOTHING, &[], &[], &[], &mut []),

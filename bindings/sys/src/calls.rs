@@ -12,6 +12,13 @@ unsafe extern "C" {
         answer: *mut u32, answer_words: usize,
         work: *mut u32, work_words: usize,
     ) -> Outcome;
+    fn dokphalun_part(
+        sizes: *const u8, faces: usize,
+        positions: *const f32, position_numbers: usize,
+        normals: *const f32, normal_numbers: usize,
+        texture: *const f32, texture_numbers: usize,
+        list: u32, face: usize,
+    ) -> Span;
     fn dokphalun_labels(
         sizes: *const u8, faces: usize,
         positions: *const f32, position_numbers: usize,
@@ -132,6 +139,18 @@ pub fn frames(mesh: Mesh, threshold: f32, answer: &mut [u32], work: &mut [u32]) 
         threshold,
         &mut answer,
         &mut work
+    ))
+}
+
+/// Where the numbers of a face stand in a list: 0 for positions, 1 for normals, 2 for texture.
+pub fn part(mesh: Mesh, list: u32, face: usize) -> Span {
+    call!(dokphalun_part(
+        &mesh.sizes,
+        &mesh.positions,
+        &mesh.normals,
+        &mesh.texture,
+        list,
+        face
     ))
 }
 

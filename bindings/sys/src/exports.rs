@@ -6,9 +6,6 @@ unsafe extern "C" {
     safe fn export_acos(x: f32) -> f32;
     fn export_acos_all(xs: *const f32, count: usize, out: *mut f32, room: usize);
     fn export_judge(
-        threshold: f32,
-        answer: usize,
-        work: usize,
         sizes: *const u8,
         faces: usize,
         positions: *const f32,
@@ -17,6 +14,9 @@ unsafe extern "C" {
         normal_numbers: usize,
         texture: *const f32,
         texture_numbers: usize,
+        threshold: f32,
+        answer: usize,
+        work: usize,
     ) -> u64;
     fn export_walk_old(work: *mut u32, work_words: usize, rows: usize, triangles: usize) -> u64;
     fn export_walk_flat(work: *mut u32, work_words: usize, rows: usize, triangles: usize) -> u64;
@@ -40,13 +40,13 @@ pub fn acos_all(xs: &[f32], out: &mut [f32]) {
 /// The desk's number and place, for lists of answer and work of so many words.
 pub fn judge(mesh: Mesh, threshold: f32, answer: usize, work: usize) -> (u32, u32) {
     let verdict = with_lists!(export_judge(
-        threshold,
-        answer,
-        work,
         &mesh.sizes,
         &mesh.positions,
         &mesh.normals,
-        &mesh.texture
+        &mesh.texture,
+        threshold,
+        answer,
+        work
     ));
     ((verdict >> 32) as u32, verdict as u32)
 }

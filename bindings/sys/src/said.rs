@@ -12,6 +12,16 @@ pub struct Outcome {
     pub slots: u32,
 }
 
+/// What [`crate::part`] says.
+#[repr(C)]
+#[derive(Clone, Copy, Debug, PartialEq, Eq)]
+pub struct Span {
+    /// The place of the first number in its list.
+    pub from: usize,
+    /// How many numbers there are.
+    pub count: usize,
+}
+
 /// What [`crate::labels`] says.
 #[repr(C)]
 #[derive(Clone, Copy, Debug, PartialEq, Eq)]

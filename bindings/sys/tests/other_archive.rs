@@ -4,8 +4,9 @@ use std::path::{Path, PathBuf};
 use std::process::{Command, Output};
 
 /// Every call; each ends the program in such an archive.
-const CALLS: [&str; 11] = [
+const CALLS: [&str; 12] = [
     "frames",
+    "part",
     "labels",
     "frames_by_islands",
     "examine",
@@ -88,8 +89,8 @@ fn other_editions_are_refused_by_every_call() {
         ),
     ] {
         let [printed, errors] = texts(&every_call(&archive(name, Some(numbers))));
-        assert_eq!(printed, "11 of 11 refused\n", "{errors}");
-        assert_eq!(errors.matches(said).count(), 11, "{errors}");
+        assert_eq!(printed, "12 of 12 refused\n", "{errors}");
+        assert_eq!(errors.matches(said).count(), 12, "{errors}");
     }
     // one that says the right numbers is called, and a signal ends the program
     let right = every_call(&archive("right", Some([1, 10])));

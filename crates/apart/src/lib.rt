@@ -137,7 +137,7 @@ fn gather_face(
     k: usize,
     c: usize,
 )
-    requires { ⌜ (3 * base + 3 * size ≤ length (now positions)) × (3 * base + 3 * size ≤ length (now normals)) × (2 * base + 2 * size ≤ length (now texture)) × (k < length (now «own_sizes»)) × (c + size ≤ 4 * n) × (32 * n ≤ length (now «own_numbers»)) ⌝ }
+    requires { ⌜ (3 * base + 3 * size ≤ length (now positions)) × (3 * base + 3 * size ≤ length (now normals)) × (2 * base + 2 * size ≤ length (now texture)) × (k < length (now «own_sizes»)) × (c + size ≤ 4 * n) × (spec.numberEntries * n ≤ length (now «own_numbers»)) ⌝ }
     ensures { λ _. ⌜ (now («own_sizes» .exit) ≡ set (now («own_sizes» .entry)) k size) × gather.Laid (now (positions .entry)) (now (normals .entry)) (now (texture .entry)) n base c size (now («own_numbers» .entry)) (now («own_numbers» .exit)) ⌝ }
 {
     let z = size as usize;
@@ -164,8 +164,8 @@ fn gather(
     own_sizes: &mut [u8],
     own_numbers: &mut [f32],
 ) -> Taken
-    requires { ⌜ (t < length (now sizes)) × step.Ready (handed (now sizes) (now positions) (now normals) (now texture)) (now order) × (length (now sizes) ≤ length (now «own_sizes»)) × (32 * length (now sizes) ≤ length (now «own_numbers»)) ⌝ }
-    ensures { λ r. ⌜ gather.Gathered (chain.among (islandOf (meshOf (handed (now (sizes .entry)) (now (positions .entry)) (now (normals .entry)) (now (texture .entry))))) t) (handed (now (sizes .entry)) (now (positions .entry)) (now (normals .entry)) (now (texture .entry))) (length (now (sizes .entry))) (r .faces) (r .corners) (now («own_sizes» .exit)) (now («own_numbers» .exit)) × Past 0 (length (now (sizes .entry))) (now («own_sizes» .entry)) (now («own_sizes» .exit)) × Past nan (32 * length (now (sizes .entry))) (now («own_numbers» .entry)) (now («own_numbers» .exit)) ⌝ }
+    requires { ⌜ (t < length (now sizes)) × step.Ready (handed (now sizes) (now positions) (now normals) (now texture)) (now order) × (length (now sizes) ≤ length (now «own_sizes»)) × (spec.numberEntries * length (now sizes) ≤ length (now «own_numbers»)) ⌝ }
+    ensures { λ r. ⌜ gather.Gathered (chain.among (islandOf (meshOf (handed (now (sizes .entry)) (now (positions .entry)) (now (normals .entry)) (now (texture .entry))))) t) (handed (now (sizes .entry)) (now (positions .entry)) (now (normals .entry)) (now (texture .entry))) (length (now (sizes .entry))) (r .faces) (r .corners) (now («own_sizes» .exit)) (now («own_numbers» .exit)) × Past 0 (length (now (sizes .entry))) (now («own_sizes» .entry)) (now («own_sizes» .exit)) × Past nan (spec.numberEntries * length (now (sizes .entry))) (now («own_numbers» .entry)) (now («own_numbers» .exit)) ⌝ }
 {
     let n = sizes.len();
     let mut next = order[n + t];
@@ -369,8 +369,8 @@ fn clear_own(
     own_numbers: &mut [f32],
     own_frames: &mut [u32],
 )
-    requires { ⌜ (n ≤ faceLimit) × (4 * n ≤ length (now order)) × (n ≤ length (now «own_sizes»)) × (32 * n ≤ length (now «own_numbers»)) × (40 * n ≤ length (now «own_frames»)) ⌝ }
-    ensures { λ _. ⌜ (now (order .exit) ≡ cleared 0 (4 * n) (now (order .entry))) × (now («own_sizes» .exit) ≡ cleared 0 n (now («own_sizes» .entry))) × (now («own_numbers» .exit) ≡ cleared zeroᶠ (32 * n) (now («own_numbers» .entry))) × (now («own_frames» .exit) ≡ cleared 0 (40 * n) (now («own_frames» .entry))) ⌝ }
+    requires { ⌜ (n ≤ faceLimit) × (4 * n ≤ length (now order)) × (n ≤ length (now «own_sizes»)) × (spec.numberEntries * n ≤ length (now «own_numbers»)) × (spec.frameEntries * n ≤ length (now «own_frames»)) ⌝ }
+    ensures { λ _. ⌜ (now (order .exit) ≡ cleared 0 (4 * n) (now (order .entry))) × (now («own_sizes» .exit) ≡ cleared 0 n (now («own_sizes» .entry))) × (now («own_numbers» .exit) ≡ cleared zeroᶠ (spec.numberEntries * n) (now («own_numbers» .entry))) × (now («own_frames» .exit) ≡ cleared 0 (spec.frameEntries * n) (now («own_frames» .entry))) ⌝ }
 {
     table::clear_first(order, 4 * n);
     clear_sizes(own_sizes, n);

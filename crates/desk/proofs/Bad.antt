@@ -12,8 +12,8 @@ use lib.Ieee.{Float}
 use Rattle.definition.proofs.Lengths.{corners-length}
 use Rattle.definition.specs.Handed.{cornerAt, cornersFrom, meshFrom, used, slotsOf}
 use Rattle.definition.specs.Desk.{finiteCorner, badIn, badCorner, orElse}
-use Rattle.desk.specs.declared.Found.{Found}
-use Rattle.desk.specs.declared.Found.the-variants.{At, Nothing}
+use Rattle.desk.specs.declared.FirstBad.{FirstBad}
+use Rattle.desk.specs.declared.FirstBad.the-variants.{At, Nothing}
 use Rattle.desk.specs.Verdict.{found, unlessFound}
 
 one-less : (n : ℕ) → suc n - 1 ≡ n
@@ -72,19 +72,19 @@ takes-some n h = go (used n) refl
     go false e = absurd (h (unfold slotsOf in rw (e)))
 
 -- ---- what was found
-isAt : Found → Bool
+isAt : FirstBad → Bool
 isAt (At i) = true
 isAt Nothing = false
 
 -- found before, or else in this face; and then in the faces behind it
-pub then : (bad : Found) (here rest : Option ℕ) → unlessFound (found (unlessFound bad here)) rest ≡ unlessFound bad (orElse here rest)
+pub then : (bad : FirstBad) (here rest : Option ℕ) → unlessFound (found (unlessFound bad here)) rest ≡ unlessFound bad (orElse here rest)
 unfolding found unlessFound orElse
 then (At i) here rest = refl
 then Nothing none rest = refl
 then Nothing (some j) rest = refl
 
 -- nothing is left
-pub at-last : (bad : Found) → bad ≡ found (unlessFound bad none)
+pub at-last : (bad : FirstBad) → bad ≡ found (unlessFound bad none)
 unfolding found unlessFound
 at-last (At i) = refl
 at-last Nothing = refl
@@ -106,7 +106,7 @@ is-none (some j) e = absurd (true≢false (sym (ap isAt e)))
 
 -- ---- the faces from number f on
 module _ (ps ns ts : List Float) (sizes : List ℕ) where
-  pub face-more : (bad : Found) (f from : ℕ) → f < length sizes
+  pub face-more : (bad : FirstBad) (f from : ℕ) → f < length sizes
       → unlessFound (found (unlessFound bad (inFace ps ns ts from (getD sizes f 0)))) (inFaces ps ns ts (from + getD sizes f 0) (drop (f + 1) sizes)) ≡ unlessFound bad (inFaces ps ns ts from (drop f sizes))
   face-more bad f from h = then bad (inFace ps ns ts from (getD sizes f 0)) (inFaces ps ns ts (from + getD sizes f 0) (drop (f + 1) sizes)) ∙ ap (unlessFound bad) (sym from-here)
     where

@@ -13,7 +13,7 @@ use Rattle.definition.specs.Limits.{faceLimit, workWords}
 use Rattle.definition.specs.Handed.{cornerCount, slotCount}
 use Rattle.definition.specs.Desk.{Shown, tooMany, unfit, misfit, notFinite, isThere, orZero, table, verdict}
 use Rattle.desk.specs.declared.Verdict.{Verdict}
-use Rattle.desk.specs.Verdict.{said, told, lentNumber}
+use Rattle.desk.specs.Verdict.{said, asVerdict, lentNumber}
 
 module _ (x : Shown) where
   -- ---- what the rows say
@@ -30,7 +30,7 @@ module _ (x : Shown) where
   Lowest o = notFinite (x .mesh) ≡ o
 
   abbrev Told : Verdict → Type 0
-  Told v = v ≡ told (verdict x)
+  Told v = v ≡ asVerdict (verdict x)
 
   pub many : faceLimit < length (x .mesh .sizes) → IsMany true
   unfolding tooMany
@@ -46,26 +46,26 @@ module _ (x : Shown) where
 
   -- ---- the first that applies
   pub row1 : IsMany true → Told (said 1 0)
-  unfolding told verdict table first
+  unfolding asVerdict verdict table first
   row1 m = rw (m)
 
   pub row2 : IsMany false → IsMisfit true → Told (said 2 0)
-  unfolding told verdict table first
+  unfolding asVerdict verdict table first
   row2 m f = rw (m, f)
 
   pub row3 : IsMany false → IsMisfit false → IsFinite false → Told (said 3 0)
-  unfolding told verdict table first
+  unfolding asVerdict verdict table first
   row3 m f t = rw (m, f, t)
 
   pub row4 : IsMany false → IsMisfit false → IsFinite true → (i : ℕ) → Lowest (some i) → Told (said 4 i)
-  unfolding told verdict table first isThere orZero
+  unfolding asVerdict verdict table first isThere orZero
   row4 m f t i b = rw (m, f, t, b)
 
   pub rows56 : IsMany false → IsMisfit false → IsFinite true → Lowest none → Told (said (lentNumber (slotCount (x .mesh .sizes)) (length (x .mesh .sizes)) (x .answer) (x .work)) 0)
-  unfolding told verdict table first isThere orZero lentNumber
+  unfolding asVerdict verdict table first isThere orZero lentNumber
   rows56 m f t b = rw (m, f, t, b) (last (ltb (x .answer) (slotWords * slotCount (x .mesh .sizes))) (ltb (x .work) (workWords * length (x .mesh .sizes))))
     where
-      last : (a w : Bool) → said (cond a 5 (cond w 6 0)) 0 ≡ told (cond a (some (record { number = 5; applies = a; place = 0 })) (cond w (some (record { number = 6; applies = w; place = 0 })) none))
-      last true w = unfold told in refl
-      last false true = unfold told in refl
-      last false false = unfold told in refl
+      last : (a w : Bool) → said (cond a 5 (cond w 6 0)) 0 ≡ asVerdict (cond a (some (record { number = 5; applies = a; place = 0 })) (cond w (some (record { number = 6; applies = w; place = 0 })) none))
+      last true w = unfold asVerdict in refl
+      last false true = unfold asVerdict in refl
+      last false false = unfold asVerdict in refl

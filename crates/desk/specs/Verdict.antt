@@ -7,25 +7,25 @@ use Rattle.tangent.specs.Slot.{slotWords}
 use Rattle.definition.specs.Limits.{workWords}
 use Rattle.definition.specs.Desk.{Row}
 use Rattle.desk.specs.declared.Verdict.{Verdict}
-use Rattle.desk.specs.declared.Found.{Found}
-use Rattle.desk.specs.declared.Found.the-variants.{At, Nothing}
+use Rattle.desk.specs.declared.FirstBad.{FirstBad}
+use Rattle.desk.specs.declared.FirstBad.the-variants.{At, Nothing}
 
 -- a verdict of this number and place
 abbrev pub said : ℕ → ℕ → Verdict
 said n i = record { number = n; place = i }
 
 -- the row that is given as a verdict: its number and its place; 0 and 0 where none is given
-unfoldable pub told : Option Row → Verdict
-told none = said 0 0
-told (some r) = said (r .number) (r .place)
+unfoldable pub asVerdict : Option Row → Verdict
+asVerdict none = said 0 0
+asVerdict (some r) = said (r .number) (r .place)
 
 -- a corner's number that was found, or that there is none
-unfoldable pub found : Option ℕ → Found
+unfoldable pub found : Option ℕ → FirstBad
 found none = Nothing
 found (some i) = At i
 
 -- what was found before, and else what is there now
-unfoldable pub unlessFound : Found → Option ℕ → Option ℕ
+unfoldable pub unlessFound : FirstBad → Option ℕ → Option ℕ
 unlessFound (At i) o = some i
 unlessFound Nothing o = o
 

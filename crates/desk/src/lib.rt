@@ -19,7 +19,7 @@ pub struct Verdict {
 }
 
 // A corner that holds a NaN or infinity, by its number, or that none was found.
-pub enum Found {
+pub enum FirstBad {
     At(u32),
     Nothing,
 }
@@ -28,7 +28,7 @@ pub enum Found {
 struct Seen {
     corners: u32,
     slots: u32,
-    bad: Found,
+    bad: FirstBad,
 }
 
 fn finite_vector(v: Vec3) -> bool
@@ -56,7 +56,7 @@ fn finite_corner(c: Corner) -> bool
 }
 
 // The lowest of count corners from number from on that holds a NaN or infinity.
-fn bad_in(positions: &[f32], normals: &[f32], texture: &[f32], from: u32, count: u32) -> Found
+fn bad_in(positions: &[f32], normals: &[f32], texture: &[f32], from: u32, count: u32) -> FirstBad
     requires { ⌜ from + count < 2 ^ 32 ⌝ }
     ensures { λ r. ⌜ r ≡ spec.found (desk.badIn finiteCorner from (cornersFrom (now (positions .entry)) (now (normals .entry)) (now (texture .entry)) from count)) ⌝ }
 {
@@ -64,39 +64,39 @@ fn bad_in(positions: &[f32], normals: &[f32], texture: &[f32], from: u32, count:
     let mut left = count;
     while 0 < left {
         if !finite_corner(mesh::corner_at(positions, normals, texture, i)) {
-            return Found::At(i);
+            return FirstBad::At(i);
         }
         i += 1;
         left -= 1;
     }
-    Found::Nothing
+    FirstBad::Nothing
 }
 
 // The same of a face of a size, which counts only if it is 3 or 4.
-fn bad_face(positions: &[f32], normals: &[f32], texture: &[f32], from: u32, size: u8) -> Found
+fn bad_face(positions: &[f32], normals: &[f32], texture: &[f32], from: u32, size: u8) -> FirstBad
     requires { ⌜ from + size < 2 ^ 32 ⌝ }
     ensures { λ r. ⌜ r ≡ spec.found (cond (used size) (desk.badIn finiteCorner from (cornersFrom (now (positions .entry)) (now (normals .entry)) (now (texture .entry)) from size)) none) ⌝ }
 {
     if mesh::slots_of(size) == 0 {
-        return Found::Nothing;
+        return FirstBad::Nothing;
     }
     bad_in(positions, normals, texture, from, size as u32)
 }
 
 // The first of the two, if there is one: a corner that was found before, and the lowest such corner of a face.
 fn bad_by_now(
-    bad: Found,
+    bad: FirstBad,
     positions: &[f32],
     normals: &[f32],
     texture: &[f32],
     from: u32,
     size: u8,
-) -> Found
+) -> FirstBad
     requires { ⌜ from + size < 2 ^ 32 ⌝ }
     ensures { λ r. ⌜ r ≡ spec.found (spec.unlessFound bad (cond (used size) (desk.badIn finiteCorner from (cornersFrom (now (positions .entry)) (now (normals .entry)) (now (texture .entry)) from size)) none)) ⌝ }
 {
-    if let Found::At(i) = bad {
-        return Found::At(i);
+    if let FirstBad::At(i) = bad {
+        return FirstBad::At(i);
     }
     bad_face(positions, normals, texture, from, size)
 }
@@ -108,7 +108,7 @@ fn look_over(sizes: &[u8], positions: &[f32], normals: &[f32], texture: &[f32]) 
 {
     let mut corners: u32 = 0;
     let mut slots: u32 = 0;
-    let mut bad = Found::Nothing;
+    let mut bad = FirstBad::Nothing;
     let mut f: usize = 0;
     while f < sizes.len() {
         let size = sizes[f];
@@ -155,7 +155,7 @@ pub fn judge(
     answer: usize,
     work: usize,
 ) -> Verdict
-    ensures { λ r. ⌜ r ≡ spec.told (desk.verdict (shown (handed (now (sizes .entry)) (now (positions .entry)) (now (normals .entry)) (now (texture .entry))) threshold answer work)) ⌝ }
+    ensures { λ r. ⌜ r ≡ spec.asVerdict (desk.verdict (shown (handed (now (sizes .entry)) (now (positions .entry)) (now (normals .entry)) (now (texture .entry))) threshold answer work)) ⌝ }
 {
     if definition::FACE_LIMIT < sizes.len() {
         return said(1, 0);
@@ -168,7 +168,7 @@ pub fn judge(
         return said(3, 0);
     }
     let bad = seen.bad;
-    if let Found::At(i) = bad {
+    if let FirstBad::At(i) = bad {
         return said(4, i);
     }
     said(lent(sizes, seen.slots, answer, work), 0)

@@ -3,6 +3,7 @@
 ghost use Rattle.definition.specs.Handed.{call, handed};
 ghost use mathlib.Core.Path.{_≡_};
 ghost use Rattle.mikktspace.specs.Contract.{Contract};
+ghost use Rattle.mesh.specs.Parts.{spanOf};
 ghost use Rattle.labels.specs.Labels.{Labels};
 ghost use Rattle.apart.specs.Call.{lists, Contract as Islands};
 ghost use Rattle.appends.specs.Contract.{Follows, Appends};
@@ -18,6 +19,7 @@ use cards::Written;
 use examine::Examined;
 use examine::Owned;
 use labels::Labelled;
+use mesh::Span;
 use mikktspace::Outcome;
 use packed::Packed;
 use packed::Unpacked;
@@ -58,6 +60,21 @@ pub extern "C" fn dokphalun_frames(
     ensures { λ r. ⌜ Contract (call (handed (now (sizes .entry)) (now (positions .entry)) (now (normals .entry)) (now (texture .entry))) threshold (now (answer .entry)) (now (work .entry))) r (now (answer .exit)) (now (work .exit)) ⌝ }
 {
     mikktspace::generate_tangent_space(sizes, positions, normals, texture, threshold, answer, work)
+}
+
+// See mesh::span_of.
+#[no_mangle]
+pub extern "C" fn dokphalun_part(
+    sizes: &[u8],
+    positions: &[f32],
+    normals: &[f32],
+    texture: &[f32],
+    list: u32,
+    face: usize,
+) -> Span
+    ensures { λ r. ⌜ r ≡ spanOf (handed (now (sizes .entry)) (now (positions .entry)) (now (normals .entry)) (now (texture .entry))) list face ⌝ }
+{
+    mesh::span_of(sizes, positions, normals, texture, list, face)
 }
 
 // See labels::label_faces.

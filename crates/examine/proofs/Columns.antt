@@ -34,7 +34,7 @@ use Rattle.asked.specs.Groups.{Connected}
 use Rattle.asked.specs.Meaning.{Same, anyOf, wayOf, Examines}
 use Rattle.asked.proofs.Likes.{applies-like}
 use Rattle.asked.proofs.Stages.{verdict-like}
-use Rattle.fellows.specs.Fellows.{told}
+use Rattle.fellows.specs.Fellows.{appliesHere}
 use Rattle.examine.specs.Deciding.{Overall}
 use Rattle.examine.specs.Contract.{soundOf, clearedFor, Decides}
 
@@ -97,9 +97,9 @@ module _ (rows : ℕ) (mesh : Handed) (xs : List Triangle) (d : Triangle) (u : L
       true≢false (sym (eq-eqb _ _ f) ∙ (words (r / 3) (r / 3) i (after i) t t ∙ five .sharp .apart (r / 3) i t))
 
   -- the verdict on the columns is that on the triangles
-  pub verdict-is : (L G O : List ℕ) (number place : ℕ) → Verdict (told rows (length ss) u L G O) 13 number place → Examines ss d L G O number place
+  pub verdict-is : (L G O : List ℕ) (number place : ℕ) → Verdict (appliesHere rows (length ss) u L G O) 13 number place → Examines ss d L G O number place
   verdict-is L G O number place =
-      verdict-like (told rows (length ss) u L G O) _ 13
+      verdict-like (appliesHere rows (length ss) u L G O) _ 13
       (applies-like (length ss) (Equal vertex) (Same ss d) L (to-same rows ss d u words) (from-same rows ss d u words) (λ t. cell rows anyColumn t u) (anyOf ss d) (λ t. cell rows orientationColumn t u) (wayOf ss d) G O any-is way-is)
       (applies-like (length ss) (Same ss d) (Equal vertex) L (from-same rows ss d u words) (to-same rows ss d u words) (anyOf ss d) (λ t. cell rows anyColumn t u) (wayOf ss d) (λ t. cell rows orientationColumn t u) G O (λ t h. sym (any-is t h)) (λ t h. sym (way-is t h)))
       number place
@@ -108,7 +108,7 @@ pub decides : (mesh : Handed) (n m : ℕ) (w u L G O : List ℕ) (number place :
 decides mesh n m w u L G O number place K good R =
     let rows = rowsOf (length (mesh .sizes)) in
     record {
-      verdict = λ d. verdict-is rows mesh (trianglesOf mesh) d u (K .stands good d) L G O number place (subst (λ (x : ℕ). Verdict (told rows x u L G O) 13 number place) (K .sound-count) (R .verdict));
+      verdict = λ d. verdict-is rows mesh (trianglesOf mesh) d u (K .stands good d) L G O number place (subst (λ (x : ℕ). Verdict (appliesHere rows x u L G O) 13 number place) (K .sound-count) (R .verdict));
       connected = λ e. subst (λ (x : ℕ). Connected x L G) (K .sound-count) (R .connected e);
     }
 

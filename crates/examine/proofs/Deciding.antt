@@ -14,8 +14,8 @@ use Rattle.asked.specs.Objections.{Applies}
 use Rattle.asked.proofs.Fits.{Long, clear-one, clear-long, not-misfit}
 use Rattle.asked.proofs.Stages.{clear-more, stops, passes, stage-on, stage-off, stage-like, stage-verdict, clear-like}
 use Rattle.examiner.specs.OnLinks.{OnLinks}
-use Rattle.fellows.specs.Fellows.{told, OnGroups}
-use Rattle.fellows.proofs.Stages.{told-kept, told-back}
+use Rattle.fellows.specs.Fellows.{appliesHere, OnGroups}
+use Rattle.fellows.proofs.Stages.{applies-kept, applies-back}
 use Rattle.examine.specs.Deciding.{OnLengths, Overall}
 
 -- ---- objection 1
@@ -59,7 +59,7 @@ module _ (rows n : ℕ) (w L G O : List ℕ) where
   way t = cell rows orientationColumn t w
 
   abbrev T : ℕ → ℕ → Type 0
-  T = told rows n w L G O
+  T = appliesHere rows n w L G O
 
   one : Clear T 1
   one = clear-one n (Equal vertex) any way L G O
@@ -78,12 +78,12 @@ module _ (rows n : ℕ) (w L G O : List ℕ) where
       six : Clear T 6
       six = K .stage any way G O .passed o (S .stage vertex any way .passed z one)
 
-      pub links-clear : Clear (told rows n u L G O) 6
-      links-clear = clear-like T (told rows n u L G O) 13 (told-kept stepColumns rows n w u L G O refl refl refl fits only) (told-back stepColumns rows n w u L G O refl refl refl fits only) 6 (omega arith) six
+      pub links-clear : Clear (appliesHere rows n u L G O) 6
+      links-clear = clear-like T (appliesHere rows n u L G O) 13 (applies-kept stepColumns rows n w u L G O refl refl refl fits only) (applies-back stepColumns rows n w u L G O refl refl refl fits only) 6 (omega arith) six
 
       pub end-groups : (number place : ℕ) → OnGroups rows n u L G O number place → Overall rows n w L G O number place
       end-groups number place R =
           record {
-            verdict = stage-verdict T 13 6 number place (stage-like (told rows n u L G O) T 13 (told-back stepColumns rows n w u L G O refl refl refl fits only) (told-kept stepColumns rows n w u L G O refl refl refl fits only) 6 13 number place (omega arith) (omega arith) (R .stage)) six;
+            verdict = stage-verdict T 13 6 number place (stage-like (appliesHere rows n u L G O) T 13 (applies-back stepColumns rows n w u L G O refl refl refl fits only) (applies-kept stepColumns rows n w u L G O refl refl refl fits only) 6 13 number place (omega arith) (omega arith) (R .stage)) six;
             connected = R .connected;
           }

@@ -10,31 +10,31 @@ use borrow.Author.Tests.{ltb-false}
 use Rattle.definition.specs.Handed.{Handed}
 use Rattle.definition.specs.Desk.{Row}
 use Rattle.desk.specs.declared.Verdict.{Verdict}
-use Rattle.desk.specs.Verdict.{told}
+use Rattle.desk.specs.Verdict.{asVerdict}
 use Rattle.examine.specs.declared.Examined.{Examined}
 use Rattle.examine.specs.declared.Owned.{Owned}
 use Rattle.examine.specs.Contract.{refusal, tooShort, Refused, Decided, Examines, Withheld, Given, Hands}
 
 -- the desk's number and place where there is a refusal
-module _ (o : Option Row) (j : Verdict) (e : j ≡ told o) (x : Row) (s : o ≡ some x) where
+module _ (o : Option Row) (j : Verdict) (e : j ≡ asVerdict o) (x : Row) (s : o ≡ some x) where
   pub number-is : j .number ≡ x .number
-  unfolding told
-  number-is = ap (λ (v : Verdict). v .number) (e ∙ ap told s)
+  unfolding asVerdict
+  number-is = ap (λ (v : Verdict). v .number) (e ∙ ap asVerdict s)
 
   pub place-is : j .place ≡ x .place
-  unfolding told
-  place-is = ap (λ (v : Verdict). v .place) (e ∙ ap told s)
+  unfolding asVerdict
+  place-is = ap (λ (v : Verdict). v .place) (e ∙ ap asVerdict s)
 
 -- a number that is not 0 is a refusal's
-pub not-none : (o : Option Row) (j : Verdict) → j ≡ told o → (j .number ≡ 0 → ⊥) → o ≡ none → ⊥
-unfolding told
-not-none o j e ne n = ne (ap (λ (v : Verdict). v .number) (e ∙ ap told n))
+pub not-none : (o : Option Row) (j : Verdict) → j ≡ asVerdict o → (j .number ≡ 0 → ⊥) → o ≡ none → ⊥
+unfolding asVerdict
+not-none o j e ne n = ne (ap (λ (v : Verdict). v .number) (e ∙ ap asVerdict n))
 
 module _ (mesh : Handed) (L G O w : List ℕ) where
   abbrev desk : Option Row
   desk = refusal mesh (length w)
 
-  pub examines-refused : (j : Verdict) (r : Examined) → j ≡ told desk → (j .number ≡ 0 → ⊥) → r ≡ record { refusal = j .number; objection = 0; place = j .place } → Examines mesh L G O w r w
+  pub examines-refused : (j : Verdict) (r : Examined) → j ≡ asVerdict desk → (j .number ≡ 0 → ⊥) → r ≡ record { refusal = j .number; objection = 0; place = j .place } → Examines mesh L G O w r w
   examines-refused j r e ne q =
       record {
         refused = λ x s. record { number = ap (λ (y : Examined). y .refusal) q ∙ number-is desk j e x s; none = ap (λ (y : Examined). y .objection) q; place = ap (λ (y : Examined). y .place) q ∙ place-is desk j e x s; work = refl };
@@ -46,7 +46,7 @@ module _ (mesh : Handed) (L G O w : List ℕ) where
 
   -- ---- our own lists
 
-  pub hands-refused : (j : Verdict) (r : Owned) → j ≡ told desk → (j .number ≡ 0 → ⊥) → r ≡ record { number = j .number; place = j .place; sound = 0 } → Hands mesh L G O w r L G O w
+  pub hands-refused : (j : Verdict) (r : Owned) → j ≡ asVerdict desk → (j .number ≡ 0 → ⊥) → r ≡ record { number = j .number; place = j .place; sound = 0 } → Hands mesh L G O w r L G O w
   hands-refused j r e ne q =
       record {
         refused = λ x s. record { is = q ∙ (λ i. record { number = number-is desk j e x s i; place = place-is desk j e x s i; sound = 0 }); links = refl; groups = refl; ways = refl; work = refl };

@@ -7,7 +7,7 @@ use Rattle.asked.specs.Lowest.{Verdict, Stage}
 use Rattle.asked.specs.Links.{Equal}
 use Rattle.asked.specs.Groups.{Connected}
 use Rattle.asked.specs.Objections.{Applies}
-use Rattle.fellows.specs.Fellows.{told, groupColumns}
+use Rattle.fellows.specs.Fellows.{appliesHere, groupColumns}
 
 -- number and place are those of objection 1, or 0 where it does not apply
 pub record OnLengths (n : ℕ) (L G O : List ℕ) (number place : ℕ) : Type 0 where
@@ -15,7 +15,7 @@ pub record OnLengths (n : ℕ) (L G O : List ℕ) (number place : ℕ) : Type 0 
 
 -- the verdict; and where it is 0 every group is connected
 pub record Overall (rows n : ℕ) (w L G O : List ℕ) (number place : ℕ) : Type 0 where
-  pub verdict : Verdict (told rows n w L G O) 13 number place
+  pub verdict : Verdict (appliesHere rows n w L G O) 13 number place
   pub connected : number ≡ 0 → Connected n L G
 
 -- the columns that are written

@@ -36,7 +36,7 @@ pub struct Owned {
 
 // The desk, asked with a threshold of 0 and as long an answer list as there can be, so that refusals 3 and 5 never apply.
 fn ask(sizes: &[u8], positions: &[f32], normals: &[f32], texture: &[f32], work: usize) -> Verdict
-    ensures { λ r. ⌜ r ≡ desk.told (spec.refusal (handed (now (sizes .entry)) (now (positions .entry)) (now (normals .entry)) (now (texture .entry))) work) ⌝ }
+    ensures { λ r. ⌜ r ≡ desk.asVerdict (spec.refusal (handed (now (sizes .entry)) (now (positions .entry)) (now (normals .entry)) (now (texture .entry))) work) ⌝ }
 {
     desk::judge(
         sizes,

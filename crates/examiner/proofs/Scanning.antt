@@ -7,7 +7,7 @@ use mathlib.Core.List.{List}
 use mathlib.Core.Logic.{⊎-elim}
 use lib.ListN.{getD}
 use Rattle.neighbors.specs.Sides.{endRow}
-use Rattle.neighbors.proofs.Mates.{start-end, end-start}
+use Rattle.neighbors.proofs.Mates.{same-end, start-end, end-start}
 use Rattle.asked.specs.Lowest.{Lowest}
 use Rattle.asked.specs.Links.{Equal, linkWord, Opposed, LeftOver}
 use Rattle.examiner.specs.Scan.{FreeIn, OrderOf, RunOf, FirstOf, nothing, side, ScannedTo}
@@ -23,9 +23,6 @@ crossed-min x y x′ y′ p q = omega arith
 
 crossed-max : (x y x′ y′ : ℕ) → x ≡ y′ → y ≡ x′ → max x y ≡ max x′ y′
 crossed-max x y x′ y′ p q = omega arith
-
-same-end : (x y x′ y′ : ℕ) → min x y ≡ min x′ y′ → max x y ≡ max x′ y′ → x ≡ x′ → y ≡ y′
-same-end x y x′ y′ l h e = omega arith
 
 module _ (n : ℕ) (vertex : ℕ → ℕ) (L : List ℕ) (E X : ℕ → ℕ) where
   abbrev Free : ℕ → Type 0

@@ -6,7 +6,7 @@ ghost use lib.ListN.{length};
 ghost use Rattle.angle.specs.Angle.{angle};
 ghost use Rattle.definition.specs.Handed.{handed};
 ghost use Rattle.definition.specs.Desk.{shown, verdict};
-ghost use Rattle.desk.specs.Verdict.{told};
+ghost use Rattle.desk.specs.Verdict.{asVerdict};
 ghost use Rattle.exports.specs.Packed.{packed};
 ghost use Rattle.root.specs.Root.{sqrt};
 ghost use Rattle.table.specs.Columns.{columns, linkColumn};
@@ -45,15 +45,15 @@ pub extern "C" fn export_acos_all(xs: &[f32], out: &mut [f32]) {
 // The desk's verdict as one number: the refusal's number times 2 ^ 32, and its place.
 #[no_mangle]
 pub extern "C" fn export_judge(
-    threshold: f32,
-    answer: usize,
-    work: usize,
     sizes: &[u8],
     positions: &[f32],
     normals: &[f32],
     texture: &[f32],
+    threshold: f32,
+    answer: usize,
+    work: usize,
 ) -> u64
-    ensures { λ r. ⌜ r ≡ packed (told (verdict (shown (handed (now (sizes .entry)) (now (positions .entry)) (now (normals .entry)) (now (texture .entry))) threshold answer work))) ⌝ }
+    ensures { λ r. ⌜ r ≡ packed (asVerdict (verdict (shown (handed (now (sizes .entry)) (now (positions .entry)) (now (normals .entry)) (now (texture .entry))) threshold answer work))) ⌝ }
 {
     let v = desk::judge(sizes, positions, normals, texture, threshold, answer, work);
     (v.number as u64) * 0x1_0000_0000 + v.place as u64

@@ -32,20 +32,20 @@ abbrev pub EndsTogether : List ℕ → ℕ → ℕ → Type 0
 EndsTogether G r q = Together G r (endRow q) × Together G (endRow r) q
 
 -- the objections, by what the columns hold
-abbrev pub told : ℕ → ℕ → List ℕ → List ℕ → List ℕ → List ℕ → ℕ → ℕ → Type 0
-told rows n w L G O = Applies n (Equal (λ x. cell rows vertexColumn x w)) (λ t. cell rows anyColumn t w) (λ t. cell rows orientationColumn t w) L G O
+abbrev pub appliesHere : ℕ → ℕ → List ℕ → List ℕ → List ℕ → List ℕ → ℕ → ℕ → Type 0
+appliesHere rows n w L G O = Applies n (Equal (λ x. cell rows vertexColumn x w)) (λ t. cell rows anyColumn t w) (λ t. cell rows orientationColumn t w) L G O
 
 -- number and place are those of the first of objections 6 to 8 that applies, or 0 where none does
 pub record Words (rows n : ℕ) (w G O : List ℕ) (number place : ℕ) : Type 0 where
-  pub stage : (L : List ℕ) → Stage (told rows n w L G O) 13 6 9 number place
+  pub stage : (L : List ℕ) → Stage (appliesHere rows n w L G O) 13 6 9 number place
 
 -- of objections 9 to 11
 pub record Beside (rows n : ℕ) (w L G O : List ℕ) (number place : ℕ) : Type 0 where
-  pub stage : Stage (told rows n w L G O) 13 9 12 number place
+  pub stage : Stage (appliesHere rows n w L G O) 13 9 12 number place
 
 -- of objections 6 to 12; and where none applies every group is connected
 pub record OnGroups (rows n : ℕ) (w L G O : List ℕ) (number place : ℕ) : Type 0 where
-  pub stage : Stage (told rows n w L G O) 13 6 13 number place
+  pub stage : Stage (appliesHere rows n w L G O) 13 6 13 number place
   pub connected : number ≡ 0 → Connected n L G
 
 -- the columns that are written

@@ -293,7 +293,7 @@ pub fn examine_groups(
     groups: &[u32],
     ways: &[u32],
 ) -> Objection
-    requires { ⌜ (3 * tris ≤ rows) × (columns * rows ≤ length (now work)) × (rows < 4294967295) × (3 * tris ≤ length (now given)) × (3 * tris ≤ length (now groups)) × (tris ≤ length (now ways)) × Clear (spec.told rows tris (now work) (now given) (now groups) (now ways)) 6 ⌝ }
+    requires { ⌜ (3 * tris ≤ rows) × (columns * rows ≤ length (now work)) × (rows < 4294967295) × (3 * tris ≤ length (now given)) × (3 * tris ≤ length (now groups)) × (tris ≤ length (now ways)) × Clear (spec.appliesHere rows tris (now work) (now given) (now groups) (now ways)) 6 ⌝ }
     ensures verdict { λ s. ⌜ spec.OnGroups rows tris (now (work .entry)) (now (given .entry)) (now (groups .entry)) (now (ways .entry)) (s .number) (s .place) ⌝ }
     ensures only { λ s. ⌜ Only spec.groupColumns rows (now (work .entry)) (now (work .exit)) ⌝ }
 {

@@ -18,7 +18,8 @@ use Rattle.lists.proofs.Loops.{length-listOf}
 use Rattle.table.proofs.Laws.{column-ends, apart}
 use Rattle.view.specs.Frame.{outside, Only}
 use Rattle.view.proofs.Frame.{only-none, only-run, cell-kept}
-use Rattle.groups.specs.Walk.{cornerOf, untouched, adopted, Entered, enter, stopped, marked, zeros, ungrouped, Ready}
+use Rattle.lists.specs.Zeros.{zeros}
+use Rattle.groups.specs.Walk.{cornerOf, untouched, adopted, Entered, enter, stopped, marked, ungrouped, Ready}
 use Rattle.groups.specs.declared.Entry.the-variants.{At}
 use Rattle.groups.proofs.Laws.{cornerOf-le, marked-grown}
 use Rattle.groups.proofs.Steps.{ready-moves}

@@ -8,12 +8,14 @@ use lib.ListN.{length, getD, set}
 use lib.Arith.{lt-of-le-ne}
 use lib.Dec.{eqb}
 use borrow.Author.Tests.{eqb-true, eqb-false}
+use Rattle.lists.specs.Zeros.{zeros}
+use Rattle.lists.proofs.Zeros.{zeros-set, zeros-le}
 use Rattle.table.specs.Table.{cell, put, column}
 use Rattle.table.specs.Columns.{columns, vertexColumn, linkColumn, orientationColumn, groupColumn, metColumn}
 use Rattle.table.proofs.Laws.{column-set, getD-column, length-column}
 use Rattle.view.specs.Frame.{Only}
 use Rattle.view.proofs.Frame.{only-none, only-put}
-use Rattle.groups.specs.Walk.{walkColumns, cornerOf, untouched, adopted, Entered, enter, stopped, marked, zeros, ungrouped}
+use Rattle.groups.specs.Walk.{walkColumns, cornerOf, untouched, adopted, Entered, enter, stopped, marked, ungrouped}
 use Rattle.groups.specs.declared.Entry.{Entry}
 use Rattle.groups.specs.declared.Entry.the-variants.{At, Stop}
 
@@ -21,25 +23,6 @@ use Rattle.groups.specs.declared.Entry.the-variants.{At, Stop}
 pub cond-case : {A : Type 0} (P : A → Type 0) (b : Bool) (x y : A) → (b ≡ true → P x) → (b ≡ false → P y) → P (cond b x y)
 cond-case P true x y f g = f refl
 cond-case P false x y f g = g refl
-
--- ---- zeros
-
--- a store of a number that is no 0 over a 0 leaves one 0 less
-pub zeros-set : (l : List ℕ) (i v : ℕ) → i < length l → getD l i 0 ≡ 0 → 0 < v → suc (zeros (set l i v)) ≡ zeros l
-unfolding zeros
-zeros-set [] i v h z p = absurd (omega arith)
-zeros-set (x ∷ l) zero zero h z p = absurd (omega arith)
-zeros-set (zero ∷ l) zero (suc v) h z p = refl
-zeros-set (suc x ∷ l) zero (suc v) h z p = absurd (omega arith)
-zeros-set (zero ∷ l) (suc i) v h z p = ap suc (zeros-set l i v (omega arith) z p)
-zeros-set (suc x ∷ l) (suc i) v h z p = zeros-set l i v (omega arith) z p
-
--- a list has no more zeros than words
-zeros-le : (l : List ℕ) → zeros l ≤ length l
-unfolding zeros
-zeros-le [] = omega arith
-zeros-le (zero ∷ l) = omega (arith, zeros-le l)
-zeros-le (suc x ∷ l) = omega (arith, zeros-le l)
 
 -- there are at most as many ungrouped corners as rows
 pub ungrouped-le : (rows : ℕ) (w : List ℕ) → columns * rows ≤ length w → ungrouped rows w ≤ rows

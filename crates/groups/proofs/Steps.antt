@@ -16,7 +16,8 @@ use Rattle.neighbors.specs.declared.Link.the-variants.{To, Nothing}
 use Rattle.neighbors.specs.Links.{linkOf}
 use Rattle.view.specs.Frame.{Only}
 use Rattle.view.proofs.Frame.{only-none, only-trans, only-more, only-run, only-put}
-use Rattle.groups.specs.Walk.{walkColumns, enter, Walk, walk, side, follow, corner, zeros, ungrouped, cleared, Ready, Steps}
+use Rattle.lists.specs.Zeros.{zeros}
+use Rattle.groups.specs.Walk.{walkColumns, enter, Walk, walk, side, follow, corner, ungrouped, cleared, Ready, Steps}
 use Rattle.groups.specs.declared.Entry.{Entry}
 use Rattle.groups.specs.declared.Entry.the-variants.{At, Stop}
 use Rattle.groups.proofs.Laws.{Grown, enter-grown, ungrouped-le}

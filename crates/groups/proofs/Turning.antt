@@ -36,7 +36,8 @@ use Rattle.view.specs.Frame.{outside, Only}
 use Rattle.view.specs.Links.{LinkWord}
 use Rattle.view.proofs.Frame.{only-none, only-trans, only-more, only-put, cell-kept}
 use Rattle.view.proofs.Rows.{row-lt, row-div, row-inj, at-inj, spot-row, spot-in, row-fits}
-use Rattle.groups.specs.Walk.{walkColumns, Walk, walk as walkOf, corner, zeros, ungrouped, State, started, begun, turn}
+use Rattle.lists.specs.Zeros.{zeros}
+use Rattle.groups.specs.Walk.{walkColumns, Walk, walk as walkOf, corner, ungrouped, State, started, begun, turn}
 use Rattle.groups.specs.Marks.{Place, Fixed, Stands, Faces, Marked, Starts, Grouped}
 use Rattle.groups.proofs.Entering.{Going}
 use Rattle.groups.proofs.Walking.{in-step, fan-le, walk-fuel}

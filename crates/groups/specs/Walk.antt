@@ -5,6 +5,7 @@ use mathlib.Core.Bool.{Bool, cond, not, _&&_}
 use mathlib.Core.List.{List, [], _∷_}
 use lib.ListN.{length}
 use lib.Dec.{eqb}
+use Rattle.lists.specs.Zeros.{zeros}
 use Rattle.table.specs.Table.{cell, put, column, filledTo}
 use Rattle.table.specs.Columns.{columns, vertexColumn, linkColumn, orientationColumn, anyColumn, groupColumn, metColumn, beginColumn}
 use Rattle.view.specs.Frame.{Only}
@@ -88,12 +89,6 @@ corner rows g v o (suc m) s t =
     goOn rows (corner rows g v o m) t (s .count)
     (enter rows t g v o (s .count) (s .work) .entry)
     (enter rows t g v o (s .count) (s .work) .work)
-
--- how many of a list's words are 0
-unfoldable pub zeros : List ℕ → ℕ
-zeros [] = zero
-zeros (zero ∷ l) = suc (zeros l)
-zeros (suc x ∷ l) = zeros l
 
 -- the ungrouped corners
 unfoldable pub ungrouped : ℕ → List ℕ → ℕ

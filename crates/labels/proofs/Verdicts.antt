@@ -13,7 +13,7 @@ use Rattle.definition.specs.Desk.{Row, shown}
 use Rattle.bits.specs.Single.{zeroᶠ}
 use Rattle.lists.specs.Every.{Each, each-none, each-some}
 use Rattle.laws.proofs.Verdict.{verdict-numbered, InTable}
-use Rattle.desk.specs.Verdict.{told}
+use Rattle.desk.specs.Verdict.{asVerdict}
 use Rattle.islands.specs.Nine.{nine, afterwards}
 use Rattle.labels.specs.declared.Labelled.{Labelled}
 use Rattle.mikktspace.specs.Alone.{deskVerdict, longestAnswer}
@@ -23,8 +23,8 @@ pub left-same : (r s : Labelled) (l w : List ℕ) → r ≡ s → left r l w ≡
 left-same r s l w e = ap (λ x. left x l w) e
 
 -- a refusal of the table: what the call leaves behind
-pub refused : (o : Option Row) (b : Bool) (z : Leaving) (l w : List ℕ) → (told o .number ≡ 0 → ⊥) → left (record { number = told o .number; place = told o .place; islands = 0 }) l w ≡ answered (afterwards o b) z l w
-unfolding told answered left afterwards
+pub refused : (o : Option Row) (b : Bool) (z : Leaving) (l w : List ℕ) → (asVerdict o .number ≡ 0 → ⊥) → left (record { number = asVerdict o .number; place = asVerdict o .place; islands = 0 }) l w ≡ answered (afterwards o b) z l w
+unfolding asVerdict answered left afterwards
 refused none b z l w h = absurd (h refl)
 refused (some r) b z l w h = refl
 

@@ -120,7 +120,7 @@ eq-cond : {X : Type 0} (b : Bool) (m x y : X) → (b ≡ false → x ≡ y) → 
 eq-cond true m x y f = refl
 eq-cond false m x y f = f refl
 
-going-eq : (P : Spot → Type 0) (F G : List Mark → Spot → List Mark) (ms : List Mark) → ((s : Spot) → P s → F ms s ≡ G ms s) → (o : Option Spot) → Each P o → going F ms o ≡ going G ms o
+pub going-eq : (P : Spot → Type 0) (F G : List Mark → Spot → List Mark) (ms : List Mark) → ((s : Spot) → P s → F ms s ≡ G ms s) → (o : Option Spot) → Each P o → going F ms o ≡ going G ms o
 unfolding going
 going-eq P F G ms e none each-none = refl
 going-eq P F G ms e (some s) (each-some h) = e s h

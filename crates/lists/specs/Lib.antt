@@ -2,3 +2,4 @@ pub mod Lists
 pub mod Loops
 pub mod Parts
 pub mod Every
+pub mod Zeros

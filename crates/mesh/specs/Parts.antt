@@ -3,12 +3,13 @@ use Prim.Native.Nat.{ℕ, _+_, _*_, _/_, _%_, _≤_}
 use mathlib.Core.Path.{_≡_}
 use mathlib.Core.Bool.{Bool, cond, _||_}
 use mathlib.Core.List.{List, []}
-use lib.Dec.{leb}
+use lib.Dec.{eqb, leb, ltb}
 use lib.ListN.{length, getD, take, drop}
 use lib.Ieee.{Float}
 use Rattle.definition.specs.Handed.{Handed, cornerCount}
 use Rattle.definition.specs.Limits.{faceLimit}
 use Rattle.definition.specs.Desk.{tooMany, misfit}
+use Rattle.mesh.specs.declared.Span.{Span}
 
 -- of 'face times 4 plus corner, one number': the face
 abbrev pub faceOf : ℕ → ℕ
@@ -40,3 +41,17 @@ caught mesh = tooMany (mesh .sizes) || misfit mesh
 -- 'a face number of F or above, or lists that 1 or 2 below would catch, get the empty part'
 unfoldable pub handedBack : ℕ → List Float → Handed → ℕ → List Float
 handedBack width xs mesh f = cond (caught mesh) [] (partOrNone width xs (mesh .sizes) f)
+
+-- how many numbers a corner has in a list: 0 stands for positions, 1 for normals, 2 for texture coordinates, and another number for no list
+unfoldable pub widthOf : ℕ → ℕ
+widthOf list = cond (ltb list 2) 3 (cond (eqb list 2) 2 0)
+
+-- a part of no numbers
+abbrev pub nowhere : Span
+nowhere = record { from = 0; count = 0 }
+
+-- where the part stands: behind the numbers of the corners before the face, and so many numbers as its corners have
+unfoldable pub spanOf : Handed → ℕ → ℕ → Span
+spanOf mesh list f =
+    cond (caught mesh || leb (length (mesh .sizes)) f) nowhere
+    (record { from = widthOf list * cornerCount (take f (mesh .sizes)); count = widthOf list * getD (mesh .sizes) f 0 })

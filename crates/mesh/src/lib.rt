@@ -19,6 +19,13 @@ pub struct FaceVertex {
     pub value: u32,
 }
 
+// Where a part of a list stands: the place of its first number, and how many numbers it has.
+#[repr(C)]
+pub struct Span {
+    pub from: usize,
+    pub count: usize,
+}
+
 impl FaceVertex {
     // The crate's debug panics, as bounds that always hold: the face's number is below 2 ^ 30 and the corner's below 4.
     pub fn new(face: u32, vertex: u32) -> Self
@@ -221,4 +228,42 @@ pub fn texture_of<'a>(
 {
     let stopped = caught(sizes, positions, normals, texture);
     unless(stopped, sizes, texture, 2, face)
+}
+
+// How many numbers a corner has in a list: 0 stands for positions, 1 for normals, 2 for texture coordinates, and another number for no list.
+fn width_of(list: u32) -> usize
+    ensures { λ r. ⌜ (r ≡ spec.widthOf list) × (r ≤ 3) ⌝ }
+{
+    if list < 2 {
+        return 3;
+    }
+    if list == 2 {
+        return 2;
+    }
+    0
+}
+
+// Where the part of a list that belongs to a face stands, for those who hold the list: the empty part at 0 for a face number of F or above, for lists that refusal 1 or 2 would catch, and in no list.
+pub fn span_of(
+    sizes: &[u8],
+    positions: &[f32],
+    normals: &[f32],
+    texture: &[f32],
+    list: u32,
+    face: usize,
+) -> Span
+    ensures { λ r. ⌜ r ≡ spec.spanOf (handed (now (sizes .entry)) (now (positions .entry)) (now (normals .entry)) (now (texture .entry))) list face ⌝ }
+{
+    if caught(sizes, positions, normals, texture) {
+        return Span { from: 0, count: 0 };
+    }
+    if sizes.len() <= face {
+        return Span { from: 0, count: 0 };
+    }
+    let width = width_of(list);
+    let from = width * corners_before(sizes, face);
+    Span {
+        from,
+        count: width * (sizes[face] as usize),
+    }
 }

@@ -13,7 +13,7 @@ use Rattle.definition.specs.Outcome.{Result, answered}
 use Rattle.table.specs.Columns.{columns, rowsOf}
 use Rattle.lists.specs.Every.{Each, each-none, each-some}
 use Rattle.laws.proofs.Verdict.{verdict-numbered, InTable}
-use Rattle.desk.specs.Verdict.{told}
+use Rattle.desk.specs.Verdict.{asVerdict}
 use Rattle.mikktspace.specs.declared.Outcome.{Outcome}
 use Rattle.mikktspace.specs.Contract.{left}
 
@@ -21,17 +21,17 @@ pub left-same : (r s : Outcome) (a w : List ℕ) → r ≡ s → left r a w ≡ 
 left-same r s a w e = ap (λ x. left x a w) e
 
 -- a refusal: what the call leaves behind
-pub refused : (o : Option Row) (z : Result) (a w : List ℕ) → (told o .number ≡ 0 → ⊥) → left (record { number = told o .number; place = told o .place; slots = 0 }) a w ≡ answered o z a w
-unfolding told answered left
+pub refused : (o : Option Row) (z : Result) (a w : List ℕ) → (asVerdict o .number ≡ 0 → ⊥) → left (record { number = asVerdict o .number; place = asVerdict o .place; slots = 0 }) a w ≡ answered o z a w
+unfolding asVerdict answered left
 refused none z a w h = absurd (h refl)
 refused (some r) z a w h = refl
 
 -- a number of 0 is no refusal
-pub no-refusal : (x : Shown) → told (verdict x) .number ≡ 0 → verdict x ≡ none
-unfolding told
+pub no-refusal : (x : Shown) → asVerdict (verdict x) .number ≡ 0 → verdict x ≡ none
+unfolding asVerdict
 no-refusal x e = go (verdict x) (verdict-numbered x) e
   where
-    go : (o : Option Row) → Each InTable o → told o .number ≡ 0 → o ≡ none
+    go : (o : Option Row) → Each InTable o → asVerdict o .number ≡ 0 → o ≡ none
     go none each-none e = refl
     go (some r) (each-some f) e = let g = f .known .0 in absurd (omega arith)
 

@@ -43,6 +43,10 @@ and-mid true false true = refl
 and-mid true false false = refl
 and-mid false b c = refl
 
+-- two sides with the same two ends: by their starts
+pub same-end : (x y x′ y′ : ℕ) → min x y ≡ min x′ y′ → max x y ≡ max x′ y′ → x ≡ x′ → y ≡ y′
+same-end x y x′ y′ l h e = omega arith
+
 pub start-end : (x y x′ y′ : ℕ) → min x y ≡ min x′ y′ → max x y ≡ max x′ y′ → (x ≡ x′ → ⊥) → x ≡ y′
 start-end x y x′ y′ l h d = omega arith
 

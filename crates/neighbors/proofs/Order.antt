@@ -31,7 +31,7 @@ use Rattle.view.proofs.Lists.{bool-iff, and-both, index-every}
 use Rattle.view.proofs.Rows.{row-is, tri-lt, row-lt, spot-is, spot-in, spots-rows}
 use Rattle.neighbors.specs.Links.{sameEnds as wordEnds, turn}
 use Rattle.neighbors.specs.Sides.{Sides, Ordered}
-use Rattle.neighbors.proofs.Mates.{start-end, end-start, all-links}
+use Rattle.neighbors.proofs.Mates.{same-end, start-end, end-start, all-links}
 
 -- ---- equal ends
 
@@ -41,11 +41,8 @@ same-ends x y x′ y′ =
     (λ e. there (eqb-true (min x y) (min x′ y′) (and-left (eqb (min x y) (min x′ y′)) (eqb (max x y) (max x′ y′)) e)) (eqb-true (max x y) (max x′ y′) (and-right (eqb (min x y) (min x′ y′)) (eqb (max x y) (max x′ y′)) e)) (eqb x x′) refl)
     (λ e. back (eqb x x′ && eqb y y′) refl e)
   where
-    second : (x y x′ y′ : ℕ) → min x y ≡ min x′ y′ → max x y ≡ max x′ y′ → x ≡ x′ → y ≡ y′
-    second x y x′ y′ l h e = omega arith
-
     there : min x y ≡ min x′ y′ → max x y ≡ max x′ y′ → (b : Bool) → eqb x x′ ≡ b → (b && eqb y y′ || eqb x y′ && eqb y x′) ≡ true
-    there l h true e = ap (λ b. b || eqb x y′ && eqb y x′) (eq-eqb y y′ (second x y x′ y′ l h (eqb-true x x′ e)))
+    there l h true e = ap (λ b. b || eqb x y′ && eqb y x′) (eq-eqb y y′ (same-end x y x′ y′ l h (eqb-true x x′ e)))
     there l h false e =
         let p = start-end x y x′ y′ l h (eqb-false x x′ e) in
         and-both (eqb x y′) (eqb y x′) (eq-eqb x y′ p) (eq-eqb y x′ (end-start x y x′ y′ l h p))

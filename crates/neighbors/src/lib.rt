@@ -1,5 +1,5 @@
 // The side beyond each side: step 5 on the columns of the work list, by a sort and then a number of steps that is linear in the sides.
-// Carried over from mikktspace.rs (build_neighbors_fast) of the Rust crate bevy_mikktspace and ALTERED: written anew in Rattle. See NOTICE.
+// Carried over from mikktspace.rs (build_neighbors) of the Rust crate bevy_mikktspace and ALTERED: written anew in Rattle. See NOTICE.
 ghost use mathlib.Core.Path.{_≡_};
 ghost use mathlib.Core.List.{List, [], _∷_};
 ghost use Prim.Native.Nat.{ℕ, _*_, _≤_, _<_, min, max};

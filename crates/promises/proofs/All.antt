@@ -7,6 +7,7 @@ use Rattle.promises.proofs.Demand3 as Demand3
 use Rattle.promises.proofs.Directions as Directions
 use Rattle.promises.proofs.Impostors as Impostors
 use Rattle.promises.proofs.Faithful as Faithful
+use Rattle.promises.proofs.FaceParts as FaceParts
 use Rattle.promises.proofs.OwnLinks as OwnLinks
 use Rattle.promises.proofs.OwnColumns as OwnColumns
 use Rattle.promises.proofs.TwoWalks as TwoWalks
@@ -32,6 +33,7 @@ all-promised =
       directions = Directions.directions;
       impostors = Impostors.impostors;
       faithful = Faithful.faithful;
+      face-parts = FaceParts.face-parts;
       own-links = OwnLinks.own-links;
       own-columns = OwnColumns.own-columns;
       same-members = TwoWalks.same-members;

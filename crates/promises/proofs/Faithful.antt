@@ -9,7 +9,7 @@ use mathlib.Core.Option.{Option, none, some}
 use lib.ListN.{length, getD}
 use lib.Ieee.{Float}
 use Rattle.lists.specs.Lists.{has, run}
-use Rattle.lists.specs.Every.{Each, each-none, each-some, Every, every-nil, every-cons}
+use Rattle.lists.specs.Every.{Each, Every, every-nil, every-cons}
 use Rattle.definition.specs.declared.Corner.{Corner}
 use Rattle.definition.specs.declared.Triangle.{Triangle}
 use Rattle.definition.specs.Mesh.{Spot, prior, before, cornerOf}
@@ -20,7 +20,7 @@ use Rattle.definition.specs.Step6Groups.{Mark, grouped, stops, overTo, over, go
 use Rattle.definition.specs.Step7Sums.{broughtAll}
 use Rattle.definition.specs.Frames.{numbered, framesFrom, framesOf, frames}
 use Rattle.definition.specs.Shuffle.{Shuffle, cornersOf, shares}
-use Rattle.laws.proofs.Enough.{Near, enough, open-fan}
+use Rattle.laws.proofs.Enough.{Near, going-eq, enough, open-fan}
 use Rattle.laws.proofs.Closed.{Between, spots-whole, links-sound, over-near}
 use Rattle.laws.proofs.Weld.{welded-refl}
 use Rattle.laws.proofs.Mutual.{every-at}
@@ -34,11 +34,6 @@ use Rattle.promises.specs.Faithful.{allTriangles, soundTriangles, sorted
 use Rattle.promises.proofs.Demand3.{left-is}
 
 -- ---- links that lead to the same sides give the same marks
-
-going-eq : (P : Spot → Type 0) (F G : List Mark → Spot → List Mark) (ms : List Mark) → ((s : Spot) → P s → F ms s ≡ G ms s) → (o : Option Spot) → Each P o → going F ms o ≡ going G ms o
-unfolding going
-going-eq P F G ms e none each-none = refl
-going-eq P F G ms e (some s) (each-some h) = e s h
 
 module _ (ss : List Triangle) (ls ks : List Link) (B : Between ss ls) (same : (s : Spot) → List·Memᴰ s (spots ss) → beyond ks s ≡ beyond ls s) where
   -- the corner before one of the triangles' is one of theirs

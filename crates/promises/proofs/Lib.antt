@@ -25,5 +25,6 @@ pub mod Labels
 pub mod Examiner
 pub mod OwnGiven
 pub mod ThreeSides
+pub mod FaceParts
 pub mod Faithful
 pub mod All

@@ -6,6 +6,7 @@ use Rattle.promises.specs.Demand3 as Demand3
 use Rattle.promises.specs.Directions as Directions
 use Rattle.promises.specs.Impostors as Impostors
 use Rattle.promises.specs.Faithful as Faithful
+use Rattle.promises.specs.FaceParts as FaceParts
 use Rattle.promises.specs.OwnLinks as OwnLinks
 use Rattle.promises.specs.OwnColumns as OwnColumns
 use Rattle.promises.specs.TwoWalks as TwoWalks
@@ -32,6 +33,8 @@ pub record AllPromised : Type 1 where
   pub impostors : Impostors.Promised
   -- what joins the definition to document 01's own words
   pub faithful : Faithful.Promised
+  -- the part of a list that belongs to a face
+  pub face-parts : FaceParts.Promised
   -- links, groups and orientations (E11), in the definition and in the columns
   pub own-links : OwnLinks.Promised
   pub own-columns : OwnColumns.Promised

@@ -19,5 +19,6 @@ pub mod Islands
 pub mod Labels
 pub mod Examiner
 pub mod ThreeSides
+pub mod FaceParts
 pub mod Faithful
 pub mod All

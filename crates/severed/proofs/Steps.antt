@@ -18,7 +18,9 @@ use Rattle.neighbors.specs.Sides.{endRow}
 use Rattle.asked.specs.Lowest.{None, Lowest}
 use Rattle.asked.specs.Links.{Equal, Leads, LinksFit, Wide}
 use Rattle.asked.specs.Groups.{groupWord, Together, Connected, Way, after, before, Severed}
-use Rattle.severed.specs.Walk.{Adds, NextIs, Going, Walked, Marked, WayTo, Still, GoingIn, Goes, WalksGroup, Firsts, WalksTo, TurnsAt, zeros, unmarked}
+use Rattle.lists.specs.Zeros.{zeros}
+use Rattle.lists.proofs.Zeros.{zeros-set}
+use Rattle.severed.specs.Walk.{Adds, NextIs, Going, Walked, Marked, WayTo, Still, GoingIn, Goes, WalksGroup, Firsts, WalksTo, TurnsAt, unmarked}
 use Rattle.asked.proofs.Rows.{not-lt}
 use Rattle.asked.proofs.Fits.{same-unless}
 use Rattle.asked.proofs.Ways.{end-one, way-one, together-back}
@@ -90,16 +92,6 @@ module _ (n : ℕ) (L : List ℕ) where
 
 -- ---- a mark
 
--- a store of a number that is no 0 over a 0 leaves one 0 less
-zeros-less : (l : List ℕ) (i v : ℕ) → i < length l → getD l i 0 ≡ 0 → 0 < v → suc (zeros (set l i v)) ≡ zeros l
-unfolding zeros
-zeros-less [] i v h z p = absurd (omega arith)
-zeros-less (x ∷ l) zero zero h z p = absurd (omega arith)
-zeros-less (zero ∷ l) zero (suc v) h z p = refl
-zeros-less (suc x ∷ l) zero (suc v) h z p = absurd (omega arith)
-zeros-less (zero ∷ l) (suc i) v h z p = ap suc (zeros-less l i v (omega arith) z p)
-zeros-less (suc x ∷ l) (suc i) v h z p = zeros-less l i v (omega arith) z p
-
 module _ (rows x : ℕ) (w : List ℕ) (h : x < rows) (long : columns * rows ≤ length w) where
   pub mark-adds : Adds (Marked rows w) (Marked rows (put rows nextColumn x 1 w)) x
   mark-adds =
@@ -117,7 +109,7 @@ module _ (rows x : ℕ) (w : List ℕ) (h : x < rows) (long : columns * rows ≤
 
   pub fewer : cell rows nextColumn x w ≡ 0 → unmarked rows (put rows nextColumn x 1 w) < unmarked rows w
   unfolding unmarked
-  fewer z = omega (arith, ap zeros (column-set rows nextColumn nextColumn x 1 w h), zeros-less (column rows nextColumn w) x 1 (omega (arith, length-column rows w nextColumn (omega arith))) (getD-column rows w nextColumn x h ∙ z) (omega arith))
+  fewer z = omega (arith, ap zeros (column-set rows nextColumn nextColumn x 1 w h), zeros-set (column rows nextColumn w) x 1 (omega (arith, length-column rows w nextColumn (omega arith))) (getD-column rows w nextColumn x h ∙ z) (omega arith))
 
 -- ---- the walk
 

@@ -3,6 +3,7 @@ use Prim.Native.Nat.{ℕ, zero, suc, _+_, _*_, _≤_, _<_}
 use mathlib.Core.Path.{_≡_}
 use mathlib.Core.Bool.{Bool, true, false, not}
 use mathlib.Core.List.{List, [], _∷_}
+use Rattle.lists.specs.Zeros.{zeros}
 use Rattle.table.specs.Table.{cell, column}
 use Rattle.table.specs.Columns.{nextColumn, headColumn}
 use Rattle.asked.specs.Lowest.{Lowest}
@@ -82,12 +83,6 @@ pub record Goes (rows n : ℕ) (L G : List ℕ) (b : Bool) (x y : ℕ) (w u : Li
 -- a group whose lowest row is f is walked
 pub record WalksGroup (rows n : ℕ) (L G : List ℕ) (f : ℕ) (w u : List ℕ) : Type 0 where
   pub walks : (vertex : ℕ → ℕ) → LinksFit (3 * n) (Equal vertex) L → ((e : ℕ) → e < f → Together G e f → ⊥) → Walked n L G (Marked rows w) f → Walked n L G (Marked rows u) (f + 1)
-
--- how many of a list's words are 0
-unfoldable pub zeros : List ℕ → ℕ
-zeros [] = zero
-zeros (zero ∷ l) = suc (zeros l)
-zeros (suc x ∷ l) = zeros l
 
 -- the unmarked corners
 unfoldable pub unmarked : ℕ → List ℕ → ℕ

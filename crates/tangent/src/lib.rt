@@ -9,12 +9,12 @@ pub struct RawTangentSpace {
     // Normalized first order face derivatives,
     pub s: Vec3,
     pub t: Vec3,
-    // and their magnitudes before that.
+    // and the magnitudes of the triangles behind them, weighted by their angles; not the lengths of s and t before they were normalized.
     pub s_magnitude: f32,
     pub t_magnitude: f32,
 }
 
-// What a corner has: nothing, one tangent space, or several that were combined; with its orientation.
+// What a corner has: nothing, one tangent space, or two that were combined; with its orientation.
 pub enum Reading {
     Absent,
     Single(RawTangentSpace, bool),

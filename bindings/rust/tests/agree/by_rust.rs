@@ -182,9 +182,27 @@ fn packs(case: &Case, lines: &mut Lines) {
     }
 }
 
+/// A part of a list: where it stands in the list, by its address, and how many numbers it has.
+fn part<const N: usize>(lines: &mut Lines, list: u32, all: &[[f32; N]], part: &[[f32; N]]) {
+    let from = (part.as_ptr().addr() - all.as_ptr().addr()) / 4;
+    lines.said("part", list, from, N * part.len());
+}
+
+/// The parts of the lists that belong to each face, and to one past the last; and of no list.
+fn parts(case: &Case, lines: &mut Lines) {
+    let mesh = case.faces.mesh();
+    for face in 0..=mesh.sizes.len() {
+        part(lines, 0, mesh.positions, mesh.positions_of(face));
+        part(lines, 1, mesh.normals, mesh.normals_of(face));
+        part(lines, 2, mesh.texture, mesh.texture_of(face));
+        lines.said("part", 3, 0, 0);
+    }
+}
+
 /// The lines of a case.
 pub fn case(case: &Case, buffers: &mut Buffers, lines: &mut Lines) {
     let (mesh, threshold) = (case.faces.mesh(), case.threshold);
+    parts(case, lines);
     answer(lines, "frames", case, buffers.frames(mesh, threshold));
     let by = buffers.frames_by_islands(mesh, threshold);
     answer(lines, "by islands", case, by);

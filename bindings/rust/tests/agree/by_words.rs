@@ -27,6 +27,16 @@ fn mesh(case: &Case) -> Mesh<'_> {
     }
 }
 
+/// The parts of the lists that belong to each face, and to one past the last; and of no list.
+fn parts(case: &Case, lines: &mut Lines) {
+    for face in 0..=case.faces.sizes.len() {
+        for list in 0..4 {
+            let span = archive::part(mesh(case), list, face);
+            lines.said("part", list, span.from, span.count);
+        }
+    }
+}
+
 /// Frames, in one call and by islands.
 fn frames(case: &Case, lines: &mut Lines) {
     let (mut answer, mut work) = (vec![0; 640], vec![0; WORK]);
@@ -150,6 +160,7 @@ fn packs(case: &Case, lines: &mut Lines) {
 
 /// The lines of a case.
 pub fn case(case: &Case, lines: &mut Lines) {
+    parts(case, lines);
     frames(case, lines);
     labels(case, lines);
     links(case, lines);

@@ -103,6 +103,18 @@ static void slots(const uint32_t *all, size_t count)
     }
 }
 
+/* The parts of the lists that belong to each face, and to one past the last; and of no list. */
+static void parts(void)
+{
+    size_t face;
+    uint32_t list;
+    for (face = 0; face <= in.faces; face++)
+        for (list = DOKPHALUN_POSITIONS; list <= DOKPHALUN_TEXTURE + 1; list++) {
+            struct dokphalun_span span = dokphalun_part(MESH, list, face);
+            said("part", list, span.from, span.count);
+        }
+}
+
 /* Frames, in one call and by islands, and the islands. */
 static void frames(void)
 {
@@ -198,6 +210,7 @@ int main(void)
 {
     said("archive", dokphalun_interface(), dokphalun_slot_words(), 0);
     while (take_case()) {
+        parts();
         frames();
         hung();
         cards();

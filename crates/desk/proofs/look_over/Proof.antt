@@ -9,7 +9,7 @@ use lib.ListN.{length, getD, take, drop}
 use lib.Seq.{take-all}
 use Rattle.definition.specs.Handed.{cornerCount, slotCount}
 use Rattle.mesh.proofs.Counts.{corners-more, corners-none, slots-more, slots-none}
-use Rattle.desk.specs.declared.Found.{Found}
+use Rattle.desk.specs.declared.FirstBad.{FirstBad}
 use Rattle.desk.specs.Verdict.{found, unlessFound}
 use Rattle.desk.proofs.Bad.{inFaces, at-once, at-last, face-more, past-end}
 use Rattle.desk.proofs.look_over.Statement.{statement}
@@ -50,7 +50,7 @@ loop-again c =
       omega arith,
       ap (λ (n : ℕ). n + getD sizes (l .f) 0) (l .inv .4) ∙ sym (corners-more sizes (l .f) h),
       (λ i. l .inv .5 i + c .slots-of .ensures .0 i) ∙ sym (slots-more sizes (l .f) h),
-      ap (λ (x : Found). unlessFound x (inFaces (a .positions .now) (a .normals .now) (a .texture .now) (l .corners + getD sizes (l .f) 0) (drop (l .f + 1) sizes))) (b .bad-by-now .ensures)
+      ap (λ (x : FirstBad). unlessFound x (inFaces (a .positions .now) (a .normals .now) (a .texture .now) (l .corners + getD sizes (l .f) 0) (drop (l .f + 1) sizes))) (b .bad-by-now .ensures)
           ∙ face-more (a .positions .now) (a .normals .now) (a .texture .now) sizes (l .bad) (l .f) (l .corners) h
           ∙ l .inv .6,
     )
