@@ -10,6 +10,7 @@ use Rattle.promises.proofs.Faithful as Faithful
 use Rattle.promises.proofs.FaceParts as FaceParts
 use Rattle.promises.proofs.OwnLinks as OwnLinks
 use Rattle.promises.proofs.OwnColumns as OwnColumns
+use Rattle.promises.proofs.Moments as Moments
 use Rattle.promises.proofs.TwoWalks as TwoWalks
 use Rattle.promises.proofs.NarrowAngles as NarrowAngles
 use Rattle.promises.proofs.Cosines as Cosines
@@ -36,6 +37,7 @@ all-promised =
       face-parts = FaceParts.face-parts;
       own-links = OwnLinks.own-links;
       own-columns = OwnColumns.own-columns;
+      every-moment = Moments.at-every-moment;
       same-members = TwoWalks.same-members;
       same-words = TwoWalks.same-words;
       narrow-angles = NarrowAngles.narrow-angles;

@@ -2,19 +2,20 @@
 use Prim.Native.Nat.{ℕ, zero, suc, _+_, _*_, _/_, _≤_, _<_}
 use native.Mathlib.Omega.{arith}
 use mathlib.Core.Path.{_≡_, refl, sym, ap, _∙_, subst}
-use mathlib.Core.Bool.{Bool, true, false}
+use mathlib.Core.Bool.{Bool, true, false, true≢false}
 use mathlib.Core.Logic.{_⊎_, inl, inr}
 use mathlib.Core.List.{List, [], _++_, append-nil}
 use lib.ListN.{length, getD, take, drop, replicate, length-append}
 use lib.Seq.{take-append-le, take-all, drop-at, drop-nil}
 use lib.Dec.{leb}
-use borrow.Author.Tests.{leb-true, leb-false, le-ltb}
+use borrow.Author.Tests.{leb-true, leb-false, le-ltb, ltb-true, ltb-false}
 use Rattle.lists.specs.Parts.{everyBelow, joined, part}
 use Rattle.words.specs.Words.{Fit}
-use Rattle.blocks.specs.Format.{blockBytes, recordWords, recordsHeld, blocksFor, recordsUsed, recordsIn}
+use Rattle.blocks.specs.Format.{blockBytes, recordWords, recordsHeld, roomWords, blocksFor, recordsUsed, usedWords, recordsIn, blockOf}
 use Rattle.cards.specs.Writer.{recordsOf, writable, cardBytes, blocksOf, cardOf}
 use Rattle.cards.specs.Reader.{blocksThere, bytesPast}
-use Rattle.lists.proofs.Parts.{length-zeros, part-front, part-whole}
+use Rattle.lists.proofs.Parts.{length-zeros, length-part, joined-split, part-front, part-middle, part-whole}
+use Rattle.blocks.proofs.Stored.{length-block-bytes}
 use Rattle.blocks.proofs.Counts.{words-are, used-le, used-one, called}
 use Rattle.blocks.proofs.Judged.{good-none, read-lost}
 use Rattle.blocks.proofs.Same.{same-read}
@@ -25,12 +26,12 @@ use Rattle.appends.specs.Next.{overfull, firstTorn, placeOf}
 use Rattle.appends.specs.Append.{appendLeft, areNext, blocksFrom, notAdded, nowAdded}
 use Rattle.appends.specs.File.{patched}
 use Rattle.appends.specs.Contract.{afterNext, afterAppend}
-use Rattle.appends.proofs.Counts.{NextRecords, follows, follow-is, one-next, length-from}
+use Rattle.appends.proofs.Counts.{NextRecords, follows, follow-is, one-next, next-words, next-fit, length-from}
 use Rattle.appends.proofs.Outcomes.{following-by, added-1, added-2, added-3, added-by}
 use Rattle.appends.proofs.Runs.{Begins, begins-is, begins-cut, card-split, append-begins}
 use Rattle.promises.specs.Cards.{CardRead}
 use Rattle.promises.proofs.Cards.{left-of, block-read}
-use Rattle.promises.specs.Appends.{Appending, AskingNext, NextOf, TankWalk, start, more, cut, CardFinds, Unmade, BlocksMade, AppendsPromised}
+use Rattle.promises.specs.Appends.{Appending, AskingNext, NextOf, TankWalk, start, more, cut, CardFinds, WhyNot, unwritable, too-short, too-long, not-next, Unmade, BlocksMade, NoNext, NextTold, AppendsPromised}
 
 -- an appending that was accepted
 record Accepted (long n : ℕ) (rs c : List ℕ) (a : Appending long n rs c) : Type 0 where
@@ -40,71 +41,100 @@ record Accepted (long n : ℕ) (rs c : List ℕ) (a : Appending long n rs c) : T
   next : areNext n (firstTorn long) (recordsOf rs) ≡ true
   left : afterAppend (a .returned) (a .lent) ≡ nowAdded n long rs c
 
--- a refusal
-record Refused (long n : ℕ) (rs c : List ℕ) (a : Appending long n rs c) : Type 0 where
-  number : ℕ
-  first : 1 ≤ number
-  last : number ≤ 4
-  left : afterAppend (a .returned) (a .lent) ≡ notAdded number c
-
--- which of the two it is
-by : (long n : ℕ) (rs c : List ℕ) (a : Appending long n rs c) → Refused long n rs c a ⊎ Accepted long n rs c a
+-- which of the two it is: a refusal, with its ground, or accepted
+by : (long n : ℕ) (rs c : List ℕ) (a : Appending long n rs c) → Unmade long n rs c a ⊎ Accepted long n rs c a
+unfolding afterAppend notAdded overfull firstTorn cardBytes
 by long n rs c a = first (writable rs) refl
   where
-    refusal : (k : ℕ) → 1 ≤ k → k ≤ 4 → appendLeft n long rs c ≡ notAdded k c → Refused long n rs c a ⊎ Accepted long n rs c a
-    refusal k p q e = inl (record { number = k; first = p; last = q; left = a .meets ∙ e })
+    refusal : (k : ℕ) → (a .returned .number ≡ k → WhyNot long n rs c (a .returned .number)) → appendLeft n long rs c ≡ notAdded k c → Unmade long n rs c a ⊎ Accepted long n rs c a
+    refusal k why e =
+        let f = a .meets ∙ e in
+        inl (record { why = why (λ i. f i .number); blocks = λ i. f i .blocks; at = λ i. f i .at; lent = λ i. f i .lent })
 
-    fourth : (x : Bool) → writable rs ≡ true → cardBytes (recordsOf rs) ≤ length c → overfull n long ≡ false → areNext n (firstTorn long) (recordsOf rs) ≡ x → Refused long n rs c a ⊎ Accepted long n rs c a
+    fourth : (x : Bool) → writable rs ≡ true → cardBytes (recordsOf rs) ≤ length c → overfull n long ≡ false → areNext n (firstTorn long) (recordsOf rs) ≡ x → Unmade long n rs c a ⊎ Accepted long n rs c a
     fourth true p q r s = inr (record { can = p; room = q; within = r; next = s; left = a .meets ∙ added-by n long rs c p q r true s })
-    fourth false p q r s = refusal 4 (omega arith) (omega arith) (added-by n long rs c p q r false s)
+    fourth false p q r s =
+        refusal 4
+        (not-next p q (ltb-false (blockBytes * blocksFor n) long r) (λ k. true≢false (sym (follow-is n (long / blockBytes) (recordsOf rs) (record { some = k .0; kind = k .1 })) ∙ s)))
+        (added-by n long rs c p q r false s)
 
-    third : (x : Bool) → writable rs ≡ true → cardBytes (recordsOf rs) ≤ length c → overfull n long ≡ x → Refused long n rs c a ⊎ Accepted long n rs c a
-    third true p q r = refusal 3 (omega arith) (omega arith) (added-3 n long rs c p q r)
+    third : (x : Bool) → writable rs ≡ true → cardBytes (recordsOf rs) ≤ length c → overfull n long ≡ x → Unmade long n rs c a ⊎ Accepted long n rs c a
+    third true p q r = refusal 3 (too-long p q (ltb-true (blockBytes * blocksFor n) long r)) (added-3 n long rs c p q r)
     third false p q r = fourth (areNext n (firstTorn long) (recordsOf rs)) p q r refl
 
-    second : (x : Bool) → writable rs ≡ true → leb (cardBytes (recordsOf rs)) (length c) ≡ x → Refused long n rs c a ⊎ Accepted long n rs c a
+    second : (x : Bool) → writable rs ≡ true → leb (cardBytes (recordsOf rs)) (length c) ≡ x → Unmade long n rs c a ⊎ Accepted long n rs c a
     second true p q = third (overfull n long) p (leb-true (cardBytes (recordsOf rs)) (length c) q) refl
-    second false p q = refusal 2 (omega arith) (omega arith) (added-2 n long rs c p (leb-false (cardBytes (recordsOf rs)) (length c) q))
+    second false p q =
+        let l = leb-false (cardBytes (recordsOf rs)) (length c) q in
+        refusal 2 (too-short p l) (added-2 n long rs c p l)
 
-    first : (x : Bool) → writable rs ≡ x → Refused long n rs c a ⊎ Accepted long n rs c a
+    first : (x : Bool) → writable rs ≡ x → Unmade long n rs c a ⊎ Accepted long n rs c a
     first true p = second (leb (cardBytes (recordsOf rs)) (length c)) p refl
-    first false p = refusal 1 (omega arith) (omega arith) (added-1 n long rs c p)
+    first false p = refusal 1 (unwritable p) (added-1 n long rs c p)
+
+-- no ground is there for the number 0
+no-ground : (long n : ℕ) (rs c : List ℕ) (k : ℕ) → k ≡ 0 → WhyNot long n rs c k → ⊥
+no-ground long n rs c k z (unwritable p e) = omega arith
+no-ground long n rs c k z (too-short p q e) = omega arith
+no-ground long n rs c k z (too-long p q r e) = omega arith
+no-ground long n rs c k z (not-next p q r s e) = omega arith
 
 accepted : (long n : ℕ) (rs c : List ℕ) (a : Appending long n rs c) → a .returned .number ≡ 0 → Accepted long n rs c a
-unfolding afterAppend notAdded
 accepted long n rs c a z = go (by long n rs c a)
   where
-    go : Refused long n rs c a ⊎ Accepted long n rs c a → Accepted long n rs c a
+    go : Unmade long n rs c a ⊎ Accepted long n rs c a → Accepted long n rs c a
     go (inr p) = p
-    go (inl r) =
-        let e = r .left in
-        let number : a .returned .number ≡ r .number = λ i. e i .number in
-        absurd (omega (arith, r .first, z, number))
+    go (inl u) = absurd (no-ground long n rs c (a .returned .number) z (u .why))
 
 -- how long the blocks of an accepted one are
 long-from : (long n : ℕ) (rs c : List ℕ) (a : Appending long n rs c) → Accepted long n rs c a → length (blocksFrom n (firstTorn long) rs) ≡ blockBytes * blocksFor (recordsOf rs)
 unfolding blocksFrom
 long-from long n rs c a p = length-from n (firstTorn long) rs (follows n (firstTorn long) (recordsOf rs) (p .next)) (blocksFor (recordsOf rs)) (omega arith)
 
+-- block i of them
+one-of : (n b : ℕ) (rs : List ℕ) (i : ℕ) → NextRecords n b (recordsOf rs) → i < blocksFor (recordsOf rs) → part (blockBytes * i) blockBytes (blocksFrom n b rs) ≡ blockOf n (b + i) (recordsIn (recordsOf rs) i rs)
+unfolding blocksFrom recordsIn
+one-of n b rs i f h =
+    ap (part (blockBytes * i) blockBytes) (s .1)
+    ∙ (ap (λ (p : ℕ). part p blockBytes (joined i B ++ (B i ++ s .0))) at
+    ∙ (part-middle (joined i B) (B i) (s .0) (blockBytes * i) 0 blockBytes (length-from n b rs f i (omega (arith, h))) (omega (arith, own))
+    ∙ (part-whole (B i) blockBytes own ∙ ap (λ (k : ℕ). blockOf n (b + i) (part (roomWords * i) k rs)) (next-words n b (recordsOf rs) i f h))))
+  where
+    B : ℕ → List ℕ
+    B k = blockOf n (b + k) (part (roomWords * k) (usedWords n (b + k)) rs)
+
+    s : (rest : List ℕ) × (joined (blocksFor (recordsOf rs)) B ≡ joined i B ++ (B i ++ rest))
+    s = joined-split (blocksFor (recordsOf rs)) i B h
+
+    at : blockBytes * i ≡ blockBytes * i + 0
+    at = omega arith
+
+    own : length (B i) ≡ blockBytes
+    own = length-block-bytes n (b + i) (part (roomWords * i) (usedWords n (b + i)) rs) (length-part (roomWords * i) (usedWords n (b + i)) rs (next-fit n b rs f i h))
+
 made : (long n : ℕ) (rs c : List ℕ) (a : Appending long n rs c) → Unmade long n rs c a ⊎ BlocksMade long n rs c a
-unfolding afterAppend notAdded nowAdded placeOf firstTorn cardBytes
+unfolding afterAppend nowAdded placeOf firstTorn overfull cardBytes
 made long n rs c a = go (by long n rs c a)
   where
-    go : Refused long n rs c a ⊎ Accepted long n rs c a → Unmade long n rs c a ⊎ BlocksMade long n rs c a
-    go (inl r) =
-        let e = r .left in
-        let number : a .returned .number ≡ r .number = λ i. e i .number in
-        inl (record { number = (omega (arith, r .first, number), omega (arith, r .last, number)); lent = λ i. e i .lent })
+    go : Unmade long n rs c a ⊎ Accepted long n rs c a → Unmade long n rs c a ⊎ BlocksMade long n rs c a
+    go (inl r) = inl r
     go (inr p) =
         let e = p .left in
         let k = blocksFor (recordsOf rs) in
+        let f = follows n (long / blockBytes) (recordsOf rs) (p .next) in
         let blocks : a .returned .blocks ≡ k = λ i. e i .blocks in
         let lent : a .lent ≡ blocksFrom n (long / blockBytes) rs ++ drop (blockBytes * k) c = λ i. e i .lent in
+        let size = long-from long n rs c a p in
         inr (record {
+          can = p .can;
+          room = p .room;
+          within = ltb-false (blockBytes * blocksFor n) long (p .within);
+          next = (f .some, f .kind);
           number = λ i. e i .number;
           at = λ i. e i .at;
           blocks = blocks;
-          rest = (λ i. drop (blockBytes * blocks i) (lent i)) ∙ (drop-at (blocksFrom n (long / blockBytes) rs) (drop (blockBytes * k) c) (blockBytes * k) (long-from long n rs c a p) ∙ sym (ap (λ (x : ℕ). drop (blockBytes * x) c) blocks));
+          bytes = λ i h. ap (part (blockBytes * i) blockBytes) lent ∙ (part-front (blocksFrom n (long / blockBytes) rs) (drop (blockBytes * k) c) (blockBytes * i) blockBytes (omega (arith, h, size)) ∙ one-of n (long / blockBytes) rs i f h);
+          rest = (λ i. drop (blockBytes * blocks i) (lent i)) ∙ (drop-at (blocksFrom n (long / blockBytes) rs) (drop (blockBytes * k) c) (blockBytes * k) size ∙ sym (ap (λ (x : ℕ). drop (blockBytes * x) c) blocks));
         })
 
 -- what an accepted appending leaves on the file begins the card
@@ -261,6 +291,18 @@ module _ (l : List ℕ) (can : writable l ≡ true) where
           let k = leb-false m (blockBytes * blocksFor total) h in
           subst (TankWalk l) (take-all (blockBytes * blocksFor total) (cardOf l) (omega (arith, length-card l can)) ∙ sym (take-all m (cardOf l) (omega (arith, k, length-card l can)))) (reach (blockBytes * blocksFor total) (omega arith))
 
+asked : (long n : ℕ) (q : AskingNext long n) → NoNext long n q ⊎ NextTold long n q
+unfolding afterNext overfull firstTorn placeOf cardBytes
+asked long n q = go (overfull n long) refl
+  where
+    go : (x : Bool) → overfull n long ≡ x → NoNext long n q ⊎ NextTold long n q
+    go true h =
+        let e = q .meets ∙ following-by n long true h in
+        inl (record { why = ltb-true (blockBytes * blocksFor n) long h; number = λ i. e i .number; records = λ i. e i .records; at = λ i. e i .at })
+    go false h =
+        let e = q .meets ∙ following-by n long false h in
+        inr (record { within = ltb-false (blockBytes * blocksFor n) long h; number = λ i. e i .number; records = λ i. e i .records; at = λ i. e i .at })
+
 one-appending : (long n : ℕ) (rs c : List ℕ) (a b : Appending long n rs c) → (a .returned ≡ b .returned) × (a .lent ≡ b .lent)
 unfolding afterAppend
 one-appending long n rs c a b =
@@ -286,6 +328,7 @@ appends-promised =
       goes-on = λ l f c a can w h m. goes-on l f can w h c a m;
       asks = λ l f q can w. asks l f can w q;
       made = made;
+      asked = asked;
       one-appending = one-appending;
       one-asking = one-asking;
     }

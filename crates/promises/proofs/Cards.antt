@@ -1,31 +1,32 @@
 -- What is promised of cards holds: each from the contracts of the writer and the reader. Assumes nothing.
-use Prim.Native.Nat.{ℕ, _+_, _*_, _/_, _%_, _≤_, _<_}
+use Prim.Native.Nat.{ℕ, zero, suc, _+_, _*_, _/_, _%_, _≤_, _<_}
 use native.Mathlib.Omega.{arith}
 use mathlib.Core.Path.{_≡_, refl, sym, ap, _∙_, subst}
 use mathlib.Core.Bool.{Bool, true, false}
 use mathlib.Core.Logic.{_⊎_, inl, inr}
-use mathlib.Core.List.{List, _∷_, _++_, flatMap}
-use lib.ListN.{length, getD, take, drop, replicate, length-append}
+use mathlib.Core.List.{List, [], _∷_, _++_, flatMap}
+use lib.ListN.{length, getD, take, drop, replicate, length-append, List·getD-append}
 use lib.Seq.{take-at, drop-at}
 use lib.Dec.{leb, ltb}
-use borrow.Author.Tests.{leb-true, leb-false}
+use borrow.Author.Tests.{leb-true, leb-false, le-leb}
 use Rattle.lists.specs.Parts.{sumOf, joined, part}
 use Rattle.words.specs.Words.{wordValues, wordBytes, bytesOf, wordAt, Fit}
-use Rattle.lists.proofs.Parts.{joined-same, part-front}
-use Rattle.words.proofs.Words.{word-of, length-words}
-use Rattle.blocks.specs.Format.{blockBytes, blockWords, recordWords, recordsHeld, blocksFor, recordsUsed, usedWords, recordsIn, header, body, complement, checkWord, block, blockOf}
+use Rattle.lists.proofs.Parts.{every-all, joined-same, joined-split, part-front}
+use Rattle.words.proofs.Words.{word-of, length-words, same-word, fit-part}
+use Rattle.blocks.specs.Format.{blockBytes, blockWords, recordWords, recordsHeld, roomWords, blocksFor, recordsUsed, usedWords, recordsIn, header, body, complement, checkWord, block, blockOf}
 use Rattle.blocks.specs.Judged.{soundBlock, blockAt, good, lost, recordsRead}
 use Rattle.bits.proofs.Bools.{and-right}
-use Rattle.blocks.proofs.Counts.{block-of, place-of}
+use Rattle.blocks.proofs.Counts.{words-are, used-fits, called, block-of, place-of}
+use Rattle.blocks.proofs.Written.{written-good as sound-there}
 use Rattle.blocks.proofs.Judged.{read-lost}
 use Rattle.blocks.proofs.Changed.{one-word}
-use Rattle.blocks.proofs.Same.{same-read}
-use Rattle.cards.specs.Writer.{recordsOf, writable, cardBytes, cardOf, notWritten, cardWritten}
+use Rattle.blocks.proofs.Same.{same-good, same-read}
+use Rattle.cards.specs.Writer.{recordsOf, writable, cardBytes, blocksOf, cardOf, notWritten, cardWritten}
 use Rattle.cards.specs.Reader.{blocksThere, bytesPast, readings}
 use Rattle.cards.specs.Contract.{afterWrite, afterRead}
-use Rattle.cards.proofs.Lengths.{length-readings}
-use Rattle.cards.proofs.Outcomes.{whole-records, wrote-0, wrote-1, wrote-2, got-0, got-2}
-use Rattle.cards.proofs.Back.{block-back, all-back, length-card}
+use Rattle.cards.proofs.Lengths.{length-own, length-blocks, length-readings}
+use Rattle.cards.proofs.Outcomes.{whole-records, few-records, wrote-0, wrote-1, wrote-2, got-0, got-2}
+use Rattle.cards.proofs.Back.{marks, block-back, all-back, length-card}
 use Rattle.cards.proofs.Places.{block-place, record-kept, record-mark, record-lost}
 use Rattle.promises.specs.Cards as spec
 use Rattle.promises.specs.Cards.{Writing, CardRead, Unwritten, CardDone, Unread, OneWord, RecordKept, RecordLost, Bytes, recordAt, CardsPromised, sampleBytes}
@@ -51,15 +52,15 @@ written l c w = first (writable l) refl
 
 -- an accepted one
 done : (l c : List ℕ) (w : Writing l c) → w .returned .number ≡ 0 → CardDone l c w
-done l c w zero = go (written l c w)
+done l c w y = go (written l c w)
   where
     go : Unwritten l c w ⊎ CardDone l c w → CardDone l c w
     go (inr d) = d
     go (inl u) = absurd (other (u .number))
       where
         other : ((writable l ≡ false) × (w .returned .number ≡ 1)) ⊎ ((writable l ≡ true) × (length c < cardBytes (recordsOf l)) × (w .returned .number ≡ 2)) → ⊥
-        other (inl e) = omega (arith, zero, e .1)
-        other (inr e) = omega (arith, zero, e .2)
+        other (inl e) = omega (arith, y, e .1)
+        other (inr e) = omega (arith, y, e .2)
 
 -- an accepted reading: what it left
 pub record Left (bs : List ℕ) (n : ℕ) (a : List ℕ) (r : CardRead bs n a) : Type 0 where
@@ -81,11 +82,11 @@ read-by bs n a r = go (leb (recordWords * n) (length a)) refl
         inl (record { short = leb-false (recordWords * n) (length a) h; number = λ i. e i .number; past = λ i. e i .past; answer = λ i. e i .answer })
 
 pub left-of : (bs : List ℕ) (n : ℕ) (a : List ℕ) (r : CardRead bs n a) → r .returned .number ≡ 0 → Left bs n a r
-left-of bs n a r zero = go (read-by bs n a r)
+left-of bs n a r y = go (read-by bs n a r)
   where
     go : Unread bs n a r ⊎ ((r .returned .number ≡ 0) × Left bs n a r) → Left bs n a r
     go (inr g) = g .1
-    go (inl u) = absurd (omega (arith, zero, u .number))
+    go (inl u) = absurd (omega (arith, y, u .number))
 
 read : (bs : List ℕ) (n : ℕ) (a : List ℕ) (r : CardRead bs n a) → Unread bs n a r ⊎ spec.CardGot bs n a r
 read bs n a r = go (read-by bs n a r)
@@ -128,7 +129,7 @@ unfolding wordAt
 word-fits bs i h = omega (arith, h (4 * i), h (4 * i + 1), h (4 * i + 2), h (4 * i + 3))
 
 -- 'a block in which exactly one word was changed is always noticed'
-bad : (n b i : ℕ) (bs cs : List ℕ) → Bytes bs → Bytes cs → good n b bs ≡ true → OneWord b i bs cs → good n b cs ≡ false
+bad : (n b i : ℕ) (bs cs : List ℕ) → wordAt bs (blockWords * b + i) < wordValues → Bytes cs → good n b bs ≡ true → OneWord b i bs cs → good n b cs ≡ false
 unfolding good blockAt
 bad n b i bs cs f g h o = go (good n b cs) refl
   where
@@ -141,11 +142,69 @@ bad n b i bs cs f g h o = go (good n b cs) refl
     go : (x : Bool) → good n b cs ≡ x → good n b cs ≡ false
     go false e = e
     go true e =
-        absurd (one-word n b (blockAt b bs) i (wordAt cs (blockWords * b + i)) (length-words bs (blockWords * b) blockWords) (o .inside) (subst (λ (k : ℕ). k < wordValues) (sym at) (word-fits bs (blockWords * b + i) f)) (word-fits cs (blockWords * b + i) g)
+        absurd (one-word n b (blockAt b bs) i (wordAt cs (blockWords * b + i)) (length-words bs (blockWords * b) blockWords) (o .inside) (subst (λ (k : ℕ). k < wordValues) (sym at) f) (word-fits cs (blockWords * b + i) g)
         (λ p. o .other (p ∙ at)) (sound-of bs h) (ap (soundBlock n b) (sym (o .rest)) ∙ sound-of cs e))
 
 noticed : (n b i : ℕ) (bs cs a : List ℕ) (r : CardRead cs n a) → b < blocksFor n → Bytes bs → Bytes cs → good n b bs ≡ true → OneWord b i bs cs → r .returned .number ≡ 0 → recordsIn n b (r .answer) ≡ joined (recordsUsed n b) (λ _. lost)
-noticed n b i bs cs a r h f g k o z = block-read cs n b a r h z ∙ read-lost n b cs (bad n b i bs cs f g k o)
+noticed n b i bs cs a r h f g k o z = block-read cs n b a r h z ∙ read-lost n b cs (bad n b i bs cs (word-fits bs (blockWords * b + i) f) g k o)
+
+block-good : (n b : ℕ) (rs front after : List ℕ) → length rs ≡ usedWords n b → length front ≡ blockBytes * b → n < wordValues → b < wordValues → Fit rs → ((r : ℕ) → r < recordsUsed n b → getD rs (recordWords * r) 0 ≤ 1) → good n b (front ++ (blockOf n b rs ++ after)) ≡ true
+block-good n b rs front after own place h k f m = sound-there n b rs own front after place h k f (every-all (recordsUsed n b) (λ r. leb (getD rs (recordWords * r) 0) 1) (λ r l. le-leb (getD rs (recordWords * r) 0) 1 (m r l)))
+
+-- ---- a card that the writer wrote
+
+-- a block of it is that of the list of its blocks
+own-bytes : (l c : List ℕ) (b : ℕ) (w : Writing l c) → w .returned .number ≡ 0 → b < blocksFor (recordsOf l) → part (blockBytes * b) blockBytes (w .card) ≡ part (blockBytes * b) blockBytes (cardOf l)
+own-bytes l c b w y h =
+    let d = done l c w y in
+    ap (part (blockBytes * b) blockBytes) (d .card) ∙ part-front (cardOf l) (drop (cardBytes (recordsOf l)) c) (blockBytes * b) blockBytes (omega (arith, h, length-card l (d .can)))
+
+written-good : (l c : List ℕ) (b : ℕ) (w : Writing l c) → Fit l → w .returned .number ≡ 0 → b < blocksFor (recordsOf l) → good (recordsOf l) b (w .card) ≡ true
+unfolding cardOf blocksOf recordsIn
+written-good l c b w f y h =
+    let can = done l c w y .can in
+    let n = recordsOf l in
+    let s = joined-split (blocksFor n) b (λ k. blockOf n k (recordsIn n k l)) h in
+    let k = called n b h in
+    let whole = whole-records l can in
+    same-good n b (w .card) (cardOf l) (own-bytes l c b w y h)
+    ∙ (ap (good n b) (s .1)
+    ∙ sound-there n b (recordsIn n b l) (length-own n b l (omega (arith, whole)) k) (blocksOf b n l) (s .0) (length-blocks b n l (omega (arith, whole)) (omega (arith, h))) (few-records l can) (omega (arith, k, few-records l can))
+    (fit-part (roomWords * b) (usedWords n b) l (omega (arith, whole, words-are n b, used-fits n b k)) f) (marks l can b k))
+
+-- its bytes are bytes
+bytes-append : (l m : List ℕ) → Bytes l → Bytes m → Bytes (l ++ m)
+bytes-append [] m p q i = q i
+bytes-append (x ∷ l) m p q zero = p zero
+bytes-append (x ∷ l) m p q (suc i) = bytes-append l m (λ j. p (suc j)) q i
+
+bytes-of : (ws : List ℕ) → Bytes (bytesOf ws)
+unfolding bytesOf wordBytes flatMap
+bytes-of [] i = omega arith
+bytes-of (w ∷ ws) zero = omega arith
+bytes-of (w ∷ ws) (suc zero) = omega arith
+bytes-of (w ∷ ws) (suc (suc zero)) = omega arith
+bytes-of (w ∷ ws) (suc (suc (suc zero))) = omega arith
+bytes-of (w ∷ ws) (suc (suc (suc (suc i)))) = bytes-of ws i
+
+bytes-joined : (k : ℕ) (f : ℕ → List ℕ) → ((i : ℕ) → Bytes (f i)) → Bytes (joined k f)
+unfolding joined
+bytes-joined zero f p i = omega arith
+bytes-joined (suc k) f p i = bytes-append (joined k f) (f k) (bytes-joined k f p) (p k) i
+
+word-written : (l c : List ℕ) (b i : ℕ) (w : Writing l c) → w .returned .number ≡ 0 → b < blocksFor (recordsOf l) → i < blockWords → wordAt (w .card) (blockWords * b + i) < wordValues
+unfolding cardOf blocksOf blockOf
+word-written l c b i w y h k = subst (λ (x : ℕ). x < wordValues) (sym (ap (λ (x : List ℕ). wordAt x (blockWords * b + i)) (d .card) ∙ same-word _ _ _ _ inside)) (word-fits (cardOf l) (blockWords * b + i) (bytes-joined (blocksFor (recordsOf l)) (λ b. blockOf (recordsOf l) b (recordsIn (recordsOf l) b l)) (λ b. bytes-of (block (recordsOf l) b (recordsIn (recordsOf l) b l)))))
+  where
+    d : CardDone l c w
+    d = done l c w y
+
+    inside : (j : ℕ) → j < 4 → getD (cardOf l ++ drop (cardBytes (recordsOf l)) c) (4 * (blockWords * b + i) + j) 0 ≡ getD (cardOf l) (4 * (blockWords * b + i) + j) 0
+    inside j m = List·getD-append (cardOf l) (drop (cardBytes (recordsOf l)) c) 0 (4 * (blockWords * b + i) + j) (omega (arith, h, k, m, length-card l (done l c w y .can)))
+
+noticed-written : (l c cs a : List ℕ) (b i : ℕ) (w : Writing l c) (r : CardRead cs (recordsOf l) a) → Fit l → w .returned .number ≡ 0 → b < blocksFor (recordsOf l) → Bytes cs → OneWord b i (w .card) cs → r .returned .number ≡ 0 → recordsIn (recordsOf l) b (r .answer) ≡ joined (recordsUsed (recordsOf l) b) (λ _. lost)
+noticed-written l c cs a b i w r f y h g o z =
+    block-read cs (recordsOf l) b a r h z ∙ read-lost (recordsOf l) b cs (bad (recordsOf l) b i (w .card) cs (word-written l c b i w y h (o .inside)) g (written-good l c b w f y h) o)
 
 others : (n b : ℕ) (bs cs a d : List ℕ) (r : CardRead bs n a) (q : CardRead cs n d) → b < blocksFor n → part (blockBytes * b) blockBytes bs ≡ part (blockBytes * b) blockBytes cs → r .returned .number ≡ 0 → q .returned .number ≡ 0 → recordsIn n b (r .answer) ≡ recordsIn n b (q .answer)
 others n b bs cs a d r q h e y z = block-read bs n b a r h y ∙ (same-read n b bs cs e ∙ sym (block-read cs n b d q h z))
@@ -153,10 +212,8 @@ others n b bs cs a d r q h e y z = block-read bs n b a r h y ∙ (same-read n b 
 stands : (l c bs a : List ℕ) (b : ℕ) (w : Writing l c) (r : CardRead bs (recordsOf l) a) → b < blocksFor (recordsOf l) → Fit l → w .returned .number ≡ 0 → part (blockBytes * b) blockBytes bs ≡ part (blockBytes * b) blockBytes (w .card) → r .returned .number ≡ 0 → recordsIn (recordsOf l) b (r .answer) ≡ recordsIn (recordsOf l) b l
 unfolding part
 stands l c bs a b w r h f y e z =
-    let d = done l c w y in
-    let k = d .can in
     block-read bs (recordsOf l) b a r h z
-    ∙ (same-read (recordsOf l) b bs (cardOf l) (e ∙ (ap (part (blockBytes * b) blockBytes) (d .card) ∙ part-front (cardOf l) (drop (cardBytes (recordsOf l)) c) (blockBytes * b) blockBytes (omega (arith, h, length-card l k)))) ∙ block-back l k f b h)
+    ∙ (same-read (recordsOf l) b bs (cardOf l) (e ∙ own-bytes l c b w y h) ∙ block-back l (done l c w y .can) f b h)
 
 told : (n k : ℕ) (bs a : List ℕ) (r : CardRead bs n a) → k < n → r .returned .number ≡ 0 → RecordKept bs n k (recordAt k (r .answer)) ⊎ RecordLost bs n k (recordAt k (r .answer))
 unfolding recordAt
@@ -205,6 +262,9 @@ cards-promised =
       sample = sample;
       back = back;
       noticed = noticed;
+      block-good = block-good;
+      written-good = written-good;
+      noticed-written = noticed-written;
       others = others;
       stands = stands;
       told = told;

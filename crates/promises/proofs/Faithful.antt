@@ -32,6 +32,7 @@ use Rattle.islands.proofs.Together.{frames-length}
 use Rattle.promises.specs.Demand3.{leftAt}
 use Rattle.promises.specs.Faithful.{allTriangles, soundTriangles, sortedMarks, sortedFrames, timesReached, Promised}
 use Rattle.promises.proofs.Demand3.{left-is}
+use Rattle.promises.proofs.StepNine as nine
 
 -- ---- links that lead to the same sides give the same marks
 
@@ -114,4 +115,4 @@ other-faces h p a b m s e n l = left-is [] (shuffled h s (none-shared a b e)) n 
 
 pub faithful : Promised
 unfolding timesReached
-faithful = record { sorted-marks = sorted-marks; sorted-frames = sorted-frames; enough = walk-enough; twice = twice; other-faces = other-faces }
+faithful = record { sorted-marks = sorted-marks; sorted-frames = sorted-frames; enough = walk-enough; twice = twice; other-faces = other-faces; copies = λ h m. nine.copies m h; sources = λ h m. nine.sources m h; never-targets = nine.never-targets; keeps-equal = nine.keeps-equal; all-slots = λ h m. nine.all-slots m h; occur = nine.occur }

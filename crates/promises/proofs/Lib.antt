@@ -4,8 +4,10 @@ pub mod Determined
 pub mod Impostors
 pub mod Demand3
 pub mod PublicCall
+pub mod StepNine
 pub mod OwnLinks
 pub mod OwnColumns
+pub mod Moments
 pub mod OwnLists
 pub mod TwoWalks
 pub mod NarrowAngles

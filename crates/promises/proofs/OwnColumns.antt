@@ -23,6 +23,7 @@ use Rattle.laws.proofs.Closed.{links-sound, first-found, each-map}
 use Rattle.laws.proofs.Laws as laws
 use Rattle.laws.proofs.Laws.{mark, tri-refl}
 use Rattle.laws.proofs.Reached.{facing-own}
+use Rattle.laws.proofs.Mutual.{spot-sym}
 use Rattle.lists.specs.Every.{Every, every-nil, every-cons}
 use Rattle.laws.proofs.Sharp as one-triangle
 use Rattle.laws.proofs.Bridge.{index-same}
@@ -45,6 +46,7 @@ use Rattle.members.proofs.Ordering.{member-of}
 use Rattle.asked.specs.Meaning.{wayOf}
 use Rattle.promises.specs.OwnLinks as own
 use Rattle.promises.specs.OwnLinks.{OfLinks, OfGroups, Joined, after as over-after, before as over-before}
+use Rattle.promises.proofs.StepNine.{getD-mem}
 use Rattle.promises.proofs.OwnLinks.{of-links, of-groups}
 use Rattle.promises.specs.OwnColumns.{Promised, Leads, LinkWords, Together, GroupWords, MetFrom, start, member, member-before, Besides, OwnWords}
 
@@ -105,11 +107,13 @@ module _ (rows : ℕ) (ss : List Triangle) (d : Triangle) (w : List ℕ) (N : Na
 
 -- ---- groups
 
--- an element is in its list
-getD-mem : {X : Type 0} (l : List X) (d : X) (i : ℕ) → i < length l → List·Memᴰ (getD l i d) l
-getD-mem [] d i h = absurd (omega arith)
-getD-mem (x ∷ l) d zero h = List·Memᴰ·head refl
-getD-mem (x ∷ l) d (suc i) h = List·Memᴰ·tail (getD-mem l d i (omega arith))
+-- marks of one corner have one place
+once-place : {l : List Mark} → laws.Once l → (j k : ℕ) (e : Mark) → j < length l → k < length l → sameSpot (getD l j e .spot) (getD l k e .spot) ≡ true → j ≡ k
+once-place laws.once-nil j k e h i q = absurd (omega arith)
+once-place (laws.once-cons a r) zero zero e h i q = refl
+once-place (laws.once-cons a r) zero (suc k) e h i q = absurd (true≢false (sym q ∙ every-index a k e (omega arith)))
+once-place (laws.once-cons {m} {ms} a r) (suc j) zero e h i q = absurd (true≢false (sym q ∙ (spot-sym (getD ms j e .spot) (m .spot) ∙ every-index a j e (omega arith))))
+once-place (laws.once-cons a r) (suc j) (suc k) e h i q = ap suc (once-place r j k e (omega arith) (omega arith) q)
 
 -- one corner has one row
 pub same-row : (ss : List Triangle) (d : Triangle) → Names ss → (t u : ℕ) (i j : Third) → t < length ss → u < length ss → spotAt ss d t i ≡ spotAt ss d u j → row t i ≡ row u j
@@ -361,6 +365,14 @@ module _ (rows : ℕ) (mesh : Handed) (xs : List Triangle) (d : Triangle) (c : M
   unfolding flag
   loose t h e = flag-same (getD ss t d .any) false (sym (any-words t h) ∙ e)
 
+  once-met : (j k : ℕ) → j < length (marks ss (links ss)) → k < length (marks ss (links ss)) → cell rows metColumn j u ≡ cell rows metColumn k u → j ≡ k
+  once-met j k h l e =
+      let J = G .member j e₁ h in
+      let K = G .member k e₁ l in
+      let r : row (J .tri) (J .at) ≡ row (K .tri) (K .at) = sym (J .member) ∙ (e ∙ K .member) in
+      once-place (laws.at-most-one ss (links ss) (links-sound ss)) j k e₁ h l
+      ((λ z. sameSpot (J .is z) (K .is z)) ∙ (spot-row (six .five .names) d (J .tri) (K .tri) (J .at) (K .at) (J .inside) (K .inside) ∙ eq-eqb (row (J .tri) (J .at)) (row (K .tri) (K .at)) r))
+
   besides : Besides rows (length ss) (c .members) (wayOf ss d) u
   besides =
       record {
@@ -371,6 +383,10 @@ module _ (rows : ℕ) (mesh : Handed) (xs : List Triangle) (d : Triangle) (c : M
         below = λ j h. let M = G .member j e₁ (met-at j h) in subst (λ x. x < 3 * length ss) (sym (M .member)) (row-lt (M .tri) (length ss) (M .at) (M .inside));
         some = λ j h z. let M = G .member j e₁ (met-at j h) in omega (arith, M .some, z);
         is-member = λ r h ne. let m = member-of rows ss d (c .groups) u (links ss) (links-sound ss) (six .five .names) G r h ne in (m .0, subst (λ k. m .0 < k) (sym (six .members)) (m .1), m .2);
+        once = λ j k h l e. once-met j k (met-at j h) (met-at k l) e;
+        begins-in = λ j h.
+            let M = G .member j e₁ (met-at j h) in
+            G .begins .number (numberOf rows u j - 1) (omega (arith, M .some, M .known)) ∙ omega (arith, M .some);
         begins = λ j h.
             let M = G .member j e₁ (met-at j h) in
             let b = G .begins .begun (numberOf rows u j - 1) (omega (arith, M .some, M .known)) in

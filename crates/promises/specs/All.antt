@@ -38,6 +38,7 @@ pub record AllPromised : Type 1 where
   -- links, groups and orientations (E11), in the definition and in the columns
   pub own-links : OwnLinks.Promised
   pub own-columns : OwnColumns.Promised
+  pub every-moment : OwnColumns.AtEveryMoment
   -- the two walks of step 6 (E8): the same members on every mesh, the same words on every list
   pub same-members : TwoWalks.Promised
   pub same-words : TwoWalks.SameWords

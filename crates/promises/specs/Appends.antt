@@ -1,15 +1,15 @@
 -- Appending to a card while the power may go (crate appends; dokphalun_card_next and dokphalun_card_append of the archive): what is promised of whatever the contracts allow. Definitions only.
-use Prim.Native.Nat.{ℕ, _*_, _/_, _%_, _≤_, _<_}
+use Prim.Native.Nat.{ℕ, _+_, _*_, _/_, _%_, _≤_, _<_}
 use mathlib.Core.Path.{_≡_}
-use mathlib.Core.Bool.{true}
+use mathlib.Core.Bool.{true, false}
 use mathlib.Core.Logic.{_⊎_}
 use mathlib.Core.List.{List, []}
 use lib.ListN.{length, take, drop}
 use Rattle.lists.specs.Parts.{joined, part}
 use Rattle.words.specs.Words.{Fit}
-use Rattle.blocks.specs.Format.{blockBytes, roomWords, blocksFor, recordsUsed, recordsIn}
+use Rattle.blocks.specs.Format.{blockBytes, roomWords, recordsHeld, blocksFor, recordsUsed, recordsIn, blockOf}
 use Rattle.blocks.specs.Judged.{lost}
-use Rattle.cards.specs.Writer.{recordsOf, writable, cardOf}
+use Rattle.cards.specs.Writer.{recordsOf, writable, cardBytes, cardOf}
 use Rattle.appends.specs.declared.Next.{Next}
 use Rattle.appends.specs.declared.Appended.{Appended}
 use Rattle.appends.specs.File.{patched}
@@ -31,7 +31,8 @@ pub record AskingNext (long n : ℕ) : Type 0 where
 abbrev pub NextOf : List ℕ → ℕ → List ℕ → Type 0
 NextOf l long rs = rs ≡ part (roomWords * (long / blockBytes)) (length rs) l
 
--- What the file may hold in a walk round the tank whose records are l, 'block by block', where 'the power may go after any byte'
+-- What the file may hold in a walk round the tank whose records are l, 'block by block', where 'the power may go after any byte'.
+-- 'The total in each block is fixed at the start of the walk': that is assumed of whoever calls, since `append` sees the file's length alone. Each call of a walk is told the count of l, and l stays the same.
 pub data TankWalk (l : List ℕ) : List ℕ → Type 0 where
   -- nothing yet
   start : TankWalk l []
@@ -49,17 +50,53 @@ pub record CardFinds (l : List ℕ) (long past : ℕ) (answer : List ℕ) : Type
   -- 'and shows every record outside those blocks as lost'
   pub others : (b : ℕ) → long / blockBytes ≤ b → b < blocksFor (recordsOf l) → recordsIn (recordsOf l) b answer ≡ joined (recordsUsed (recordsOf l) b) (λ _. lost)
 
--- a refusal of `append`, 1 to 4: nothing altered
+-- k records are, by their count, those of block b of a card of n records and of the blocks after it: some, and all that are left or full blocks of them
+abbrev pub NextByCount : ℕ → ℕ → ℕ → Type 0
+NextByCount n b k = (0 < k) × ((recordsHeld * b + k ≡ n) ⊎ ((recordsHeld * b + k < n) × (k % recordsHeld ≡ 0)))
+
+-- the ground for which `append` refuses with a number, and that no ground of a lower number is there
+pub data WhyNot (long n : ℕ) (rs c : List ℕ) (number : ℕ) : Type 0 where
+  -- 1: a list that the writer would refuse with 1
+  unwritable : writable rs ≡ false → number ≡ 1 → WhyNot long n rs c number
+  -- 2: a lent list too short for the blocks
+  too-short : writable rs ≡ true → length c < cardBytes (recordsOf rs) → number ≡ 2 → WhyNot long n rs c number
+  -- 3: a card longer than n records call for
+  too-long : writable rs ≡ true → cardBytes (recordsOf rs) ≤ length c → cardBytes n < long → number ≡ 3 → WhyNot long n rs c number
+  -- 4: records that are not those of the torn block, and of blocks after it, by their count
+  not-next : writable rs ≡ true → cardBytes (recordsOf rs) ≤ length c → long ≤ cardBytes n → (NextByCount n (long / blockBytes) (recordsOf rs) → ⊥) → number ≡ 4 → WhyNot long n rs c number
+
+-- a refusal of `append`: why, and that nothing is altered
 pub record Unmade (long n : ℕ) (rs c : List ℕ) (a : Appending long n rs c) : Type 0 where
-  pub number : (1 ≤ a .returned .number) × (a .returned .number ≤ 4)
+  pub why : WhyNot long n rs c (a .returned .number)
+  pub blocks : a .returned .blocks ≡ 0
+  pub at : a .returned .at ≡ 0
   pub lent : a .lent ≡ c
 
--- blocks made, for the torn block's place, and nothing altered past them
+-- blocks made, because none of the four grounds is there: for the torn block's place, each with the total n, its number on the card and its own records of rs, and nothing altered past them
 pub record BlocksMade (long n : ℕ) (rs c : List ℕ) (a : Appending long n rs c) : Type 0 where
+  pub can : writable rs ≡ true
+  pub room : cardBytes (recordsOf rs) ≤ length c
+  pub within : long ≤ cardBytes n
+  pub next : NextByCount n (long / blockBytes) (recordsOf rs)
   pub number : a .returned .number ≡ 0
   pub at : a .returned .at ≡ blockBytes * (long / blockBytes)
   pub blocks : a .returned .blocks ≡ blocksFor (recordsOf rs)
+  pub bytes : (i : ℕ) → i < blocksFor (recordsOf rs) → part (blockBytes * i) blockBytes (a .lent) ≡ blockOf n (long / blockBytes + i) (recordsIn (recordsOf rs) i rs)
   pub rest : drop (blockBytes * a .returned .blocks) (a .lent) ≡ drop (blockBytes * a .returned .blocks) c
+
+-- a refusal of `next_block`, which is with 3 alone
+pub record NoNext (long n : ℕ) (q : AskingNext long n) : Type 0 where
+  pub why : cardBytes n < long
+  pub number : q .returned .number ≡ 3
+  pub records : q .returned .records ≡ 0
+  pub at : q .returned .at ≡ 0
+
+-- what it says of the torn block else: how many records it takes, none where the card is whole, and where it goes
+pub record NextTold (long n : ℕ) (q : AskingNext long n) : Type 0 where
+  pub within : long ≤ cardBytes n
+  pub number : q .returned .number ≡ 0
+  pub records : q .returned .records ≡ recordsUsed n (long / blockBytes)
+  pub at : q .returned .at ≡ blockBytes * (long / blockBytes)
 
 pub record AppendsPromised : Type 0 where
   -- 'For every cut length n': each beginning of the card, and the whole card, is what some walk leaves
@@ -74,8 +111,9 @@ pub record AppendsPromised : Type 0 where
   pub goes-on : (l f c : List ℕ) (a : Appending (length f) (recordsOf l) (recordsIn (recordsOf l) (length f / blockBytes) l) c) → writable l ≡ true → TankWalk l f → length f < length (cardOf l) → blockBytes ≤ length c → (a .returned .number ≡ 0) × (a .returned .at ≡ blockBytes * (length f / blockBytes)) × (a .returned .blocks ≡ 1)
   -- and `next_block` says so
   pub asks : (l f : List ℕ) (q : AskingNext (length f) (recordsOf l)) → writable l ≡ true → TankWalk l f → (q .returned .number ≡ 0) × (q .returned .at ≡ blockBytes * (length f / blockBytes)) × (q .returned .records ≡ recordsUsed (recordsOf l) (length f / blockBytes))
-  -- a refusal alters nothing, and nothing is altered past the blocks
+  -- which refusal and why, or which blocks; a refusal alters nothing, and nothing is altered past the blocks
   pub made : (long n : ℕ) (rs c : List ℕ) (a : Appending long n rs c) → Unmade long n rs c a ⊎ BlocksMade long n rs c a
+  pub asked : (long n : ℕ) (q : AskingNext long n) → NoNext long n q ⊎ NextTold long n q
   -- 'Any pair of outcomes satisfying it is shown identical'
   pub one-appending : (long n : ℕ) (rs c : List ℕ) (a b : Appending long n rs c) → (a .returned ≡ b .returned) × (a .lent ≡ b .lent)
   pub one-asking : (long n : ℕ) (a b : AskingNext long n) → a .returned ≡ b .returned

@@ -6,8 +6,8 @@ use mathlib.Core.Logic.{_≢_, _⊎_}
 use mathlib.Core.List.{List, [], _∷_, _++_}
 use lib.ListN.{length, getD, set, take, drop, replicate}
 use Rattle.lists.specs.Parts.{joined, part}
-use Rattle.words.specs.Words.{wordAt, wordsAt, Fit}
-use Rattle.blocks.specs.Format.{blockBytes, blockWords, headerWords, recordWords, recordsHeld, blocksFor, recordsUsed, recordsIn, blockOf}
+use Rattle.words.specs.Words.{wordValues, wordAt, wordsAt, Fit}
+use Rattle.blocks.specs.Format.{blockBytes, blockWords, headerWords, recordWords, recordsHeld, blocksFor, recordsUsed, usedWords, recordsIn, blockOf}
 use Rattle.blocks.specs.Judged.{blockAt, good, lost}
 use Rattle.cards.specs.declared.Written.{Written}
 use Rattle.cards.specs.declared.CardFound.{CardFound}
@@ -96,6 +96,12 @@ pub record CardsPromised : Type 0 where
   pub back : (l c t a : List ℕ) (w : Writing l c) (r : CardRead (take (w .returned .bytes) (w .card) ++ t) (recordsOf l) a) → Fit l → w .returned .number ≡ 0 → r .returned .number ≡ 0 → (r .answer ≡ l ++ drop (length l) a) × (r .returned .past ≡ length t)
   -- 'a block in which exactly one word was changed is always noticed': its records read as lost
   pub noticed : (n b i : ℕ) (bs cs a : List ℕ) (r : CardRead cs n a) → b < blocksFor n → Bytes bs → Bytes cs → good n b bs ≡ true → OneWord b i bs cs → r .returned .number ≡ 0 → recordsIn n b (r .answer) ≡ joined (recordsUsed n b) (λ _. lost)
+  -- a block of the format is what its place calls for, whatever stands before it and after it: so are those that `append` makes
+  pub block-good : (n b : ℕ) (rs front after : List ℕ) → length rs ≡ usedWords n b → length front ≡ blockBytes * b → n < wordValues → b < wordValues → Fit rs → ((r : ℕ) → r < recordsUsed n b → getD rs (recordWords * r) 0 ≤ 1) → good n b (front ++ (blockOf n b rs ++ after)) ≡ true
+  -- and so is each block that the writer wrote
+  pub written-good : (l c : List ℕ) (b : ℕ) (w : Writing l c) → Fit l → w .returned .number ≡ 0 → b < blocksFor (recordsOf l) → good (recordsOf l) b (w .card) ≡ true
+  -- so on a card that the writer wrote, exactly one word of a block changed is always noticed, whatever happened to the other blocks
+  pub noticed-written : (l c cs a : List ℕ) (b i : ℕ) (w : Writing l c) (r : CardRead cs (recordsOf l) a) → Fit l → w .returned .number ≡ 0 → b < blocksFor (recordsOf l) → Bytes cs → OneWord b i (w .card) cs → r .returned .number ≡ 0 → recordsIn (recordsOf l) b (r .answer) ≡ joined (recordsUsed (recordsOf l) b) (λ _. lost)
   -- 'The other blocks read as if nothing had happened': a block whose bytes are the same reads the same
   pub others : (n b : ℕ) (bs cs a d : List ℕ) (r : CardRead bs n a) (q : CardRead cs n d) → b < blocksFor n → part (blockBytes * b) blockBytes bs ≡ part (blockBytes * b) blockBytes cs → r .returned .number ≡ 0 → q .returned .number ≡ 0 → recordsIn n b (r .answer) ≡ recordsIn n b (q .answer)
   -- so a block that is as it was written reads as it was written, whatever happened to the card

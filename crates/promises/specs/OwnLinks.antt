@@ -1,14 +1,15 @@
 -- Request E11: what holds of the links of step 5 and the groups of step 6, for the sound triangles of every accepted mesh. Definitions only.
 use Prim.Native.Nat.{ℕ}
 use mathlib.Core.Path.{_≡_}
-use mathlib.Core.Bool.{Bool, true, false}
+use mathlib.Core.Bool.{Bool, true, false, cond}
 use mathlib.Core.List.{List, _∷_, _++_, List·Memᴰ}
 use mathlib.Core.Option.{none, some}
 use lib.Dec.{T}
 use lib.ListN.{getD}
 use lib.Ieee.{nan, binary32, fits}
 use Rattle.definition.specs.declared.Triangle.{Triangle}
-use Rattle.definition.specs.Mesh.{Spot, next, prior, cornerOf}
+use Rattle.lists.specs.Lists.{run}
+use Rattle.definition.specs.Mesh.{Spot, next, prior, cornerOf, sameTriangle}
 use Rattle.definition.specs.Frames.{trianglesOf}
 use Rattle.definition.specs.Step4Order.{sound, spots, welded}
 use Rattle.definition.specs.Step5Links.{opposite, links, beyond}
@@ -49,11 +50,17 @@ pub data MetFrom (ss : List Triangle) (earlier : List Mark) (m : Mark) : Type 0 
   start : m .spot ≡ m .start → MetFrom ss earlier m
   member : (k : Mark) → List·Memᴰ k earlier → k .start ≡ m .start → Joined ss k (m .spot) → MetFrom ss earlier m
 
+-- the orientation of a triangle when the marks ms have been made, where each mark gives its triangle its group's orientation: that of the last mark on it, or step 3's where there is none
+unfoldable pub wayAfter : List Mark → Triangle → Bool
+wayAfter ms t = run (λ w m. cond (sameTriangle (m .spot .tri) t) (m .orientation) w) (t .orientation) ms
+
 pub record OfGroups (ss : List Triangle) : Type 0 where
   -- a mark is a corner of the triangles
   pub inside : (m : Mark) → List·Memᴰ m (marksOf ss) → Of ss (m .spot)
   -- its orientation is that of the triangle at which its group started, which isn't `group_with_any`
   pub start-way : (m : Mark) → List·Memᴰ m (marksOf ss) → (m .orientation ≡ m .start .tri .orientation) × (m .start .tri .any ≡ false)
+  -- that corner is a member of the group, and so a corner of the triangles
+  pub start-in : (m : Mark) → List·Memᴰ m (marksOf ss) → (k : Mark) × List·Memᴰ k (marksOf ss) × (k .spot ≡ m .start) × (k .start ≡ m .start)
   -- a triangle that isn't `group_with_any` keeps step 3's orientation
   pub own-way : (t : Triangle) (v : Bool) → t .any ≡ false → facing (marksOf ss) t v ≡ t .orientation
   -- one welded corner per group: each member's corner is welded to the corner at which the group started
@@ -66,6 +73,12 @@ pub record OfGroups (ss : List Triangle) : Type 0 where
   pub at-least-one : (s : Spot) → Of ss s → s .tri .any ≡ false → grouped (marksOf ss) s ≡ true
   -- a triangle's orientation never changes after its first corner is grouped: it is what it was when only the marks `earlier` had been made, one of them of the triangle
   pub settled : (earlier later : List Mark) → marksOf ss ≡ earlier ++ later → (t : Triangle) (m : Mark) → touched earlier t ≡ some m → (v u : Bool) → facing (marksOf ss) t v ≡ facing earlier t u
+  -- the moments of step 6 are the beginnings of the list of marks. At every moment a triangle has the orientation that the last mark on it gave it, which is the one that the walk goes by (`facing`)
+  pub way-now : (earlier later : List Mark) → marksOf ss ≡ earlier ++ later → (t : Triangle) → List·Memᴰ t ss → wayAfter earlier t ≡ facing earlier t (t .orientation)
+  -- so, from any moment at which one of its corners is grouped to any later one, no mark changes it
+  pub unchanged : (earlier between later : List Mark) → marksOf ss ≡ earlier ++ (between ++ later) → (t : Triangle) → List·Memᴰ t ss → (m : Mark) → touched earlier t ≡ some m → wayAfter (earlier ++ between) t ≡ wayAfter earlier t
+  -- nor ever that of a triangle that isn't `group_with_any`
+  pub own-unchanged : (earlier later : List Mark) → marksOf ss ≡ earlier ++ later → (t : Triangle) → List·Memᴰ t ss → t .any ≡ false → wayAfter earlier t ≡ t .orientation
   -- two triangles that aren't `group_with_any`, of one orientation and with a linked side, have each end of that side in one group
   pub one-group : (s t : Spot) → Of ss s → Beyond ss s t → s .tri .any ≡ false → t .tri .any ≡ false → s .tri .orientation ≡ t .tri .orientation → (m n : Mark) → List·Memᴰ m (marksOf ss) → List·Memᴰ n (marksOf ss) → m .spot ≡ s → n .spot ≡ next t → m .start ≡ n .start
   pub one-group-end : (s t : Spot) → Of ss s → Beyond ss s t → s .tri .any ≡ false → t .tri .any ≡ false → s .tri .orientation ≡ t .tri .orientation → (m n : Mark) → List·Memᴰ m (marksOf ss) → List·Memᴰ n (marksOf ss) → m .spot ≡ next s → n .spot ≡ t → m .start ≡ n .start
