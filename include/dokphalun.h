@@ -4,8 +4,8 @@
  * smooth steel: so ask every slot with dokphalun_slot, and never take its words for numbers yourself.
  *
  * A list is a pointer to its first element and a number of elements. The pointer is not null, not even for a list of no
- * elements. A lent list (answer, work, card, our own links) stands apart from every other list of the call. Any numbers whatever may be
- * handed in; each call ends, and a refusal alters no list. A call needs some 8 KiB of stack.
+ * elements, and it is aligned as its type asks (words and numbers to 4 bytes, packed numbers to 2). A lent list (answer, work, card, our own links) stands apart from every other list of the call. Any numbers whatever may be
+ * handed in; each call ends, and a refusal alters no list. A call needs less than 12 KiB of stack.
  *
  * The archive says what it is: before its first call a program compares dokphalun_interface() with DOKPHALUN_INTERFACE and
  * dokphalun_slot_words() with DOKPHALUN_SLOT_WORDS, and calls nothing of an archive that says otherwise.

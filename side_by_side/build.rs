@@ -2,11 +2,12 @@
 //!
 //! The crate: the folder of MIKKTSPACE_SRC, else ../shared/docs/src beside the repository; it holds src/lib.rs. It
 //! becomes an rlib among this package's own products, with both corrected features. So does the altered copy (altered.rs),
-//! which has request E6's rule.
+//! which has request E6's rule. A slip in it is tried by naming a patch in ALTERED_PATCH (altered/run).
 #[path = "altered.rs"]
 mod altered;
 
 use std::env::var;
+use std::fs::File;
 use std::path::{Path, PathBuf};
 use std::process::Command;
 
@@ -16,7 +17,23 @@ fn main() {
     println!("cargo:rerun-if-changed=altered.rs");
     let source = folder("MIKKTSPACE_SRC", here.join("../../shared/docs/src"));
     build_crate("bevy_mikktspace", &source, &made);
-    build_crate("mikktspace_altered", &altered::copy(&source, &made), &made);
+    let copy = altered::copy(&source, &made);
+    println!("cargo:rerun-if-env-changed=ALTERED_PATCH");
+    if let Ok(patch) = var("ALTERED_PATCH") {
+        println!("cargo:rerun-if-changed={patch}");
+        spoil(&copy, Path::new(&patch));
+    }
+    build_crate("mikktspace_altered", &copy, &made);
+}
+
+/// Puts a slip into the altered copy, on purpose.
+fn spoil(copy: &Path, patch: &Path) {
+    let patch = File::open(patch).expect("the file of ALTERED_PATCH");
+    let mut command = Command::new("patch");
+    let words = ["--quiet", "--strip=1", "--fuzz=0", "--directory"];
+    let status = command.args(words).arg(copy).stdin(patch).status();
+    let done = status.expect("patch does not start").success();
+    assert!(done, "ALTERED_PATCH does not fit the altered copy");
 }
 
 /// The folder that an environment variable names, else the usual one.

@@ -3,7 +3,7 @@
 //!
 //! An archive is taken from the folder that DOKPHALUN_ARCHIVE names. Else it is looked for in target/staticlib (on x86-64,
 //! where `rt staticlib` leaves it) and in target/archive of the repository, and taken if no source in crates/ is newer. Else
-//! it is made: by `rt staticlib`, and on another machine than x86-64 by ../shared/tools/native-archive after `rt check`.
+//! it is made: by `rt staticlib`, and on another machine than x86-64 by tools/native_archive.
 //! Cargo shows nothing of what a build script says, so what they say goes to the terminal, where there is one.
 use std::env::{var, var_os};
 use std::fs::{self, File};
@@ -129,18 +129,8 @@ fn make(root: &Path, library: &str, intel: bool) -> Result<(), String> {
     if intel {
         return run(root, "rt", &["staticlib", library], &archive);
     }
-    let native = root.join("../shared/tools/native-archive");
-    if !native.is_file() {
-        return Err(format!(
-            "no archive: `rt staticlib` makes one for x86-64 only, this machine is another, and {} is not there.\n\
-             Set DOKPHALUN_ARCHIVE to a folder with {archive} for this machine.",
-            native.display()
-        ));
-    }
-    let folder = root.join("target/archive");
-    fs::create_dir_all(&folder).map_err(|e| e.to_string())?;
-    run(root, "rt", &["check", library], &archive)?;
-    let out = folder.join(&archive);
+    let native = root.join("tools/native_archive");
+    let out = root.join("target/archive").join(&archive);
     let words = [library, &out.to_string_lossy()];
     run(root, &native.to_string_lossy(), &words, &archive)
 }

@@ -6,6 +6,7 @@ use crate::refusals::refusal;
 use crate::spoil::Spoil;
 use crate::text::slot_row;
 use crate::theirs;
+use models::lent::asked;
 use std::collections::HashSet;
 
 /// What was seen of a case.
@@ -51,7 +52,7 @@ fn differing(case: &Case, spoil: Option<Spoil>, seen: &mut Seen) -> Result<(), S
             theirs.outcome
         ));
     }
-    let ours = spoiled(&case.mesh, spoil)?;
+    let ours = asked(1, || spoiled(&case.mesh, spoil))??;
     same(&case.mesh, &ours, &theirs)?;
     let parts = [0, 1].map(|owner| part(case, owner));
     seen.shuffled = is_shuffle(case, &parts);

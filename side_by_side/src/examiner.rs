@@ -4,6 +4,7 @@ use crate::ours::fresh_work;
 use crate::plain_steps::{Model, cut, end, model};
 use crate::refusals::{or_nine, without_frames};
 use dokphalun_sys::{self as archive, Examined, Handed};
+use models::lent::answered;
 
 /// The words a face that lists for our own links are lent: links, groups, orientations.
 pub const ENTRIES: [usize; 3] = [6, 6, 2];
@@ -73,13 +74,14 @@ pub struct Left {
 pub fn own_left(mesh: &Mesh, lengths: [usize; 3]) -> Own {
     let (mut lists, mut work) = (Lists::fresh(lengths), fresh_work(mesh.work));
     let (links, groups) = (&mut lists.links, &mut lists.groups);
-    let handed = archive::links(
+    let ways = &mut lists.orientations;
+    let handed = answered(archive::links(
         mesh.handed(),
         links,
         groups,
-        &mut lists.orientations,
+        ways,
         &mut work,
-    );
+    ));
     Own {
         handed,
         lists,
@@ -116,9 +118,15 @@ pub fn own_expected(mesh: &Mesh, lengths: [usize; 3]) -> Own {
 /// What both calls leave of fresh lists; those for our own links have these lengths.
 pub fn left(mesh: &Mesh, lists: &Lists, lengths: [usize; 3]) -> Left {
     let (lists, mut work) = (lists.clone(), fresh_work(mesh.work));
-    let (links, groups) = (&lists.links, &lists.groups);
+    let (links, groups, ways) = (&lists.links, &lists.groups, &lists.orientations);
     Left {
-        examined: archive::examine(mesh.handed(), links, groups, &lists.orientations, &mut work),
+        examined: answered(archive::examine(
+            mesh.handed(),
+            links,
+            groups,
+            ways,
+            &mut work,
+        )),
         own: own_left(mesh, lengths),
         work,
         lists,

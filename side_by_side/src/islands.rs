@@ -3,6 +3,7 @@ use crate::mesh::{Corner, Mesh, framed, numbers_mut};
 use crate::ours::{self, Outcome, fresh_answer, fresh_work};
 use crate::refusals::{or_nine, without_frames};
 use dokphalun_sys::{self as archive, IslandLists, Labelled};
+use models::lent::answered;
 use std::collections::HashMap;
 
 /// The entries a face of the lists of its own: labels, order, sizes, numbers, frames.
@@ -57,7 +58,13 @@ pub fn by_islands(mesh: &Mesh, answer: &mut [u32], work: &mut [u32], own: &mut O
         numbers: numbers_mut(&mut own.numbers),
         frames: &mut own.frames,
     };
-    archive::frames_by_islands(mesh.handed(), threshold, answer, work, own)
+    answered(archive::frames_by_islands(
+        mesh.handed(),
+        threshold,
+        answer,
+        work,
+        own,
+    ))
 }
 
 /// What both calls leave of fresh lists; those of its own have these lengths.
@@ -67,7 +74,7 @@ pub fn left(mesh: &Mesh, lengths: [usize; 5]) -> Left {
     let (mut alone, mut labels_work) = (own.labels.clone(), fresh_work(mesh.work));
     Left {
         outcome: by_islands(mesh, &mut answer, &mut work, &mut own),
-        labelled: archive::labels(mesh.handed(), &mut alone, &mut labels_work),
+        labelled: answered(archive::labels(mesh.handed(), &mut alone, &mut labels_work)),
         answer,
         work,
         own,

@@ -2,6 +2,7 @@
 use crate::mesh::Mesh;
 use crate::stack;
 use dokphalun_sys::frames;
+use models::lent::answered;
 
 pub use dokphalun_sys::Outcome;
 
@@ -79,11 +80,10 @@ pub fn left_with(mesh: &Mesh, alter: impl FnOnce(&mut Held)) -> Result<Left, Str
     let mut answer = Guarded::new(fresh_answer(mesh.answer));
     let mut work = Guarded::new(fresh_work(mesh.work));
     let mut run = || call(&handed, answer.list(), work.list());
-    let outcome = if mesh.sizes.len() < LARGE {
-        run()
-    } else {
-        stack::within(stack::OURS, run)
-    };
+    let outcome = answered(match mesh.sizes.len() < LARGE {
+        true => run(),
+        false => stack::within(stack::OURS, run),
+    });
     alter(&mut Held {
         handed: &mut handed,
         answer: &mut answer.words,

@@ -1,5 +1,5 @@
 // The triangles of all faces in columns of the work list: sound ones first, then degenerate ones, each in slot order (steps 1 to 3, and the order of step 4).
-// Carried over from mikktspace.rs (generate_triangle_info_list, degen_prologue) of the Rust crate bevy_mikktspace and ALTERED: written anew in Rattle. See NOTICE.
+// Carried over from mikktspace.rs (generate_triangle_info_list, generate_tangent_space) of the Rust crate bevy_mikktspace and ALTERED: written anew in Rattle. See NOTICE.
 ghost use mathlib.Core.Path.{_≡_};
 ghost use mathlib.Core.List.{[], _∷_};
 ghost use Prim.Native.Nat.{_+_, _*_, _<_, _≤_};

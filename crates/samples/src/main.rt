@@ -6,6 +6,9 @@ use definition::FACE_LIMIT;
 use definition::WORK_WORDS;
 use tangent::SLOT_WORDS;
 
+// The faces of document 01's sample 10, which request E8 made 65,536. As many as that need a work list of 32 MiB, more than a program has on its stack: bindings/rust/tests/limit.rs sees them accepted.
+const SAMPLE_FACES: usize = 4096;
+
 // How many values were compared, and how many of them were not as expected.
 struct Tally {
     compared: u64,
@@ -31,6 +34,13 @@ impl Tally {
             compared,
             differed: std::num::wrapping_add_u64(self.differed, 1),
         }
+    }
+
+    // What a call said, compared.
+    fn said(self, r: mikktspace::Outcome, number: u32, place: u32, slots: u32) -> Tally {
+        self.with(r.number, number)
+            .with(r.place, place)
+            .with(r.slots, slots)
     }
 }
 
@@ -164,12 +174,10 @@ fn words(so_far: Tally, got: &[u32], expected: &[u32; SLOT_WORDS]) -> Tally {
     t
 }
 
-// The outcome of a call.
-fn outcome(r: mikktspace::Outcome, number: u32, place: u32, slots: u32) -> Tally {
-    Tally::NONE
-        .with(r.number, number)
-        .with(r.place, place)
-        .with(r.slots, slots)
+// Words of a work list, each of which is to be cleared.
+fn cleared(so_far: Tally, work: &[u32]) -> Tally {
+    let zeros: [u32; SLOT_WORDS] = [0; SLOT_WORDS];
+    words(so_far, work, &zeros)
 }
 
 // Sample 1 with some texture: the outcome, the whole answer, and that the work list is cleared.
@@ -188,8 +196,7 @@ fn triangle(texture: &[f32; 6], slot: &[u32; SLOT_WORDS]) -> Tally {
         &mut answer,
         &mut work,
     );
-    let cleared: [u32; SLOT_WORDS] = [0; SLOT_WORDS];
-    words(words(outcome(r, 0, 0, 3), &answer, slot), &work, &cleared)
+    cleared(words(Tally::NONE.said(r, 0, 0, 3), &answer, slot), &work)
 }
 
 fn sample_1() -> Tally {
@@ -246,13 +253,14 @@ fn all_but(so_far: Tally, got: &[u32], frame: &[u32; SLOT_WORDS], absent: usize)
     t
 }
 
-// A mesh all of whose frames are sample 1's: the outcome and the whole answer, with one slot absent.
+// A mesh all of whose frames are sample 1's: the outcome with so many slots, the whole answer with one slot absent, and that the work list is cleared.
 fn all_alike(
     sizes: &[u8; 2],
     positions: &[f32],
     normals: &[f32],
     texture: &[f32],
     answer: &mut [u32],
+    slots: u32,
     absent: usize,
 ) -> Tally {
     let frame: [u32; SLOT_WORDS] = [
@@ -277,7 +285,8 @@ fn all_alike(
         answer,
         &mut work,
     );
-    all_but(Tally::NONE.with(r.number, 0), answer, &frame, absent)
+    let said = Tally::NONE.said(r, 0, 0, slots);
+    cleared(all_but(said, answer, &frame, absent), &work)
 }
 
 // Behind sample 1's triangle one with the corners (0,0,0) and (-0,0,0): it is degenerate, and all of it copies but the second corner, which is welded to none.
@@ -324,7 +333,7 @@ fn sample_4() -> Tally {
     ];
     let texture: [f32; 12] = [0.0, 0.0, 1.0, 0.0, 0.0, 1.0, 0.0, 0.0, 0.0, 0.0, 0.0, 1.0];
     let mut answer = [7u32; 6 * SLOT_WORDS];
-    all_alike(&[3, 3], &positions, &normals, &texture, &mut answer, 4)
+    all_alike(&[3, 3], &positions, &normals, &texture, &mut answer, 6, 4)
 }
 
 // A unit square, and before it a triangle on its corners 0 and 2 that is `group_with_any`: cut 02 has a side there, so that two corners of the triangle get a frame. The third is absent.
@@ -392,54 +401,57 @@ fn sample_5() -> Tally {
         1.0,
     ];
     let mut answer = [7u32; 7 * SLOT_WORDS];
-    all_alike(&[3, 4], &positions, &normals, &texture, &mut answer, 2)
+    all_alike(&[3, 4], &positions, &normals, &texture, &mut answer, 7, 2)
 }
 
-// A call with these sizes and numbers, and no word lent.
-fn asked(sizes: &[u8], three: &[f32], two: &[f32]) -> mikktspace::Outcome {
+// A call with these sizes, numbers and threshold, and no word lent.
+fn asked(sizes: &[u8], three: &[f32], two: &[f32], threshold: f32) -> mikktspace::Outcome {
     let mut answer: [u32; 0] = [];
     let mut work: [u32; 0] = [];
-    mikktspace::generate_tangent_space(sizes, three, three, two, 0.0, &mut answer, &mut work)
+    mikktspace::generate_tangent_space(sizes, three, three, two, threshold, &mut answer, &mut work)
 }
 
-// 65,537 faces are refused with 1; 65,536 aren't, but with 6, since no work list is lent.
+// Faces that take no slot, accepted: the outcome, and that the work list is cleared.
+fn without_slots(
+    so_far: Tally,
+    sizes: &[u8],
+    three: &[f32],
+    two: &[f32],
+    work: &mut [u32],
+) -> Tally {
+    let mut answer: [u32; 0] = [];
+    let r = mikktspace::generate_tangent_space(sizes, three, three, two, 0.0, &mut answer, work);
+    cleared(so_far.said(r, 0, 0, 0), work)
+}
+
+// 65,537 faces are refused with 1. 65,536 aren't: the call comes to its last row and gives 6, since no work list is lent. The sample's own 4,096 are accepted.
 fn sample_10() -> Tally {
     let sizes = [0u8; FACE_LIMIT + 1];
-    let r = asked(&sizes, &[], &[]);
-    let s = asked(&sizes[..FACE_LIMIT], &[], &[]);
-    outcome(r, 1, 0, 0).with(s.number, 6)
+    let mut work = [7u32; SAMPLE_FACES * WORK_WORDS];
+    let r = asked(&sizes, &[], &[], 0.0);
+    let s = asked(&sizes[..FACE_LIMIT], &[], &[], 0.0);
+    let refused = Tally::NONE.said(r, 1, 0, 0).said(s, 6, 0, 0);
+    without_slots(refused, &sizes[..SAMPLE_FACES], &[], &[], &mut work)
 }
 
 // Faces of 5, 2 and 0 corners take no slot.
 fn sample_11() -> Tally {
-    let sizes: [u8; 3] = [5, 2, 0];
     let three: [f32; 21] = [0.0; 21];
     let two: [f32; 14] = [0.0; 14];
-    let mut answer: [u32; 0] = [];
     let mut work = [7u32; 3 * WORK_WORDS];
-    let r = mikktspace::generate_tangent_space(
-        &sizes,
-        &three,
-        &three,
-        &two,
-        0.0,
-        &mut answer,
-        &mut work,
-    );
-    let cleared: [u32; SLOT_WORDS] = [0; SLOT_WORDS];
-    words(outcome(r, 0, 0, 0), &work, &cleared)
+    without_slots(Tally::NONE, &[5, 2, 0], &three, &two, &mut work)
 }
 
-// A NaN in a face of 5 is passed over (the work list that is not lent is refused, with 6); in a face of 3 it is refused with 4.
+// A NaN in a face of 5 is no ground for 4: it is accepted. In a face of 3 behind it it is, with the lowest such corner, which is number 5; and where the threshold is a NaN too, 3 is given.
 fn sample_12() -> Tally {
     let nan = bits::number(0x7fc00000);
-    let five: [f32; 15] = [nan; 15];
-    let three: [f32; 9] = [nan; 9];
-    let ten: [f32; 10] = [0.0; 10];
-    let six: [f32; 6] = [0.0; 6];
-    let r = asked(&[5], &five, &ten);
-    let s = asked(&[3], &three, &six);
-    outcome(r, 6, 0, 0).with(s.number, 4)
+    let three: [f32; 24] = [nan; 24];
+    let two: [f32; 16] = [0.0; 16];
+    let mut work = [7u32; WORK_WORDS];
+    let r = asked(&[5, 3], &three, &two, 0.0);
+    let s = asked(&[5, 3], &three, &two, nan);
+    let refused = Tally::NONE.said(r, 4, 5, 0).said(s, 3, 0, 0);
+    without_slots(refused, &[5], &three[..15], &two[..10], &mut work)
 }
 
 fn print(name: &[u8], t: Tally) {

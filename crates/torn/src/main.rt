@@ -112,15 +112,15 @@ fn report(fd: i32, bytes: &mut [u8], answer: &mut [u32]) -> usize {
     n
 }
 
-// Whether the first n bytes are those of a run without a cut.
-fn same(whole: &[u8], bytes: &[u8], n: usize) -> bool {
-    if n != whole.len() {
+// Whether the first n bytes are the beginning of a run without a cut.
+fn begins(whole: &[u8], bytes: &[u8], n: usize) -> bool {
+    if whole.len() < n {
         return false;
     }
     if bytes.len() < n {
         return false;
     }
-    for i in 0..whole.len() {
+    for i in 0..n {
         if whole[i] != bytes[i] {
             return false;
         }
@@ -128,17 +128,38 @@ fn same(whole: &[u8], bytes: &[u8], n: usize) -> bool {
     true
 }
 
-// The file cut, read, appended to until it is whole, and read again.
-fn turn(fd: i32, cut: i64, list: &[u32], whole: &[u8], bytes: &mut [u8], answer: &mut [u32]) {
-    libc::ftruncate(fd, cut);
-    report(fd, bytes, answer);
-    append_all(fd, list, bytes);
+// What is in the file, and whether those are the bytes of a run without a cut, all of them or its beginning.
+fn compare(fd: i32, whole: &[u8], bytes: &mut [u8], answer: &mut [u32]) {
     let n = report(fd, bytes, answer);
-    if same(whole, bytes, n) {
+    if !begins(whole, bytes, n) {
+        io::write_all(STDOUT_FILENO, b"OTHER BYTES\n");
+        return;
+    }
+    if n == whole.len() {
         io::write_all(STDOUT_FILENO, b"the bytes of a run without the cut\n");
     } else {
-        io::write_all(STDOUT_FILENO, b"OTHER BYTES\n");
+        io::write_all(STDOUT_FILENO, b"the beginning of a run without the cut\n");
     }
+}
+
+// The file cut, and read.
+fn cut(fd: i32, long: i64, whole: &[u8], bytes: &mut [u8], answer: &mut [u32]) {
+    libc::ftruncate(fd, long);
+    compare(fd, whole, bytes, answer);
+}
+
+// The file cut, read, appended to until it is whole, and read again.
+fn turn(fd: i32, long: i64, list: &[u32], whole: &[u8], bytes: &mut [u8], answer: &mut [u32]) {
+    cut(fd, long, whole, bytes, answer);
+    append_all(fd, list, bytes);
+    compare(fd, whole, bytes, answer);
+}
+
+// The same with one block appended.
+fn step(fd: i32, long: i64, list: &[u32], whole: &[u8], bytes: &mut [u8], answer: &mut [u32]) {
+    cut(fd, long, whole, bytes, answer);
+    append_one(fd, list, bytes);
+    compare(fd, whole, bytes, answer);
 }
 
 // In the first block: nothing, one byte, the middle of the sum, all but one byte.
@@ -163,12 +184,10 @@ fn third_block(fd: i32, list: &[u32], whole: &[u8], bytes: &mut [u8], answer: &m
     turn(fd, 1536, list, whole, bytes, answer);
 }
 
-// One cut after another, and a block appended between.
+// One cut after another, and a block appended between: the third, the second, and then all three.
 fn many_cuts(fd: i32, list: &[u32], whole: &[u8], bytes: &mut [u8], answer: &mut [u32]) {
-    libc::ftruncate(fd, 1100);
-    append_one(fd, list, bytes);
-    libc::ftruncate(fd, 900);
-    append_one(fd, list, bytes);
+    step(fd, 1100, list, whole, bytes, answer);
+    step(fd, 900, list, whole, bytes, answer);
     turn(fd, 3, list, whole, bytes, answer);
 }
 
@@ -188,7 +207,7 @@ fn walk(fd: i32) {
     fill(&mut list);
     append_all(fd, &list, &mut bytes);
     cards::write(&list, &mut whole);
-    report(fd, &mut bytes, &mut answer);
+    compare(fd, &whole, &mut bytes, &mut answer);
     all_cuts(fd, &list, &whole, &mut bytes, &mut answer);
 }
 

@@ -1,5 +1,6 @@
 //! Appending: by both on random cards and at the limits, and by a process that is killed.
 use crate::compare;
+use crate::lent::asked;
 use crate::plain::{self, BLOCK, HELD, WIDTH};
 use crate::random::Random;
 use crate::runs::{answer, records, room};
@@ -163,7 +164,7 @@ pub fn walk(
         tally.torn += u64::from(long != before && long % BLOCK != 0);
     }
     fs::remove_file(&file).map_err(|e| e.to_string())?;
-    match ours::next(card.len(), count as u32) {
+    match asked(1, || ours::next(card.len(), count as u32))? {
         (0, 0, at) if at == card.len() => Ok(()),
         other => Err(format!("a whole card wants {other:?}")),
     }

@@ -1,4 +1,5 @@
 //! The process that writes a card, and is killed: it appends block by block, byte by byte.
+use crate::lent::asked;
 use crate::plain::{BLOCK, HELD, WIDTH};
 use crate::random::Random;
 use crate::{ours, runs};
@@ -27,7 +28,8 @@ pub fn write(file: &Path, seed: u64, count: usize) -> io::Result<()> {
     // one time more than there are blocks
     for _ in 0..=count.div_ceil(HELD) {
         let long = card.metadata()?.len() as usize;
-        let (number, wanted, at) = ours::next(long, count as u32);
+        let next = asked(1, || ours::next(long, count as u32));
+        let (number, wanted, at) = next.map_err(io::Error::other)?;
         if number != 0 {
             return Err(io::Error::other(format!("next says {number}")));
         }
@@ -37,7 +39,8 @@ pub fn write(file: &Path, seed: u64, count: usize) -> io::Result<()> {
         let from = at / BLOCK * HELD * WIDTH;
         let part = &list[from..from + wanted as usize * WIDTH];
         let mut block = [0; BLOCK];
-        let added = ours::append(long, count as u32, part, &mut block);
+        let added = asked(1, || ours::append(long, count as u32, part, &mut block));
+        let added = added.map_err(io::Error::other)?;
         if added != (0, 1, at) {
             return Err(io::Error::other(format!("append says {added:?}")));
         }

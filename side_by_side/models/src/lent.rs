@@ -1,4 +1,5 @@
-//! Lent lists: two calls on the same lists, compared, every element, also outside what was lent.
+//! Lent lists: two calls on the same lists, compared, every element, also outside what was lent. Ours has to be one of the archive's: whoever
+//! makes such a call says so (`answered`), and a plain call in its place is noticed.
 use std::cell::Cell;
 use std::fmt::Debug;
 
@@ -87,6 +88,26 @@ impl Spoil {
 thread_local! {
     /// What is spoiled in this thread's comparisons.
     static SPOILED: Cell<Option<Spoil>> = const { Cell::new(None) };
+    /// How many calls of this thread the archive has answered.
+    static ANSWERED: Cell<u64> = const { Cell::new(0) };
+}
+
+/// Counts a call that the archive has answered, and hands on what it said: to be given the archive's own word, and no other.
+pub fn answered<T>(said: T) -> T {
+    ANSWERED.set(ANSWERED.get() + 1);
+    said
+}
+
+/// A call that has to be answered by the archive so many times, once for ours and never for a plain one.
+pub fn asked<T>(times: u64, call: impl FnOnce() -> T) -> Result<T, String> {
+    let before = ANSWERED.get();
+    let said = call();
+    match ANSWERED.get() - before {
+        seen if seen == times => Ok(said),
+        seen => Err(format!(
+            "the archive answered {seen} times, and not {times}"
+        )),
+    }
 }
 
 /// Sees that a comparison finds nothing as it is, and something with each word spoiled; how many that were.
@@ -117,7 +138,8 @@ pub fn same<T: PartialEq + Debug + Turn, S: PartialEq + Debug + Turn>(
     plain: impl Fn(&mut [T]) -> S,
     ours: impl Fn(&mut [T]) -> S,
 ) -> Result<Left<T, S>, String> {
-    let (plain, mut ours) = (lent(fill, count, plain), lent(fill, count, ours));
+    let plain = asked(0, || lent(fill, count, plain)).map_err(|what| format!("plain: {what}"))?;
+    let mut ours = asked(1, || lent(fill, count, ours)).map_err(|what| format!("ours: {what}"))?;
     if let Some(spoil) = SPOILED.get() {
         spoil.put(&mut ours, count);
     }

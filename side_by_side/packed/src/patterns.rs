@@ -1,4 +1,5 @@
 //! Patterns of one component, through long lists: by the proved packer, by the plain one, and by an exact product of f64.
+use crate::lent::asked;
 use crate::plain::{NOTHING, SEVEN, SLOT};
 use crate::{ours, plain};
 
@@ -51,7 +52,7 @@ pub fn compare(at: usize, patterns: impl Iterator<Item = u32>) -> Result<Seen, S
             }
         }
         let answer = &answer[..count * SLOT];
-        let said = ours::pack(answer, &mut packed);
+        let said = asked(1, || ours::pack(answer, &mut packed))?;
         if said != (0, count * SEVEN) {
             return Err(format!("{count} slots: ours says {said:?}"));
         }

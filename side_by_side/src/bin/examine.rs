@@ -1,4 +1,5 @@
 //! A partner's lists examined beside a plain examiner, and our own lists beside plain steps 5 and 6: what is said, and every word. See README.md.
+use models::lent::asked;
 use models::{Faces, shapes};
 use side_by_side::examiner::{ENTRIES, Left, Lists, expected, left, own_expected, own_left};
 use side_by_side::kinds::named;
@@ -114,7 +115,11 @@ fn case(seed: u64, i: u64) -> Case {
 /// What differs of a case, and what had to be left; a word of ours may be spoiled first.
 fn differs(case: &Case, spoil: Option<fn(&mut Left)>) -> (Option<String>, Left) {
     let expected = expected(&case.mesh, &case.lists, case.lengths);
-    let mut ours = left(&case.mesh, &case.lists, case.lengths);
+    // two calls of the archive: the examiner, and our own links
+    let mut ours = match asked(2, || left(&case.mesh, &case.lists, case.lengths)) {
+        Ok(ours) => ours,
+        Err(what) => return (Some(what), expected),
+    };
     if let Some(spoil) = spoil {
         spoil(&mut ours);
     }
@@ -216,7 +221,7 @@ fn compare_own(seed: u64) -> bool {
         let (kind, i) = (kinds[i as usize % OWN.len()], i / OWN.len() as u64);
         let mesh = kind.case(seed, i).mesh;
         let lengths = ENTRIES.map(|entries| entries * mesh.sizes.len());
-        if own_left(&mesh, lengths) != own_expected(&mesh, lengths) {
+        if asked(1, || own_left(&mesh, lengths)) != Ok(own_expected(&mesh, lengths)) {
             differed(&wrong, seed, i, kind.name, "our own lists");
         }
     });
@@ -245,11 +250,11 @@ fn compare_large(seed: u64) -> bool {
     let (mut compared, mut rows, mut wrong) = (0, 0, 0);
     for (name, mesh) in large(seed) {
         let lengths = ENTRIES.map(|entries| entries * mesh.sizes.len());
-        let ours = within(OURS, || own_left(&mesh, lengths));
+        let ours = within(OURS, || asked(1, || own_left(&mesh, lengths)));
         let expected = within(MODEL, || own_expected(&mesh, lengths));
         compared += 1;
         rows += 3 * u64::from(expected.handed.sound);
-        if ours != expected {
+        if ours != Ok(expected) {
             println!("large mesh {compared} of seed {seed} ({name}) differs");
             wrong += 1;
         }

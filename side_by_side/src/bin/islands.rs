@@ -1,4 +1,5 @@
 //! Frames by islands beside one call for frames, and labels beside a plain model: every word of every list. See README.md.
+use models::lent::asked;
 use side_by_side::islands::{ENTRIES, Left, expected, left};
 use side_by_side::many::{
     Spoil, differed, each, every_spoil_caught, flip, kind_of, lengths, numbers,
@@ -87,11 +88,13 @@ fn differs(
     lengths: [usize; 5],
     spoil: Option<fn(&mut Left)>,
 ) -> (Option<String>, Option<Left>) {
-    let expected = match expected(mesh, lengths) {
-        Ok(expected) => expected,
+    // two calls of the archive: frames by islands, and labels
+    let both = expected(mesh, lengths)
+        .and_then(|expected| Ok((expected, asked(2, || left(mesh, lengths))?)));
+    let (expected, mut ours) = match both {
+        Ok(both) => both,
         Err(what) => return (Some(what), None),
     };
-    let mut ours = left(mesh, lengths);
     if let Some(spoil) = spoil {
         spoil(&mut ours);
     }
