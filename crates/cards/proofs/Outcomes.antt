@@ -1,7 +1,7 @@
 -- Which outcome it is, by the tests. Assumes nothing.
 use Prim.Native.Nat.{ℕ, _*_, _%_, _≤_, _<_}
 use native.Mathlib.Omega.{arith}
-use mathlib.Core.Path.{_≡_, ap, _∙_}
+use mathlib.Core.Path.{_≡_, ap}
 use mathlib.Core.Bool.{Bool, true, false, cond, _&&_}
 use mathlib.Core.List.{List, _++_}
 use lib.ListN.{length, getD, drop}
@@ -11,7 +11,7 @@ use Rattle.words.specs.Words.{wordValues}
 use Rattle.blocks.specs.Format.{recordWords}
 use Rattle.bits.proofs.Bools.{and-left, and-right}
 use Rattle.lists.specs.Parts.{everyBelow}
-use Rattle.cards.specs.Writer.{recordsOf, writable, cardBytes, WriteLeft, notWritten, cardWritten, writeLeft}
+use Rattle.cards.specs.Writer.{recordsOf, writable, cardBytes, notWritten, cardWritten, writeLeft}
 use Rattle.cards.specs.Reader.{bytesPast, readings, ReadLeft, readLeft}
 
 module _ (l : List ℕ) where
@@ -38,22 +38,18 @@ module _ (l : List ℕ) where
   can-write e h m = λ z. eq-eqb (length l % recordWords) 0 e z && lt-ltb (recordsOf l) wordValues h z && m z
 
   module _ (card : List ℕ) where
-    -- the second test
-    room : WriteLeft
-    unfolding writeLeft
-    room = cond (leb (cardBytes (recordsOf l)) (length card)) (cardWritten l card) (notWritten 2 card)
-
+    -- by the two tests
     pub wrote-1 : writable l ≡ false → writeLeft l card ≡ notWritten 1 card
-    unfolding writeLeft room
-    wrote-1 h = ap (λ (x : Bool). cond x room (notWritten 1 card)) h
+    unfolding writeLeft
+    wrote-1 h = simp h
 
     pub wrote-2 : writable l ≡ true → length card < cardBytes (recordsOf l) → writeLeft l card ≡ notWritten 2 card
-    unfolding writeLeft room
-    wrote-2 h k = ap (λ (x : Bool). cond x room (notWritten 1 card)) h ∙ ap (λ (x : Bool). cond x (cardWritten l card) (notWritten 2 card)) (lt-leb (cardBytes (recordsOf l)) (length card) k)
+    unfolding writeLeft
+    wrote-2 h k = simp (h, lt-leb (cardBytes (recordsOf l)) (length card) k)
 
     pub wrote-0 : writable l ≡ true → cardBytes (recordsOf l) ≤ length card → writeLeft l card ≡ cardWritten l card
-    unfolding writeLeft room
-    wrote-0 h k = ap (λ (x : Bool). cond x room (notWritten 1 card)) h ∙ ap (λ (x : Bool). cond x (cardWritten l card) (notWritten 2 card)) (le-leb (cardBytes (recordsOf l)) (length card) k)
+    unfolding writeLeft
+    wrote-0 h k = simp (h, le-leb (cardBytes (recordsOf l)) (length card) k)
 
 module _ (n : ℕ) (bs answer : List ℕ) where
   taken : ReadLeft

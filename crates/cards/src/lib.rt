@@ -55,7 +55,7 @@ fn write_blocks(answer: &[u32], total: u32, card: &mut [u8])
     requires { ⌜ (recordWords * total ≤ length (now answer)) × (writer.cardBytes total ≤ length (now card)) ⌝ }
     ensures { λ _. ⌜ now (card .exit) ≡ writer.blocksOf (blocksFor total) total (now (answer .entry)) ++ drop (writer.cardBytes total) (now (card .entry)) ⌝ }
 {
-    for b in 0..blocks::blocks_for(total) {
+    for b in 0..blocks::blocks_for(total) { // those that are called for
         blocks::put_block(card, b, total, b, answer, blocks::ROOM_WORDS * b);
     }
 }

@@ -34,6 +34,10 @@ missed-later first missing e = ap (λ (b : Bool). cond b (first - 1) (first + mi
 pub missed-same : (r first first′ missing : ℕ) → r ≡ missed first missing → first ≡ first′ → r ≡ missed first′ missing
 missed-same r first first′ missing e f = e ∙ ap (λ (n : ℕ). missed n missing) f
 
+-- the missing corner by another name
+pub missing-same : (r first missing missing′ : ℕ) → r ≡ missed first missing → missing ≡ missing′ → r ≡ missed first missing′
+missing-same r first missing missing′ e f = e ∙ ap (missed first) f
+
 -- ---- a corner of a degenerate triangle
 
 module _ (rows n : ℕ) (w : List ℕ) (r : ℕ) (a : List ℕ) (v to : ℕ) (H : v ≡ cell rows vertexColumn r w) (S : to ≡ cell rows slotColumn r w) where
@@ -104,8 +108,8 @@ module _ (rows : ℕ) (ps : List Float) (w : List ℕ) (t : ℕ) (a : List ℕ) 
   missing-unmarked e = sym (ap (λ (b : Bool). cond b (copiedAt (cell rows slotColumn (equalAt rows ps w t) w) (missedAt rows slotColumn w t) a) a) (sym M ∙ e))
 
   -- marked: the slot of the corner at row k is
-  pub missing-copied : (k from to : ℕ) (u : List ℕ) → b ≡ true → k ≡ equalAt rows ps w t → from ≡ cell rows slotColumn k w → to ≡ missedAt rows slotColumn w t → u ≡ copiedAt from to a → u ≡ missingCopied rows ps w t a
+  pub missing-copied : (k from to : ℕ) (u : List ℕ) → b ≡ true → k ≡ equalAt rows ps w t → u ≡ copiedAt from to a → from ≡ cell rows slotColumn k w → to ≡ missedAt rows slotColumn w t → u ≡ missingCopied rows ps w t a
   unfolding missingCopied
-  missing-copied k from to u e K F T U =
+  missing-copied k from to u e K U F T =
       U ∙ (λ z. copiedAt ((F ∙ ap (λ (r : ℕ). cell rows slotColumn r w) K) z) (T z) a)
       ∙ sym (ap (λ (b : Bool). cond b (copiedAt (cell rows slotColumn (equalAt rows ps w t) w) (missedAt rows slotColumn w t) a) a) (sym M ∙ e))

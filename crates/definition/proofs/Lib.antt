@@ -1,3 +1,4 @@
 pub mod Samples
 pub mod SamplesOld
 pub mod Lengths
+pub mod Order

@@ -6,7 +6,7 @@ use mathlib.Core.List.{List, _++_}
 use mathlib.Core.Option.{Option, none, some}
 use lib.ListN.{length, take, drop, replicate}
 use lib.Seq.{take-all, drop-drop}
-use Rattle.definition.specs.Limits.{faceLimit, workWords}
+use Rattle.definition.specs.Limits.{faceLimit, workWords, highestRefusal}
 use Rattle.definition.specs.Handed.{slotCount}
 use Rattle.definition.specs.Desk.{Row, verdict, Shown}
 use Rattle.definition.specs.Outcome.{Result, answered}
@@ -34,6 +34,15 @@ no-refusal x e = go (verdict x) (verdict-numbered x) e
     go : (o : Option Row) → Each InTable o → asVerdict o .number ≡ 0 → o ≡ none
     go none each-none e = refl
     go (some r) (each-some f) e = let g = f .known .0 in absurd (omega arith)
+
+-- and every number is a small one
+pub number-small : (x : Shown) → told (verdict x) .number ≤ highestRefusal
+unfolding told
+number-small x = go (verdict x) (verdict-numbered x)
+  where
+    go : (o : Option Row) → Each InTable o → told o .number ≤ highestRefusal
+    go none each-none = omega arith
+    go (some r) (each-some f) = f .known .1
 
 -- so few faces are all counted
 pub all-slots : (sizes : List ℕ) (n : ℕ) → length sizes ≤ faceLimit → n ≡ slotCount (take (min faceLimit faceLimit) sizes) → n ≡ slotCount sizes

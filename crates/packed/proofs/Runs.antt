@@ -73,25 +73,28 @@ unfolding firstFailing
 failing-none p = refl
 
 -- none of one more
-pub failing-more : (n : ℕ) (p : ℕ → Bool) → firstFailing n p ≡ n → p n ≡ true → firstFailing (n + 1) p ≡ n + 1
+failing-next : (n : ℕ) (p : ℕ → Bool) → firstFailing n p ≡ n → p n ≡ true → firstFailing (suc n) p ≡ suc n
 unfolding firstFailing
-failing-more n p e h =
-    ap (λ (k : ℕ). firstFailing k p) (add-one n) ∙ ((λ z. cond (eq-eqb (firstFailing n p) n e z && h z) (suc n) (firstFailing n p)) ∙ sym (add-one n))
+failing-next n p e h = simp (eq-eqb (firstFailing n p) n e, h)
+
+pub failing-more : (n : ℕ) (p : ℕ → Bool) → firstFailing n p ≡ n → p n ≡ true → firstFailing (n + 1) p ≡ n + 1
+failing-more n p e h = ap (λ (k : ℕ). firstFailing k p) (add-one n) ∙ (failing-next n p e h ∙ sym (add-one n))
 
 -- the last of those looked at
 failing-last : (n : ℕ) (p : ℕ → Bool) → firstFailing n p ≡ n → p n ≡ false → firstFailing (suc n) p ≡ n
 unfolding firstFailing
-failing-last n p e h = (λ z. cond (eq-eqb (firstFailing n p) n e z && h z) (suc n) (firstFailing n p)) ∙ e
+failing-last n p e h = simp (e, eq-eqb n n refl, h)
 
 -- and so of all that come after
+failing-before : (n i : ℕ) (p : ℕ → Bool) → firstFailing n p ≡ i → i < n → firstFailing (suc n) p ≡ i
+unfolding firstFailing
+failing-before n i p s k = simp (ne-eqb (firstFailing n p) n (λ r. omega (arith, s, r, k))) s
+
 pub failing-here : (n i : ℕ) (p : ℕ → Bool) → i < n → firstFailing i p ≡ i → p i ≡ false → firstFailing n p ≡ i
 unfolding firstFailing
 failing-here zero i p l e h = absurd (omega arith)
 failing-here (suc n) i p l e h =
-    ⊎-elim (λ s. ap (λ (k : ℕ). firstFailing (suc k) p) (sym s) ∙ failing-last i p e h) (λ k. before (failing-here n i p k e h) k) (eq-or-lt-of-le (le-of-suc-le-suc l))
-  where
-    before : firstFailing n p ≡ i → i < n → cond (eqb (firstFailing n p) n && p n) (suc n) (firstFailing n p) ≡ i
-    before s k = ap (λ (t : Bool). cond (t && p n) (suc n) (firstFailing n p)) (ne-eqb (firstFailing n p) n (λ r. omega (arith, s, r, k))) ∙ s
+    ⊎-elim (λ s. ap (λ (k : ℕ). firstFailing (suc k) p) (sym s) ∙ failing-last i p e h) (λ k. failing-before n i p (failing-here n i p k e h) k) (eq-or-lt-of-le (le-of-suc-le-suc l))
 
 -- none of any, where all pass
 pub failing-all : (n : ℕ) (p : ℕ → Bool) → ((i : ℕ) → i < n → p i ≡ true) → firstFailing n p ≡ n

@@ -41,7 +41,7 @@ module _ (rows r : ℕ) (ps ns ts : List Float) (w : List ℕ) (long : columns *
 
   module _ (G : GoingIn rows r ps ns ts w) (c : Corner) (b s : ℕ) (e : c ≡ C r) (f : b ≡ bucketOf rows c) (h : b < rows) (F : Found c (cell rows headColumn b w) s) where
     -- one was found
-    pub stored-found : (s ≡ 0 → ⊥) → GoingIn rows (r + 1) ps ns ts (put rows vertexColumn r (s - 1) w) × Only weldColumns rows w (put rows vertexColumn r (s - 1) w)
+    stored-found : (s ≡ 0 → ⊥) → GoingIn rows (r + 1) ps ns ts (put rows vertexColumn r (s - 1) w) × Only weldColumns rows w (put rows vertexColumn r (s - 1) w)
     stored-found n = (
       coe 1 0 (i. Going (cornerIn ps ns ts (stored cornerColumn i)) rows (add-one r i) (stored vertexColumn i) (stored headColumn i) (stored nextColumn i))
           (going-found C rows r _ _ _ G room (s - 1) (in-column vertexColumn r room (omega arith)) (subst (λ (m : ℕ). Found (C r) (getD (column rows headColumn w) (bucketOf rows (C r)) 0) m) is (found-is c b s e f h F))),
@@ -53,6 +53,10 @@ module _ (rows r : ℕ) (ps ns ts : List Float) (w : List ℕ) (long : columns *
 
         stored : (k : ℕ) → column rows k (put rows vertexColumn r (s - 1) w) ≡ cond (eqb vertexColumn k) (set (column rows k w) r (s - 1)) (column rows k w)
         stored k = column-set rows k vertexColumn r (s - 1) w room
+
+    -- the same of a word that is its row
+    pub stored-at : (v : ℕ) → (s ≡ 0 → ⊥) → v ≡ s - 1 → GoingIn rows (r + 1) ps ns ts (put rows vertexColumn r v w) × Only weldColumns rows w (put rows vertexColumn r v w)
+    stored-at v n q = subst (λ (m : ℕ). GoingIn rows (r + 1) ps ns ts (put rows vertexColumn r m w) × Only weldColumns rows w (put rows vertexColumn r m w)) (sym q) (stored-found n)
 
     -- none was found
     pub stored-new : s ≡ 0 → GoingIn rows (r + 1) ps ns ts (putFirst rows r b w) × Only weldColumns rows w (putFirst rows r b w)

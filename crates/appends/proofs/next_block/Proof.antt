@@ -1,11 +1,10 @@
 -- `appends::next_block` meets its contract. Assumes nothing.
-use Prim.Native.Nat.{_*_, _/_}
+use native.Mathlib.Omega.{arith}
 use mathlib.Core.Path.{sym, _∙_}
 use mathlib.Core.Bool.{true, false}
-use Rattle.blocks.specs.Format.{blockBytes}
 use Rattle.appends.specs.Next.{firstTorn, placeOf}
 use Rattle.appends.specs.Contract.{afterNext}
-use Rattle.appends.proofs.Outcomes.{following-by}
+use Rattle.appends.proofs.Outcomes.{next-is, following-by}
 use borrow.Author.Needs.{needs}
 use Rattle.appends.proofs.next_block.Statement.{statement}
 use Rattle.appends.proofs.next_block.Tie as tie
@@ -21,7 +20,7 @@ unfolding afterNext firstTorn placeOf
 returns-2 c =
     let e = c .before in
     let a = e .before .before .args in
-    (λ z. record { number = 0; records = c .wanted .ensures z; at = blockBytes * (a .long / blockBytes) })
+    next-is (a .total) (a .long) _ _ _ (c .wanted .ensures) (omega arith) (omega arith)
     ∙ sym (following-by (a .total) (a .long) false (sym (e .before .overfull .ensures) ∙ e .if1 .left))
 
 pub next-block-spec : {M : Type 1} → statement M

@@ -2,6 +2,7 @@
 use Prim.Native.Nat.{ℕ, _+_, _-_, _*_}
 use native.Mathlib.Omega.{arith}
 use mathlib.Core.Path.{_≡_, sym, _∙_, ap}
+use mathlib.Core.Bool.{Bool}
 use mathlib.Core.List.{List}
 use lib.Dec.{eqb, leb}
 use lib.ListN.{getD}
@@ -30,11 +31,14 @@ marked-is c =
     ∙ (ap (λ (u : ℕ). everyBelow u (λ r. leb (wordAt (a .card .now) (blockWords * a .b + headerWords + recordWords * r)) 1)) (c .before .before .before .before .records-used .ensures .0)
     ∙ marked-words (a .total) (a .b) (a .card .now))
 
+every-same : (n m : ℕ) (f : ℕ → Bool) (r : Bool) → r ≡ everyBelow n f → n ≡ m → r ≡ everyBelow m f
+every-same n m f r e h = e ∙ ap (λ (k : ℕ). everyBelow k f) h
+
 emptied-is : (c : tie.After-emptied) → let a = c .before .before .before .before .before .before .before .before .before .args in c .emptied .result ≡ emptied (a .total) (a .b) (blockAt (a .b) (a .card .now))
 emptied-is c =
     let u = c .before .before .before .before .before .before in
     let a = u .before .before .before .args in
-    c .emptied .ensures
+    every-same _ (roomWords - recordWords * u .records-used .result) _ _ (c .emptied .ensures) (omega (arith, u .records-used .ensures .1))
     ∙ (ap (λ (k : ℕ). everyBelow (roomWords - k) (λ i. eqb (wordAt (a .card .now) (blockWords * a .b + headerWords + k + i)) 0)) (ap (λ (k : ℕ). recordWords * k) (u .records-used .ensures .0) ∙ sym (words-are (a .total) (a .b)))
     ∙ emptied-words (a .total) (a .b) (a .card .now))
 

@@ -1,6 +1,6 @@
 -- `blocks::headed` meets its contract. Assumes nothing.
 use native.Mathlib.Omega.{arith}
-use Prim.Native.Nat.{_+_, _-_, _≤_}
+use Prim.Native.Nat.{ℕ, _+_, _-_, _≤_}
 use native.Mathlib.Nat.{le-antisymm}
 use mathlib.Core.Path.{_≡_, sym, _∙_, ap}
 use mathlib.Core.Bool.{true}
@@ -38,11 +38,15 @@ loop-again c =
     let a = c .before .before .before .before .before .args in
     (omega arith, every-more (l .i) (λ k. eqb (wordAt (a .card .now) (a .p + k)) (getD (a .t3) k 0)) (l .inv .1) (ap (λ w. eqb w (getD (a .t3) (l .i) 0)) (sym (c .before .word-at .ensures)) ∙ eq-eqb _ _ (c .if1 .left)))
 
+-- the loop ends past the last word
+all-seen : (i : ℕ) → i ≤ headerWords → headerWords ≤ i → headerWords ≡ i
+all-seen i h l = sym (le-antisymm h l)
+
 returns-2 : tie.Need-returns-2 Inv-loop μ-loop
 returns-2 c =
     let l = c .before .loop in
     let a = c .before .before .before .args in
-    sym (ap (λ n. everyBelow n (λ k. eqb (wordAt (a .card .now) (a .p + k)) (getD (a .t3) k 0))) (sym (le-antisymm (l .inv .0) (c .loop-test .left))) ∙ l .inv .1)
+    sym (ap (λ n. everyBelow n (λ k. eqb (wordAt (a .card .now) (a .p + k)) (getD (a .t3) k 0))) (all-seen (l .i) (l .inv .0) (omega (arith, c .loop-test .left))) ∙ l .inv .1)
 
 pub headed-spec : {M : Type 1} → statement M
 headed-spec =

@@ -1,8 +1,8 @@
 -- `blocks::put_block` meets its contract. Assumes nothing.
 use native.Mathlib.Omega.{arith}
-use Prim.Native.Nat.{ℕ, _*_}
-use mathlib.Core.Path.{sym, _∙_, ap}
-use Rattle.blocks.specs.Format.{recordWords}
+use Prim.Native.Nat.{ℕ, _+_, _*_}
+use mathlib.Core.Path.{_≡_, sym, _∙_, ap}
+use Rattle.blocks.specs.Format.{recordWords, complement}
 use Rattle.blocks.proofs.Counts.{words-are}
 use Rattle.blocks.proofs.Stored.{block-stored}
 use borrow.Author.Needs.{needs}
@@ -18,6 +18,10 @@ put-words-requires-2 c κs =
 add-complement : tie.Need-add-complement
 add-complement c = omega (arith, c .before .before .before .before .before .before .before .put-words2 .ensures .2, c .before .before .before .before .before .before .before .before .before .before .before .put-words .ensures .2)
 
+-- the sum by another name
+of-sum : (r s t : ℕ) → r ≡ complement s → s ≡ t → r ≡ complement t
+of-sum r s t e h = e ∙ ap complement h
+
 returns : tie.Need-returns
 returns c =
     let p = c .before .before in
@@ -31,7 +35,7 @@ returns c =
     block-stored (a .card .now) (w .before .before .before .header .result) (a .records .now) (a .at) (a .total) (a .b) (a .from) (recordWords * u .records-used .result) (w .before .before .before .header .ensures) e
     (omega (arith, e, s .pre .2)) (w .put-words .last .0) (r .put-words2 .last .0) (z .put-zeros .last .0) (p .put-word .last .0) (w .put-words .result) (r .put-words2 .result)
     (p .before .complement .result) (w .put-words .ensures .0) (r .put-words2 .ensures .0) (z .put-zeros .ensures) (p .put-word .ensures) (w .put-words .ensures .1) (r .put-words2 .ensures .1)
-    (p .before .complement .ensures)
+    (of-sum _ _ (w .put-words .result + r .put-words2 .result) (p .before .complement .ensures) (omega arith))
 
 pub put-block-spec : {M : Type 1} → statement M
 put-block-spec =

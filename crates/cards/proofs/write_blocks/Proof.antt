@@ -26,14 +26,19 @@ loop-holds c =
     let a = c .before .before .before .args in
     (omega arith, joined-none (a .card .now) 0 (λ b. blockOf (a .total) b (recordsIn (a .total) b (a .answer .now))), refl)
 
+-- the loop ends at the last block that is called for
+blocks-are : (f : tie.After-blocks-for Inv-loop μ-loop) → f .blocks-for .result ≡ blocksFor (f .before .before .before .args .total)
+unfolding blocksFor
+blocks-are f = omega (arith, f .blocks-for .ensures .0)
+
 put-block-requires : tie.Need-put-block-requires Inv-loop μ-loop
 unfolding cardBytes
 put-block-requires c κs =
     let l = c .before .before .loop in
     let f = c .before .before .before in
     let a = f .before .before .before .args in
-    let k = called (a .total) (l .b) (omega (arith, f .blocks-for .ensures .0, c .before .loop-test .taken)) in
-    (omega (arith, f .blocks-for .ensures .0, f .before .before .before .pre .1, l .inv .2), k, omega (arith, words-are (a .total) (l .b), used-fits (a .total) (l .b) k))
+    let k = called (a .total) (l .b) (omega (arith, blocks-are f, c .before .loop-test .taken)) in
+    (omega (arith, blocks-are f, f .before .before .before .pre .1, l .inv .2), k, omega (arith, words-are (a .total) (l .b), used-fits (a .total) (l .b) k))
 
 loop-again : tie.Need-loop-again Inv-loop μ-loop
 unfolding blocksOf recordsIn
@@ -46,7 +51,7 @@ loop-again c =
       omega arith,
       p .put-block .ensures
           ∙ joined-stored (a .card .now) (l .card) 0 (blockBytes * l .b) (λ b. blockOf (a .total) b (recordsIn (a .total) b (a .answer .now))) (l .b)
-          (omega (arith, length-blocks (l .b) (a .total) (a .answer .now) (s .pre .0) (omega (arith, f .blocks-for .ensures .0, l .inv .0)))) (l .inv .1),
+          (omega (arith, length-blocks (l .b) (a .total) (a .answer .now) (s .pre .0) (omega (arith, blocks-are f, l .inv .0)))) (l .inv .1),
       p .put-block .kept .0 ∙ l .inv .2,
     )
 
@@ -58,7 +63,7 @@ returns c =
     let s = f .before .before .before in
     let n = s .args .total in
     joined-front (s .args .card .now) (l .card) (λ b. blockOf n b (recordsIn n b (s .args .answer .now))) (l .b) (blocksFor n) (blockBytes * blocksFor n) (l .inv .1)
-    (le-antisymm (l .inv .0) (c .loop-test .left) ∙ f .blocks-for .ensures .0) (length-blocks (blocksFor n) n (s .args .answer .now) (s .pre .0) (omega arith)) (s .pre .1)
+    (le-antisymm (l .inv .0) (c .loop-test .left) ∙ blocks-are f) (length-blocks (blocksFor n) n (s .args .answer .now) (s .pre .0) (omega arith)) (s .pre .1)
 
 pub write-blocks-spec : {M : Type 1} → statement M
 write-blocks-spec =

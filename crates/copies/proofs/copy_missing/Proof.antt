@@ -1,4 +1,5 @@
 -- `copies::copy_missing` meets its contract. Assumes nothing.
+use native.Mathlib.Omega.{arith}
 use borrow.Author.Tests.{not-true, not-false}
 use Rattle.copies.proofs.Words.{missed-same, missing-unmarked, missing-copied}
 use borrow.Author.Needs.{needs}
@@ -20,7 +21,7 @@ returns-2 c =
     let i = f .before .before in
     let m = i .before in
     let a = m .before .before .before .before .args in
-    missing-copied (a .rows) (a .positions .now) (a .work .now) (a .t) (a .answer .now) _ (m .is-marked .ensures) _ _ _ _ (not-false (m .is-marked .result) (i .if1 .left)) (f .before .equal-at .ensures .0) (f .slot-at .ensures) gone (k .copy .ensures)
+    missing-copied (a .rows) (a .positions .now) (a .work .now) (a .t) (a .answer .now) _ (m .is-marked .ensures) _ _ _ _ (not-false (m .is-marked .result) (i .if1 .left)) (f .before .equal-at .ensures .0) (k .copy .ensures) (omega (arith, f .slot-at .ensures)) (omega (arith, gone))
 
 pub copy-missing-spec : {M : Type 1} → statement M
 copy-missing-spec =

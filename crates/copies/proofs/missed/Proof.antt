@@ -13,7 +13,7 @@ returns-2 : tie.Need-returns-2
 returns-2 c = (omega (arith, c .if2 .taken, missed-first (c .before .before .args .first) _ (c .before .if1 .left)), omega arith)
 
 returns-3 : tie.Need-returns-3
-returns-3 c = (sym (missed-first _ _ (c .before .if1 .left)), omega (arith, c .before .before .pre .0))
+returns-3 c = (omega (arith, missed-first (c .before .before .args .first) _ (c .before .if1 .left)), omega (arith, c .before .before .pre .0))
 
 pub missed-spec : {M : Type 1} → statement M
 missed-spec =

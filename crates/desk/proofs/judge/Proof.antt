@@ -1,5 +1,6 @@
 -- `desk::judge` meets its contract: each way out is the first row that applies. Assumes nothing.
 use Prim.Native.Nat.{ℕ}
+use native.Mathlib.Omega.{arith}
 use mathlib.Core.Path.{_≡_, sym, ap, _∙_}
 use mathlib.Core.Bool.{Bool, true, false}
 use borrow.Author.Tests.{not-true, not-false}
@@ -19,26 +20,26 @@ asked c =
     let a = c .before .before .before .before .args in
     shown (handed (a .sizes .now) (a .positions .now) (a .normals .now) (a .texture .now)) (a .threshold) (a .answer) (a .work)
 
-returns : tie.Need-returns
-returns c = let q = asked (c .before .before) in c .said .ensures ∙ row1 q (many q (c .before .if1 .taken))
-
 -- row 1 does not apply
 not-many : (c : tie.Else1) → IsMany (asked (c .before)) false
-not-many c = few (asked (c .before)) (c .if1 .left)
+not-many c = few (asked (c .before)) (omega (arith, c .if1 .left))
+
+returns : tie.Need-returns
+returns c = let q = asked (c .before .before) in c .said .ensures ∙ row1 q (many q (omega (arith, c .before .if1 .taken)))
 
 -- what the test of row 2 tells
 misfit-is : (c : tie.After-unfit) → IsMisfit (asked (c .before .before .before)) (c .unfit .result)
 misfit-is c = fits (asked (c .before .before .before)) (c .before .look-over .result .corners) (c .before .look-over .ensures .0) ∙ sym (c .unfit .ensures)
+
+-- nor does row 2
+not-misfit : (c : tie.Else2) → IsMisfit (asked (c .before .before .before .before)) false
+not-misfit c = misfit-is (c .before) ∙ c .if2 .left
 
 returns-2 : tie.Need-returns-2
 returns-2 c =
     let t = c .before in
     let e = t .before .before .before in
     c .said2 .ensures ∙ row2 (asked (e .before)) (not-many e) (misfit-is (t .before) ∙ t .if2 .taken)
-
--- nor does row 2
-not-misfit : (c : tie.Else2) → IsMisfit (asked (c .before .before .before .before)) false
-not-misfit c = misfit-is (c .before) ∙ c .if2 .left
 
 returns-3 : tie.Need-returns-3
 returns-3 c =

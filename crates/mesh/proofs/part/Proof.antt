@@ -45,13 +45,13 @@ within c =
     let a = c .before .before .before .before .before .args in
     let p = c .before .before .before .before .before .pre in
     let e = ap (λ (n : ℕ). a .width * n) (start-is (c .before)) in
-    omega (arith, e, part-ends (a .width) (a .sizes .now) (a .face) (c .before .before .if1 .left), p .2)
+    omega (arith, e, part-ends (a .width) (a .sizes .now) (a .face) (omega (arith, c .before .before .if1 .left)), p .2)
 
 returns : tie.Need-returns
 unfolding partOrNone
 returns c =
     let a = c .before .before .before .before .args in
-    sym (ap (λ (b : Bool). cond b [] (partOf (a .width) (a .xs .now) (a .sizes .now) (a .face))) (le-leb (length (a .sizes .now)) (a .face) (c .before .if1 .taken)))
+    sym (ap (λ (b : Bool). cond b [] (partOf (a .width) (a .xs .now) (a .sizes .now) (a .face))) (le-leb (length (a .sizes .now)) (a .face) (omega (arith, c .before .if1 .taken))))
 
 mul-start : tie.Need-mul-start
 mul-start c = omega (arith, start-small c)
@@ -74,7 +74,7 @@ part-result-end c = let h = within c in search needs
 returns-2 : tie.Need-returns-2
 returns-2 c =
     let a = c .before .before .before .before .before .before .args in
-    part-is (a .width) (c .before .before .corners-before .result) (a .xs .now) (a .sizes .now) (a .face) (c .before .before .before .if1 .left) (start-is (c .before .before))
+    part-is (a .width) (c .before .before .corners-before .result) (a .xs .now) (a .sizes .now) (a .face) (omega (arith, c .before .before .before .if1 .left)) (start-is (c .before .before))
 
 pub part-spec : {M : Type 1} → statement M
 part-spec =

@@ -1,11 +1,13 @@
 -- `mikktspace::generate_tangent_space` meets its contract. Assumes nothing.
-use mathlib.Core.Path.{sym, ap, _∙_}
+use native.Mathlib.Omega.{arith}
+use mathlib.Core.Path.{_≡_, sym, ap, _∙_}
+use mathlib.Core.Option.{none}
 use denote.Ref.{now}
 use Rattle.definition.specs.Handed.{call, handed, Call}
 use Rattle.definition.specs.Desk.{verdict, atDesk}
 use Rattle.definition.specs.Outcome.{accepted, answered, outcome}
 use Rattle.mikktspace.specs.Contract.{left}
-use Rattle.mikktspace.proofs.Verdicts.{left-same, refused, no-refusal}
+use Rattle.mikktspace.proofs.Verdicts.{left-same, refused, no-refusal, number-small}
 use borrow.Author.Needs.{needs}
 use Rattle.mikktspace.proofs.generate_tangent_space.Statement.{statement}
 use Rattle.mikktspace.proofs.generate_tangent_space.Tie as tie
@@ -25,14 +27,17 @@ returns c =
     let v = verdict (atDesk (called s)) in
     let e = j .judge .ensures in
     ap (λ r. left r (now (a .answer)) (now (a .work))) (c .said .ensures ∙ (λ i. record { number = e i .number; place = e i .place; slots = 0 }))
-    ∙ refused v (accepted (called s)) (now (a .answer)) (now (a .work)) (λ q. c .before .if1 .taken (ap (λ x. x .number) e ∙ q))
+    ∙ refused v (accepted (called s)) (now (a .answer)) (now (a .work)) (λ q. c .before .if1 .taken (omega (arith, ap (λ x. x .number) e, q)))
+
+-- past the test no row applies
+passed : (i : tie.Else1) → verdict (atDesk (called (i .before .before .before .before .before .before .before .before .before))) ≡ none
+passed i =
+    let j = i .before .before in
+    let x = atDesk (called (j .before .before .before .before .before .before .before)) in
+    no-refusal x (omega (arith, ap (λ x. x .number) (j .judge .ensures), number-small x, i .if1 .left))
 
 make-frames-requires : tie.Need-make-frames-requires
-make-frames-requires c κs =
-    let i = c .before .before in
-    let j = i .before .before in
-    let s = j .before .before .before .before .before .before .before in
-    no-refusal (atDesk (called s)) (sym (ap (λ x. x .number) (j .judge .ensures)) ∙ i .if1 .left)
+make-frames-requires c κs = passed (c .before .before)
 
 returns-2 : tie.Need-returns-2
 unfolding outcome answered
@@ -43,8 +48,7 @@ returns-2 c =
     let s = j .before .before .before .before .before .before .before in
     let a = s .args in
     let z = accepted (called s) in
-    let n = no-refusal (atDesk (called s)) (sym (ap (λ x. x .number) (j .judge .ensures)) ∙ i .if1 .left) in
-    left-same _ _ _ _ (c .said2 .ensures) ∙ (m .make-frames .ensures ∙ ap (λ o. answered o z (now (a .answer)) (now (a .work))) (sym n))
+    left-same _ _ _ _ (c .said2 .ensures) ∙ (m .make-frames .ensures ∙ ap (λ o. answered o z (now (a .answer)) (now (a .work))) (sym (passed i)))
 
 pub generate-tangent-space-spec : {M : Type 1} → statement M
 generate-tangent-space-spec =

@@ -19,7 +19,7 @@ returns-2 : tie.Need-returns-2
 unfolding afterPack notPacked slotsIn
 returns-2 c =
     let a = c .before .before .before .before .args in
-    pack-short (a .answer .now) (a .packed .now) (omega (arith, c .before .if1 .left)) (c .if2 .taken)
+    pack-short (a .answer .now) (a .packed .now) (omega (arith, c .before .if1 .left)) (omega (arith, c .if2 .taken))
 
 returns-3 : tie.Need-returns-3
 unfolding afterPack allPacked slotsIn
@@ -27,7 +27,7 @@ returns-3 c =
     let p = c .before .before in
     let t = p .before .before in
     let a = t .before .before .before .before .args in
-    (λ i. record { number = 0; count = packedWords * slotsIn (a .answer .now); packed = p .pack-slots .ensures i }) ∙ pack-done (a .answer .now) (a .packed .now) (omega (arith, t .before .if1 .left)) (t .if2 .left)
+    (λ i. record { number = 0; count = packedWords * slotsIn (a .answer .now); packed = p .pack-slots .ensures i }) ∙ pack-done (a .answer .now) (a .packed .now) (omega (arith, t .before .if1 .left)) (omega (arith, t .if2 .left))
 
 pub pack-spec : {M : Type 1} → statement M
 pack-spec =

@@ -1,5 +1,5 @@
 -- `root::nearest_by_digits` meets its contract: it makes the comparison of the definition. Assumes nothing.
-use mathlib.Core.Path.{_≡_, sym, subst}
+use mathlib.Core.Path.{_≡_, sym, subst, _∙_}
 use Prim.Native.Nat.{ℕ, _+_, _*_, _<_, _≤_}
 use native.Mathlib.Numerals.{add-one}
 use native.Mathlib.Omega.{arith}
@@ -27,14 +27,14 @@ add-result : tie.Need-add-result
 add-result c = omega (arith, small (c .before))
 
 -- each arm is what the definition picks at the q that was found, which is the root
-up : (n q r : ℕ) → q ≡ r → (2 * q + 1) * (2 * q + 1) < 4 * n → q + 1 ≡ toNearest r n
-up n q r e h = subst (λ (x : ℕ). q + 1 ≡ toNearest x n) e (simp (lt-ltb _ _ h) (add-one q))
+up : (n q r v : ℕ) → q ≡ r → (2 * q + 1) * (2 * q + 1) < 4 * n → v ≡ q + 1 → v ≡ toNearest r n
+up n q r v e h s = s ∙ subst (λ (x : ℕ). q + 1 ≡ toNearest x n) e (simp (lt-ltb _ _ h) (add-one q))
 
 stay : (n q r : ℕ) → q ≡ r → 4 * n ≤ (2 * q + 1) * (2 * q + 1) → q ≡ toNearest r n
 stay n q r e h = subst (λ (x : ℕ). q ≡ toNearest x n) e (simp (le-ltb _ _ h))
 
 returns : tie.Need-returns
-returns c = up (c .before .before .args .n) (c .before .whole-root .result) (root 24 (c .before .before .args .n)) (c .before .whole-root .ensures) (c .if1 .taken)
+returns c = up (c .before .before .args .n) (c .before .whole-root .result) (root 24 (c .before .before .args .n)) _ (c .before .whole-root .ensures) (c .if1 .taken) (omega arith)
 
 returns-2 : tie.Need-returns-2
 returns-2 c = stay (c .before .before .args .n) (c .before .whole-root .result) (root 24 (c .before .before .args .n)) (c .before .whole-root .ensures) (c .if1 .left)

@@ -13,7 +13,7 @@ returns c =
     let t = c .before in
     let f = t .before .before in
     let a = f .before .before .before .before .args in
-    (group-same (a .rows) (a .threshold) _ _ _ _ (a .work .now) (a .answer .now) _ (f .begin-at .ensures .0) (t .begin-at2 .ensures .0) (reach-none (a .rows) (a .threshold) _ _ (a .work .now) (a .answer .now) (c .if1 .taken)), only-none (joinedColumn ∷ []) (a .rows) (a .work .now))
+    (group-same (a .rows) (a .threshold) _ _ _ _ (a .work .now) (a .answer .now) _ (f .begin-at .ensures .0) (t .begin-at2 .ensures .0) (reach-none (a .rows) (a .threshold) (f .begin-at .result) (t .begin-at2 .result) (a .work .now) (a .answer .now) (omega (arith, c .if1 .taken))), only-none (joinedColumn ∷ []) (a .rows) (a .work .now))
 
 reach-group-requires : tie.Need-reach-group-requires
 reach-group-requires c κs =

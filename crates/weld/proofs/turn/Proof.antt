@@ -9,7 +9,7 @@ use Rattle.table.specs.Columns.{headColumn, nextColumn}
 use Rattle.table.proofs.Laws.{getD-column}
 use Rattle.view.specs.Frame.{Only}
 use Rattle.weld.specs.Welding.{Chain, GoingIn, weldColumns}
-use Rattle.weld.proofs.Stores.{stored-found, stored-new}
+use Rattle.weld.proofs.Stores.{stored-at, stored-new}
 use Rattle.weld.proofs.turn.Statement.{statement}
 use Rattle.weld.proofs.turn.Tie as tie
 
@@ -31,8 +31,8 @@ returns c =
     let b = f .before .before .before in
     let s = start b in
     let a = s .args in
-    stored-found (a .rows) (a .row) (now (a .positions)) (now (a .normals)) (now (a .texture)) (now (a .work)) (s .pre .0) (s .pre .1) (s .pre .3) (b .before .corner-of .result) (b .bucket .result) (f .find .result)
-    (b .before .corner-of .ensures) (b .bucket .ensures .0) (b .bucket .ensures .1) (f .find .ensures) (c .if1 .taken)
+    stored-at (a .rows) (a .row) (now (a .positions)) (now (a .normals)) (now (a .texture)) (now (a .work)) (s .pre .0) (s .pre .1) (s .pre .3) (b .before .corner-of .result) (b .bucket .result) (f .find .result)
+    (b .before .corner-of .ensures) (b .bucket .ensures .0) (b .bucket .ensures .1) (f .find .ensures) _ (c .if1 .taken) (omega arith)
 
 returns-2 : tie.Need-returns-2
 returns-2 c =

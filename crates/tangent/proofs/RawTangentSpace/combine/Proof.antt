@@ -1,6 +1,7 @@
 -- `RawTangentSpace::combine` meets its contract. Assumes nothing.
 use mathlib.Core.Path.{_≡_, sym, ap, _∙_}
 use mathlib.Core.Bool.{Bool, false, cond}
+use lib.Ieee.{neg, ofBits}
 use borrow.Author.Needs.{needs}
 use Rattle.math.specs.declared.Vec3.{Vec3}
 use Rattle.math.specs.Vector as math
@@ -34,7 +35,7 @@ unfolding combine
 mixed-is a b q u s v t e f h₁ h₂ h₃ h₄ = cc
 
 returns-2 : tie.Need-returns-2
-unfolding mean
+unfolding mean neg ofBits
 returns-2 c =
     let n₂ = c .before .before .before .before in
     let n₁ = n₂ .before .before in
