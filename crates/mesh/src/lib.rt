@@ -257,7 +257,7 @@ pub fn span_of(
     if caught(sizes, positions, normals, texture) {
         return Span { from: 0, count: 0 };
     }
-    if sizes.len() <= face {
+    if face >= sizes.len() {
         return Span { from: 0, count: 0 };
     }
     let width = width_of(list);

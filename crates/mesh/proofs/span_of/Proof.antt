@@ -46,7 +46,7 @@ returns c = stopped (given (c .before .before .before .before .before .before)) 
 returns-2 : tie.Need-returns-2
 returns-2 c =
     let e = c .before in
-    past (given (e .before .before .before .before .before .before)) _ _ (sym (e .before .caught .ensures) ∙ e .if1 .left) (c .if2 .taken)
+    past (given (e .before .before .before .before .before .before)) _ _ (sym (e .before .caught .ensures) ∙ e .if1 .left) (omega (arith, c .if2 .taken))
 
 mul-from : tie.Need-mul-from
 mul-from c = omega (arith, mul-le-mul (c .before .width-of .ensures .1) (c .corners-before .ensures .1))
@@ -62,7 +62,7 @@ returns-3 c =
     let w = c .before .before in
     let p = w .before in
     let e = p .before in
-    within (given (e .before .before .before .before .before .before)) _ _ (sym (e .before .caught .ensures) ∙ e .if1 .left) (p .if2 .left) _ _ (w .width-of .ensures .0) (c .before .corners-before .ensures .0)
+    within (given (e .before .before .before .before .before .before)) _ _ (sym (e .before .caught .ensures) ∙ e .if1 .left) (omega (arith, p .if2 .left)) _ _ (w .width-of .ensures .0) (c .before .corners-before .ensures .0)
 
 pub span-of-spec : {M : Type 1} → statement M
 span-of-spec =
