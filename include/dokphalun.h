@@ -24,7 +24,7 @@ extern "C" {
 
 /* The edition of the interface that this header declares: one more whenever a call, a list or a number of it no longer means
  * what it meant. */
-#define DOKPHALUN_INTERFACE 1
+#define DOKPHALUN_INTERFACE 2
 /* The greatest number of faces that is accepted. */
 #define DOKPHALUN_MOST_FACES 65536
 /* The words of a slot, and of a card's record. */
@@ -49,11 +49,13 @@ extern "C" {
 #define DOKPHALUN_ASK
 #endif
 
-/* What dokphalun_frames says: number 0, place 0 and how many slots it wrote; or a refusal's number, its place and 0.
+/* What dokphalun_frames says: number 0, place 0 and how many slots it wrote; or a refusal's number, its place and 0. They are
+ * checked in this order, and the first that applies is given:
  *   1  more than DOKPHALUN_MOST_FACES faces
  *   2  positions or normals are not three numbers a corner, or texture coordinates not two
  *   3  the threshold is NaN or infinite
- *   4  a corner of a face of 3 or 4 holds a NaN or infinity; place is the corner, counted from 0 over all faces
+ *   4  a corner of a face of 3 or 4 holds a NaN or infinity; place is the lowest such corner, counted from 0 over all faces
+ *   7  a corner of a face of 3 or 4 has no normal: each of its three numbers is at most 2^-126 in size; place as for 4
  *   5  the answer list is shorter than ten words a slot
  *   6  the work list is shorter than 128 words a face
  */
@@ -77,7 +79,7 @@ struct dokphalun_span {
 };
 
 /* What dokphalun_labels says: number 0, place 0 and how many islands there are; or a refusal's number, its place and 0.
- *   1, 2, 4, 6  as dokphalun_frames
+ *   1, 2, 4, 7, 6  as dokphalun_frames, in this order
  *   9  the list of labels is shorter than one a face
  */
 struct dokphalun_labelled {
@@ -87,7 +89,7 @@ struct dokphalun_labelled {
 };
 
 /* What dokphalun_examine says: three times 0, the lists are accepted; or a refusal's number, 0 and its place; or 0, the number
- * of the first objection that applies and its lowest place. Refusals 1, 2, 4 and 6 are those of dokphalun_frames.
+ * of the first objection that applies and its lowest place. Refusals 1, 2, 4, 7 and 6 are those of dokphalun_frames.
  * A row is a corner of a sound triangle, and the side that runs from it to the triangle's next corner: row 3t + i is of corner i
  * (0, 1, 2) of sound triangle t. Two corners are welded where all eight numbers are the same to the bit. docs/EXAMINER.md has
  * an example of each.
@@ -112,7 +114,7 @@ struct dokphalun_examined {
 };
 
 /* What dokphalun_links says: number 0, place 0 and N, how many triangles are sound; or a refusal's number, its place and 0.
- *   1, 2, 4, 6  as dokphalun_frames
+ *   1, 2, 4, 7, 6  as dokphalun_frames, in this order
  *   9  links or groups are shorter than DOKPHALUN_LINK_WORDS a face, or orientations than DOKPHALUN_ORIENTATION_WORDS
  */
 struct dokphalun_handed {

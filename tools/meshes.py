@@ -127,7 +127,55 @@ def refusals():
     yield "a short list and a bad threshold: 2", m
     m = mesh([change(ONE, 0, 0, 0, NAN)], NAN, answer=-1, work=-1)
     m.texture = m.texture + [0]
-    yield "everything from 2 to 6: 2", m
+    yield "everything from 2 to 6 but 7: 2", m
+    yield from absent_normals()
+
+
+def bared(face, corner, normal=(0, 0, 0)):
+    """The face with another normal at one corner, none unless said."""
+    return [(p, normal if i == corner else n, t) for i, (p, n, t) in enumerate(face)]
+
+
+def absent_normals():
+    """Request E4: refusal 7, its borders, its place, and what it comes before and after."""
+    least, minus_least = "00800000", "80800000"
+    for k in range(3):
+        yield f"sample 1 without a normal at corner {k}: 7", mesh([bared(ONE, k)], answer=k)
+    without = lambda face: [(p, (0, 0, 0), t) for p, _, t in face]
+    yield "sample 1 without any normal: 7 at 0", mesh([without(ONE)])
+    yield "two triangles without any normal: 7 at 0", mesh([without(ONE), without(BESIDE)])
+    yield "no normal at 1, at 2 and in the face behind: the lowest", mesh([bared(bared(BESIDE, 2), 1), bared(ONE, 0)])
+    for n in ((MINUS_0, 0, MINUS_0), (LEAST, 0, 0), (0, "807FFFFF", 0), (least, minus_least, least), (0, 0, minus_least), (0, 0, MINUS_0), (MINUS_0, least, 0)):
+        yield f"a normal of {n[0]}, {n[1]}, {n[2]}: 7", mesh([bared(ONE, 1, n)])
+    for k in range(3):
+        n = tuple("00800001" if i == k else (least, MINUS_0, minus_least)[i] for i in range(3))
+        yield f"a normal of {n[0]}, {n[1]}, {n[2]}: accepted", mesh([bared(ONE, 1, n)])
+    yield "a normal of 80800001 and zeros: accepted", mesh([bared(BESIDE, 0, ("80800001", 0, MINUS_0)), ONE])
+    yield "no normal in the fourth corner of a quad: 7 at 3", mesh([bared(QUAD, 3)])
+    yield "no normals in the quad behind a triangle: 7 at 4", mesh([ONE, bared(bared(QUAD, 1), 3)])
+    yield "no normal behind a face of 5: the place is counted over all corners", mesh([nth(5), bared(ONE, 2)])
+    yield "no normal behind faces of 0, 1, 2 and 6: over all corners", mesh([[], nth(1), nth(2), nth(6), bared(QUAD, 1)])
+    yield "no normals in a face of 5 alone: accepted", mesh([without(nth(5)), ONE])
+    yield "no normals in a face of 5 and in the triangle behind it: the triangle's corner", mesh([without(nth(5)), bared(ONE, 1)])
+    yield "no normal in a face of 5 between two triangles: accepted", mesh([ONE, bared(nth(5), 0), BESIDE])
+    yield "no normals in faces of 1, 2 and 6 alone: accepted", mesh([bared(nth(1), 0), bared(nth(2), 1), ONE, bared(nth(6), 5)], answer=1)
+    yield "no normal at 0 and a NaN at 5: 4 at 5", mesh([bared(ONE, 0), change(BESIDE, 2, 0, 0, NAN)])
+    yield "no normal at 3 and an infinity at 9, behind a face of 5: 4 at 9", mesh([bared(QUAD, 3), nth(5), change(ONE, 0, 1, 2, MINUS_INF)])
+    yield "a NaN at 0 and no normal at 5: 4 at 0", mesh([change(ONE, 0, 2, 0, NAN), bared(BESIDE, 2)])
+    yield "no normal at 1, and at 2 a NaN in a normal of zeros: 4 at 2", mesh([change(bared(bared(ONE, 1), 2), 2, 1, 0, NAN)])
+    yield "a NaN in a face of 5 and no normal in a triangle: 7", mesh([change(nth(5), 4, 1, 0, NAN), bared(ONE, 0)])
+    yield "no normal and a bad threshold: 3", mesh([bared(ONE, 0)], NAN)
+    yield "no normal and an infinite threshold: 3", mesh([ONE, bared(BESIDE, 2)], INF)
+    yield "no normal and a short answer list: 7", mesh([bared(ONE, 1)], answer=-1)
+    yield "no normal and a short work list: 7", mesh([bared(ONE, 2)], work=-1)
+    yield "no normal and short lists: 7", mesh([ONE, bared(QUAD, 0)], answer=-70, work=-256)
+    yield "no normal in a quad and an answer list of 10S - 10 words: 7", mesh([bared(QUAD, 2)], answer=-10)
+    m = mesh([bared(ONE, 0)])
+    m.texture = m.texture[:-1]
+    yield "no normal and a short list: 2", m
+    m = mesh([bared(ONE, 0)], NAN, answer=-1, work=-1)
+    m.positions = m.positions + [word(NAN)]
+    yield "everything from 2 to 7 but 4: 2", m
 
 
 def lists():
@@ -407,7 +455,7 @@ def sums():
         yield f"a tilted normal: cosines are projected, threshold {t}", mesh(fan(tilted, hub, True), t)
     yield "three triangles listed as the walk does not meet them", mesh([fan(rim)[0], fan(rim)[3], fan(rim)[1], fan(rim)[2], fan(rim, closed=True)[4]])
     yield "narrow and wide angles", mesh(fan([((1, 0, 0.25), UP, (1, 0)), ((1, 0.0625, 0), UP, (1, 0.125)), ((-1, 0.5, 0.5), UP, (-1, 1)), ((-1, -1, 0), UP, (-2, -1))], closed=True))
-    yield "a normal of no length", mesh([corners([p for p, _, _ in ONE], [(0, 0), (1, 0), (0, 1)], (0, 0, 0)), corners([p for p, _, _ in BESIDE], [(1, 0), (1, 1), (0, 1)], (0, 0, 0))])
+    yield "normals of the least length", mesh([corners([p for p, _, _ in ONE], [(0, 0), (1, 0), (0, 1)], (0, 0, "00800001")), corners([p for p, _, _ in BESIDE], [(1, 0), (1, 1), (0, 1)], (0, 0, "00800001"))])
     yield "a long normal", mesh([corners([p for p, _, _ in ONE], [(0, 0), (1, 0), (0, 1)], (0.5, 1, 3))])
     yield "a normal in the plane", mesh([corners([p for p, _, _ in ONE], [(0, 0), (1, 0), (0, 1)], (1, 0, 0))])
     yield "a corner without an angle", mesh([corners([(0, 0, 0), (1, 0, 0), (2, 0, 1)], [(0, 0), (1, 0), (2, 1)], (1, 0, 0))])

@@ -37,7 +37,10 @@ SLIPS = {
         "normals are not looked at", "texture is not looked at", "faces of every size are looked at", "the last bad corner",
         "its place counted in slots", "its place counted in its face", "its face for its place", "10S words are too few", "10S - 1 words are enough",
         "10C words are asked for", "128F words are too few", "128F - 1 words are enough", "2 before 1", "3 before 2", "4 before 3",
-        "5 before 4", "6 before 5", "a refusal returns S", "a refusal writes the answer list", "a refusal clears the work list",
+        "5 before 4", "6 before 5", "a zero normal passes", "7 before 3", "7 before 4", "of 4 and 7 the lower place", "5 before 7", "6 before 7",
+        "two zero components are enough", "the last component alone is looked at", "00800001 counts as zero", "00800000 is a normal", "the least numbers are a normal",
+        "-0.0 is a normal", "the last corner without a normal", "place of 7 counted in slots", "place of 7 counted in its face", "its face for the place of 7",
+        "faces of five are asked for normals", "7 in triangles alone", "a refusal returns S", "a refusal writes the answer list", "a refusal clears the work list",
     ],
     "lists and slots": [
         "S counts every face", "slots run over every face", "absent slots are left alone", "an absent slot begins with 1",
@@ -628,6 +631,31 @@ def bad_corner(mesh, slip):
     return (found[-1] if slip == "the last bad corner" else found[0]) if found else None
 
 
+def is_bare(normal, slip):
+    """Whether a normal is one that refusal 7 is about: its three components count as zero."""
+    edge = {"00800001 counts as zero": 0x00800001, "00800000 is a normal": 0x007FFFFF, "the least numbers are a normal": 0}.get(slip, 0x00800000)
+    zeros = [w & 0x7FFFFFFF <= edge and not (slip == "-0.0 is a normal" and w == 0x80000000) for w in normal]
+    if slip == "the last component alone is looked at":
+        return zeros[2]
+    return sum(zeros) >= (2 if slip == "two zero components are enough" else 3)
+
+
+def bare_corner(mesh, slip):
+    """The place that refusal 7 gives, or None."""
+    asked = {"a zero normal passes": (), "faces of five are asked for normals": (3, 4, 5), "7 in triangles alone": (3,)}.get(slip, (3, 4))
+    corner = slot = 0
+    found = []
+    for f, n in enumerate(mesh.sizes):
+        for i in range(n) if n in asked else ():
+            c = corner + i
+            if is_bare(mesh.normals[3 * c : 3 * c + 3], slip):
+                place = {"place of 7 counted in slots": slot + i, "place of 7 counted in its face": i, "its face for the place of 7": f}
+                found.append(place.get(slip, c))
+        corner += n
+        slot += n if n in (3, 4) else 0
+    return (found[-1] if slip == "the last corner without a normal" else found[0]) if found else None
+
+
 def verdict(mesh, slip):
     """The refusal, as its number and place, or None."""
     f, c, s = len(mesh.sizes), mesh.corners(), mesh.slots()
@@ -637,6 +665,7 @@ def verdict(mesh, slip):
     two = any(on and wrong(len(l), n) for on, l, n in zip(lengths, (mesh.positions, mesh.normals, mesh.texture), (3 * c, 3 * c, 2 * c)))
     three = is_bad(mesh.threshold, slip if "threshold" in (slip or "") else None)
     four = bad_corner(mesh, None if "threshold" in (slip or "") else slip)
+    seven = bare_corner(mesh, slip)
     room = {"10S words are too few": 10 * s + 1, "10S - 1 words are enough": 10 * s - 1, "10C words are asked for": 10 * c}.get(slip, 10 * s)
     desk = {"128F words are too few": 128 * f + 1, "128F - 1 words are enough": 128 * f - 1}.get(slip, 128 * f)
     rows = [
@@ -644,12 +673,17 @@ def verdict(mesh, slip):
         (2, two, 0),
         (3, three, 0),
         (4, four is not None, four),
+        (7, seven is not None, seven),
         (5, mesh.answer < room, 0),
         (6, mesh.work < desk, 0),
     ]
-    for k in range(2, 7):
-        if slip == f"{k} before {k - 1}":
-            rows[k - 2], rows[k - 1] = rows[k - 1], rows[k - 2]
+    if slip == "of 4 and 7 the lower place" and seven is not None and four is not None and seven < four:
+        slip = "7 before 4"
+    if " before " in (slip or ""):
+        later, sooner = (int(k) for k in slip.split(" before "))
+        row = next(row for row in rows if row[0] == later)
+        rows.remove(row)
+        rows.insert([k for k, _, _ in rows].index(sooner), row)
     return next(((k, place) for k, applies, place in rows if applies), None)
 
 

@@ -6,7 +6,8 @@ The meshes are tools/meshes.py's and, for slips that fewer than three of them sh
 mesh shows: those with which the call would answer otherwise. It is held to the oracle on every mesh first. Nothing here is left to chance: a second
 run writes the same bytes.
 
-`python3 tools/replay.py --moved e6` writes nothing: it prints the meshes that request E6 answers otherwise than before (docs/DIFFERENCES.md)."""
+`python3 tools/replay.py --moved e6` writes nothing: it prints the meshes that request E6 answers otherwise than before (docs/DIFFERENCES.md); so for
+another request that the oracle knows."""
 import itertools
 import random
 import re
@@ -16,7 +17,7 @@ from meshes import MINUS_0, UP, all_meshes, mesh, word
 from oracle import RULES, ask, build_oracle
 from plain import GROUPS, SLIPS, outcome, shows
 
-COUNT = 365
+COUNT = 403
 WANTED = 3
 TRIES = 30000
 
@@ -165,7 +166,10 @@ def moved(oracle, chosen, request):
     without = ",".join(r for r in RULES.split(",") if r != request)
     for k, (before, after) in enumerate(zip(ask(oracle, meshes, without), ask(oracle, meshes))):
         slots = [i for i in range(after[2]) if before[3][10 * i : 10 * i + 10] != after[3][10 * i : 10 * i + 10]]
-        if before != after:
+        if before[:2] != after[:2]:
+            was, now = (f"refused with {a[0]} at {a[1]}" if a[0] else f"accepted, {a[2]} slots" for a in (before, after))
+            print(f"| {k} | {chosen[k][1]} | {was} | {now} |")
+        elif before != after:
             was, now = (" ".join(f"{w:X}" for w in a[3][10 * slots[0] : 10 * slots[0] + 10]) for a in (before, after))
             print(f"| {k} | {chosen[k][1]} | {len(slots)} of {after[2]} | {slots[0]}: `{was}` | `{now}` |")
 

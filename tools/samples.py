@@ -94,6 +94,8 @@ def triangle(texture):
 SAMPLE_1 = triangle([(0, 0), (1, 0), (0, 1)])
 SAMPLE_2 = triangle([(0, 0), (-1, 0), (0, 1)])
 SAMPLE_3 = triangle([(0, 0), (0, 0), (0, 0)])
+# sample 1 without a normal at its second corner
+BARE = Mesh([[((0, 0, 0), UP, (0, 0)), ((1, 0, 0), (0, 0, 0), (1, 0)), ((0, 1, 0), UP, (0, 1))]])
 
 
 def square(x, width):
@@ -162,6 +164,7 @@ WHOLE = [
     ("past", "sample 1 with both lists two words longer: nothing past 10S and 128F is altered", f"behind ({SAMPLE_1.call(32, 130)})", words([7, 7, 9, 9])),
     ("no-face", "'F = 0 by itself is no ground for refusal': nothing is altered", Mesh([]).call(3, 2), "record { number = 0; place = 0; slots = 0; answer = replicate 3 7; work = replicate 2 9 }"),
     ("refused", "sample 1 with an answer list one word short: refusal 5 alters nothing", SAMPLE_1.call(29, 128), "record { number = 5; place = 0; slots = 0; answer = replicate 29 7; work = replicate 128 9 }"),
+    ("no-normal", "request E4: sample 1 without a normal at one corner: refusal 7 alters nothing", BARE.call(), "record { number = 7; place = 1; slots = 0; answer = replicate 30 7; work = replicate 128 9 }"),
     ("two-quads", "two quads that share a side", TWO_QUADS.call(), TWO_QUADS.taken(frame((1, 0, 0), (0, 1, 0), 2, 1, 1) * 8)),
     ("fan", "three triangles round a hub: the hub's frame is that of the sum in triangle order", f"take 10 ({FAN.call()} .answer)", words(FAN_FRAME)),
     ("fan-first", "the first of them alone: another frame", FAN_FIRST.call(), FAN_FIRST.taken([x for m in (0x3EAA_AAAB, 0x3EAA_AAAC, 0x3EAA_AAAC) for x in [1, ONE, 0, 0, 0, ONE, 0, ONE, m, 1]])),
@@ -203,6 +206,16 @@ def nan_mesh(ns):
     return f"Outcome′.outcome (call (handed {sizes(ns)} {numbers([0] * (3 * count - 1) + ['7fc00000'])} {numbers([0] * 3 * count)} {numbers([0] * 2 * count)}) (number {numeral(MINUS_ONE)}) [] (replicate 256 9))"
 
 
+ORDINARY, NOTHING = [0, 0, 1], [0, 0, 0]
+
+
+def normal_mesh(ns, normals, place=0, threshold=-1):
+    """Faces of these sizes with these normals, all other numbers zero but the last position's last; no word of answer is lent, so that 5 follows 7."""
+    count = sum(ns)
+    flat = [x for n in normals for x in n]
+    return f"Outcome′.outcome (call (handed {sizes(ns)} {numbers([0] * (3 * count - 1) + [place])} {numbers(flat)} {numbers([0] * 2 * count)}) (number {numeral(bits(threshold))}) [] (replicate 256 9))"
+
+
 def is_true(t):
     return t
 
@@ -242,6 +255,16 @@ STARRED = [
     ("12: a NaN in a face of 5 is no ground for 4; in a face of 3 it is, and 4 is given if 1 to 3 don't apply", is_number(f"{nan_mesh([5])} .number", 0)),
     ("", is_number(f"{nan_mesh([3])} .number", 4)),
     ("", is_number(f"{nan_mesh([5, 3])} .place", 7)),
+    ("E4: a corner without a normal, in a face of 3: 7 at its place, and not 5, which applies too", is_number(f"{normal_mesh([3], [ORDINARY, ORDINARY, NOTHING])} .number", 7)),
+    ("", is_number(f"{normal_mesh([3], [ORDINARY, ORDINARY, NOTHING])} .place", 2)),
+    (".. the lowest such corner, counted over all C; a face of 5 is not asked", is_number(f"{normal_mesh([5, 3], [NOTHING] * 5 + [ORDINARY, NOTHING, NOTHING])} .place", 6)),
+    ("", is_number(f"{normal_mesh([5], [NOTHING] * 5)} .number", 0)),
+    (".. a corner of a quad", is_number(f"{normal_mesh([4], [ORDINARY] * 3 + [NOTHING])} .place", 3)),
+    (".. 00800000 counts as zero, with either sign, and zero too; where one of three is 00800001 the normal is there", is_number(f"{normal_mesh([3], [ORDINARY, ['00800000', '80800000', '80000000'], ORDINARY])} .number", 7)),
+    ("", is_number(f"{normal_mesh([3], [['00800001', '00800000', 0], ['80000000', '80800001', 0], [0, '80800000', '00800001']])} .number", 5)),
+    (".. 4 comes before 7, though its corner is behind; 3 too", is_number(f"{normal_mesh([3], [NOTHING, ORDINARY, ORDINARY], '7fc00000')} .number", 4)),
+    ("", is_number(f"{normal_mesh([3], [NOTHING, ORDINARY, ORDINARY], '7fc00000')} .place", 2)),
+    ("", is_number(f"{normal_mesh([3], [NOTHING, ORDINARY, ORDINARY], 0, '7f800000')} .number", 3)),
     ("E6: no component counts, though none is zero: no direction, and the zero vector without a sign", is_true(f"Step4Order′.sameVector (Vector′.unitOf {vector(('80800000', '80000001', '80000000'))}) {vector((0, 0, 0))}")),
     ("E6: squared length zero, though a component counts", is_true(f"Step4Order′.sameVector (Vector′.unitOf {vector((-1e-30, 0, 0))}) {vector((0, 0, 0))}")),
     ("E6: squared length infinite", is_true(f"Step4Order′.sameVector (Vector′.unitOf {vector((1e20, 0, 0))}) {vector((0, 0, 0))}")),

@@ -143,6 +143,19 @@ fn a_refused_mesh_writes_nothing() {
     ran.ends(4, "What to do: scan that place again");
     assert_eq!(room.names(), ["nan.ply", "old.card"]);
     assert_eq!(room.text("old.card"), "as it was");
+    room.put(
+        "bare.ply",
+        ABSENT.replace("0 1 0 0 0 1 0 1", "0 1 0 0 -0 1e-39 0 1"),
+    );
+    let ran = room.run("frames bare.ply -o old.card --report r.csv --picture p.svg");
+    ran.ends(4, "refusal 7: face 0, corner 2 has no normal: its three numbers count as zero (the face is at line 21 of the file)");
+    ran.ends(
+        4,
+        "Its position is [0.0, 1.0, 0.0], its normal [0.0, -0.0, 1e-39], its texture [0.0, 1.0]",
+    );
+    ran.ends(4, "What to do: the scanner gave no normal here: scan that place again, or leave the face out and treat it as absent; never put another normal there.");
+    assert_eq!(room.names(), ["bare.ply", "nan.ply", "old.card"]);
+    assert_eq!(room.text("old.card"), "as it was");
     let many: Vec<&[usize]> = vec![FACES[2]; 65_537];
     room.put("many.ply", shapes::ply_bytes(&many));
     room.run("frames many.ply -o m.card")
@@ -156,7 +169,9 @@ fn a_refused_mesh_writes_nothing() {
         .ends(4, "refusal 3");
     assert_eq!(
         room.names(),
-        ["f.card", "full.ply", "many.ply", "nan.ply", "old.card"]
+        [
+            "bare.ply", "f.card", "full.ply", "many.ply", "nan.ply", "old.card"
+        ]
     );
 }
 

@@ -179,6 +179,14 @@ fn a_refused_mesh_is_told_as_frames_tells_it() {
     ran.ends(4, said);
     ran.ends(4, "What to do: scan that place again");
     ran.ends(4, "The lists were not looked at");
+    let bare = shapes::ply_text(&[FACES[0]]).replacen("1 1 0 0 0 1 ", "1 1 0 0 0 0 ", 1);
+    room.put("bare.ply", bare);
+    let said = "refusal 7: face 0, corner 2 has no normal: its three numbers count as zero (the face is at line 25 of the file). Its position is [1.0, 1.0, 0.0], its normal [0.0, 0.0, 0.0]";
+    room.run("links bare.ply -o old.lists").ends(4, said);
+    assert_eq!(room.text("old.lists"), "as it was");
+    let ran = room.run("examine bare.ply a.lists");
+    ran.ends(4, said);
+    ran.ends(4, "What to do: the scanner gave no normal here");
 }
 
 #[test]

@@ -23,6 +23,10 @@ pub enum Spoil {
     Number,
     /// The place of refusal 4.
     Place,
+    /// The number of refusal 7.
+    BareNumber,
+    /// The place of refusal 7.
+    BarePlace,
     /// The count of slots of an accepted mesh.
     Slots,
     /// The last answer word after a refusal.
@@ -44,7 +48,7 @@ pub enum Spoil {
 }
 
 /// All of them, by the names that the options have.
-pub const SPOILS: [(&str, Spoil); 24] = [
+pub const SPOILS: [(&str, Spoil); 26] = [
     ("tangent-x", Spoil::Word(1)),
     ("tangent-y", Spoil::Word(2)),
     ("tangent-z", Spoil::Word(3)),
@@ -60,6 +64,8 @@ pub const SPOILS: [(&str, Spoil); 24] = [
     ("past-work", Spoil::PastWork),
     ("number", Spoil::Number),
     ("place", Spoil::Place),
+    ("bare-number", Spoil::BareNumber),
+    ("bare-place", Spoil::BarePlace),
     ("slots", Spoil::Slots),
     ("refused-answer", Spoil::RefusedAnswer),
     ("refused-work", Spoil::RefusedWork),
@@ -94,6 +100,8 @@ impl Spoil {
             Spoil::PastWork if accepted => flip(left.work.get_mut(work)),
             Spoil::Number if left.outcome.number == 5 => left.outcome.number = 6,
             Spoil::Place if left.outcome.number == 4 => left.outcome.place += 1,
+            Spoil::BareNumber if left.outcome.number == 7 => left.outcome.number = 4,
+            Spoil::BarePlace if left.outcome.number == 7 => left.outcome.place += 1,
             Spoil::Slots if accepted => left.outcome.slots += 1,
             Spoil::RefusedAnswer if !accepted => flip(left.answer.last_mut()),
             Spoil::RefusedWork if !accepted => flip(left.work.first_mut()),

@@ -8,8 +8,8 @@ use std::fmt::{Display, Formatter, Result};
 pub struct Tally {
     pub compared: u64,
     pub differed: u64,
-    /// Accepted, and refused with 1 to 6.
-    numbers: [u64; 7],
+    /// Accepted, and refused with 1 to 7.
+    numbers: [u64; 8],
     /// Left out beside the crate and compared with its altered copy: a vector without a direction was met (request E6).
     amended: u64,
     faces: u64,
@@ -89,7 +89,7 @@ impl Display for Tally {
         )?;
         write!(
             line,
-            "{accepted} accepted, refused with 1 to 6: {refused:?}; "
+            "{accepted} accepted, refused with 1 to 7: {refused:?}; "
         )?;
         write!(line, "{} of them beside the altered copy; ", self.amended)?;
         write!(

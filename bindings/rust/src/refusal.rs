@@ -4,7 +4,7 @@ use std::error::Error;
 use std::fmt;
 
 /// What to do about a refusal, by its number.
-const REMEDIES: [(u32, &str); 7] = [
+const REMEDIES: [(u32, &str); 8] = [
     (
         1,
         "cut the mesh along the seams of its texture into parts that share no corner, and hand them in one by one",
@@ -17,6 +17,11 @@ const REMEDIES: [(u32, &str); 7] = [
     (
         4,
         "scan that place again, or leave the face out and treat it as absent; never put a zero there",
+    ),
+    (
+        7,
+        "the scanner gave no normal here: scan that place again, or leave the face out and treat it as absent; never put \
+         another normal there",
     ),
     (5, "lend ten words for each corner of a face of 3 or 4"),
     (6, "lend 128 words for each face"),
@@ -41,6 +46,8 @@ pub enum Refusal {
     Threshold,
     /// 4: a corner of a face of 3 or 4 holds a NaN or infinity.
     NotFinite(Place),
+    /// 7, checked after 4: a corner of a face of 3 or 4 has no normal, since none of its three numbers is above 2^-126 in size.
+    NoNormal(Place),
     /// 5: the answer list is too short.
     AnswerTooShort,
     /// 6: the work list is too short.
@@ -60,14 +67,17 @@ impl Refusal {
     /// The refusal of a mesh with faces of these sizes, if it was one: its number and its place.
     pub(crate) fn of(number: u32, place: u32, sizes: &[u8]) -> Option<Refusal> {
         let unknown = Refusal::Unknown { number, place };
+        let at = |refusal: fn(Place) -> Refusal| {
+            let corner = corners(sizes).nth(place as usize);
+            corner.map_or(unknown, refusal)
+        };
         Some(match number {
             0 => return None,
             1 => Refusal::TooManyFaces { faces: sizes.len() },
             2 => Refusal::UnequalLists,
             3 => Refusal::Threshold,
-            4 => corners(sizes)
-                .nth(place as usize)
-                .map_or(unknown, Refusal::NotFinite),
+            4 => at(Refusal::NotFinite),
+            7 => at(Refusal::NoNormal),
             5 => Refusal::AnswerTooShort,
             6 => Refusal::WorkTooShort,
             9 => Refusal::OwnTooShort,
@@ -88,6 +98,10 @@ impl Refusal {
             }
             Refusal::Threshold => (3, "the threshold is not a finite number".into()),
             Refusal::NotFinite(place) => (4, format!("{place} holds a NaN or an infinity")),
+            Refusal::NoNormal(place) => (
+                7,
+                format!("{place} has no normal: its three numbers count as zero"),
+            ),
             Refusal::AnswerTooShort => (5, "the answer list is too short".into()),
             Refusal::WorkTooShort => (6, "the work list is too short".into()),
             Refusal::OwnTooShort => (9, "a list that the call takes besides is too short".into()),
@@ -105,7 +119,7 @@ impl Refusal {
     /// The corner that it is about, if it is about one.
     pub fn place(&self) -> Option<Place> {
         match self {
-            Refusal::NotFinite(place) => Some(*place),
+            Refusal::NotFinite(place) | Refusal::NoNormal(place) => Some(*place),
             _ => None,
         }
     }

@@ -68,6 +68,10 @@ fn islands_refuse_as_frames_do() {
     faces.positions[7] = [f32::NAN; 3];
     let refusal = Buffers::new().islands(faces.mesh()).unwrap_err();
     assert_eq!(refusal, Refusal::NotFinite(Place { face: 1, corner: 3 }));
+    faces.positions[7] = [0.0; 3];
+    faces.normals[7] = [0.0; 3];
+    let refusal = Buffers::new().islands(faces.mesh()).unwrap_err();
+    assert_eq!(refusal, Refusal::NoNormal(Place { face: 1, corner: 3 }));
     faces.positions.pop();
     let refusal = Buffers::new().islands(faces.mesh()).unwrap_err();
     assert_eq!(refusal, Refusal::UnequalLists);
@@ -107,16 +111,19 @@ fn one_island_is_one_part() {
 
 #[test]
 fn refusals_are_the_whole_mesh_s_on_any_number_of_threads() {
-    let mut faces = archipelago();
-    faces.normals[200][1] = f32::INFINITY;
-    let mut buffers = Buffers::new();
-    for threshold in [-1.0, f32::NAN] {
-        let whole = Buffers::new().frames(faces.mesh(), threshold).unwrap_err();
-        for count in 1..=3 {
-            let on = buffers.frames_on(faces.mesh(), threshold, threads(count));
-            assert_eq!(on.unwrap_err(), whole);
+    for (normal, number) in [([0.0, f32::INFINITY, 1.0], 4), ([0.0; 3], 7)] {
+        let mut faces = archipelago();
+        faces.normals[200] = normal;
+        let mut buffers = Buffers::new();
+        for (threshold, number) in [(-1.0, number), (f32::NAN, 3)] {
+            let whole = Buffers::new().frames(faces.mesh(), threshold).unwrap_err();
+            assert_eq!(whole.number(), number);
+            for count in 1..=3 {
+                let on = buffers.frames_on(faces.mesh(), threshold, threads(count));
+                assert_eq!(on.unwrap_err(), whole);
+            }
+            let by = buffers.frames_by_islands(faces.mesh(), threshold);
+            assert_eq!(by.unwrap_err(), whole);
         }
-        let by = buffers.frames_by_islands(faces.mesh(), threshold);
-        assert_eq!(by.unwrap_err(), whole);
     }
 }

@@ -204,6 +204,15 @@ fn refusals_come_first() {
         objection.to_string(),
         "refusal 4: face 1, corner 1 holds a NaN or an infinity"
     );
+    faces.normals[4] = [0.0, -0.0, f32::MIN_POSITIVE];
+    let refusal = Refusal::NoNormal(Place { face: 1, corner: 1 });
+    assert_eq!(Buffers::new().links(faces.mesh()), Err(refusal));
+    let objection = faces.examine(&own).unwrap_err();
+    assert_eq!(objection, Objection::Refused(refusal));
+    assert_eq!(
+        objection.to_string(),
+        "refusal 7: face 1, corner 1 has no normal: its three numbers count as zero"
+    );
     let sizes = vec![0; 65_537];
     let many = Mesh {
         sizes: &sizes,

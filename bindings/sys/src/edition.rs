@@ -7,7 +7,7 @@ use std::sync::OnceLock;
 pub const SLOT_WORDS: usize = 10;
 
 /// The edition of the interface that these declarations are of.
-pub const INTERFACE: u32 = 1;
+pub const INTERFACE: u32 = 2;
 
 unsafe extern "C" {
     safe fn dokphalun_interface() -> u32;

@@ -6,7 +6,7 @@
 pub struct Outcome {
     /// The number of a refusal, or 0.
     pub number: u32,
-    /// The place of refusal 4, else 0.
+    /// The place of refusals 4 and 7, else 0.
     pub place: u32,
     /// How many slots were written.
     pub slots: u32,
@@ -28,7 +28,7 @@ pub struct Span {
 pub struct Labelled {
     /// The number of a refusal, or 0.
     pub number: u32,
-    /// The place of refusal 4, else 0.
+    /// The place of refusals 4 and 7, else 0.
     pub place: u32,
     /// How many islands there are.
     pub islands: u32,
@@ -52,7 +52,7 @@ pub struct Examined {
 pub struct Handed {
     /// The number of a refusal, or 0.
     pub number: u32,
-    /// The place of refusal 4, else 0.
+    /// The place of refusals 4 and 7, else 0.
     pub place: u32,
     /// How many triangles are sound.
     pub sound: u32,

@@ -79,13 +79,13 @@ fn other_editions_are_refused_by_every_call() {
     for (name, numbers, said) in [
         (
             "edition",
-            [2, 10],
-            "its interface is edition 2, theirs 1; its slots are 10 words, theirs 10",
+            [1, 10],
+            "its interface is edition 1, theirs 2; its slots are 10 words, theirs 10",
         ),
         (
             "slot",
-            [1, 11],
-            "its interface is edition 1, theirs 1; its slots are 11 words, theirs 10",
+            [2, 11],
+            "its interface is edition 2, theirs 2; its slots are 11 words, theirs 10",
         ),
     ] {
         let [printed, errors] = texts(&every_call(&archive(name, Some(numbers))));
@@ -93,7 +93,7 @@ fn other_editions_are_refused_by_every_call() {
         assert_eq!(errors.matches(said).count(), 12, "{errors}");
     }
     // one that says the right numbers is called, and a signal ends the program
-    let right = every_call(&archive("right", Some([1, 10])));
+    let right = every_call(&archive("right", Some([2, 10])));
     assert_eq!(right.status.code(), None, "{right:?}");
     // one that says nothing does not link
     let [_, errors] = texts(&every_call(&archive("mute", None)));

@@ -12,7 +12,7 @@ use Rattle.definition.specs.Handed.{meshOf, call, Handed, used, slotCount, corn
 use Rattle.bits.specs.Word.{isFinite}
 use Rattle.definition.specs.Limits.{faceLimit, workWords}
 use Rattle.lists.specs.Lists.{first}
-use Rattle.definition.specs.Desk.{shown, finiteCorner, notFinite, Row, verdict, tooMany, unfit, misfit, badCorner, badIn, orElse}
+use Rattle.definition.specs.Desk.{shown, notFinite, noNormal, Row, verdict, tooMany, unfit, misfit, badCorner, badIn, orElse}
 use Rattle.definition.specs.Outcome.{answerWords, accepted, answered, outcome}
 use Rattle.tangent.specs.Slot.{slotWords}
 use Rattle.islands.specs.Together.{picked}
@@ -66,35 +66,36 @@ unfolding orElse
 none-right none b e = e
 none-right (some i) b e = absurd (Option·none-ne-some i (sym e))
 
--- the numbers that corners are counted by do not matter
-bad-moved : (i j : ℕ) (f : List Corner) → badIn finiteCorner i f ≡ none → badIn finiteCorner j f ≡ none
-unfolding badIn
-bad-moved i j [] e = refl
-bad-moved i j (c ∷ f) e = go (Rattle.definition.specs.Desk.finiteCorner c) (λ k. bad-moved (suc i) (suc j) f k) e
-  where
-    go : (b : Bool) → (badIn finiteCorner (suc i) f ≡ none → badIn finiteCorner (suc j) f ≡ none) → cond b (badIn finiteCorner (suc i) f) (some i) ≡ none → cond b (badIn finiteCorner (suc j) f) (some j) ≡ none
-    go true r k = r k
-    go false r k = absurd (Option·none-ne-some i (sym k))
+module _ (passes : Corner → Bool) where
+  -- the numbers that corners are counted by do not matter
+  bad-moved : (i j : ℕ) (f : List Corner) → badIn passes i f ≡ none → badIn passes j f ≡ none
+  unfolding badIn
+  bad-moved i j [] e = refl
+  bad-moved i j (c ∷ f) e = go (passes c) (λ k. bad-moved (suc i) (suc j) f k) e
+    where
+      go : (b : Bool) → (badIn passes (suc i) f ≡ none → badIn passes (suc j) f ≡ none) → cond b (badIn passes (suc i) f) (some i) ≡ none → cond b (badIn passes (suc j) f) (some j) ≡ none
+      go true r k = r k
+      go false r k = absurd (Option·none-ne-some i (sym k))
 
-face-moved : (b : Bool) (i j : ℕ) (f : List Corner) → cond b (badIn finiteCorner i f) none ≡ none → cond b (badIn finiteCorner j f) none ≡ none
-face-moved true i j f e = bad-moved i j f e
-face-moved false i j f e = refl
+  face-moved : (b : Bool) (i j : ℕ) (f : List Corner) → cond b (badIn passes i f) none ≡ none → cond b (badIn passes j f) none ≡ none
+  face-moved true i j f e = bad-moved i j f e
+  face-moved false i j f e = refl
 
-picked-good : (q : ℕ → Bool) (n i j : ℕ) (m : List (List Corner)) → badCorner finiteCorner i m ≡ none → badCorner finiteCorner j (picked q n m) ≡ none
-unfolding badCorner finiteCorner picked
-picked-good q n i j [] e = refl
-picked-good q n i j (f ∷ m) e = go (q n) (none-right (cond (used (length f)) (badIn finiteCorner i f) none) (badCorner finiteCorner (i + length f) m) e) (λ k l. picked-good q (suc n) (i + length f) k m l)
-  where
-    first : cond (used (length f)) (badIn finiteCorner j f) none ≡ none
-    first = face-moved (used (length f)) i j f (none-left (cond (used (length f)) (badIn finiteCorner i f) none) (badCorner finiteCorner (i + length f) m) e)
+  picked-good : (q : ℕ → Bool) (n i j : ℕ) (m : List (List Corner)) → badCorner passes i m ≡ none → badCorner passes j (picked q n m) ≡ none
+  unfolding badCorner picked
+  picked-good q n i j [] e = refl
+  picked-good q n i j (f ∷ m) e = go (q n) (none-right (cond (used (length f)) (badIn passes i f) none) (badCorner passes (i + length f) m) e) (λ k l. picked-good q (suc n) (i + length f) k m l)
+    where
+      first : cond (used (length f)) (badIn passes j f) none ≡ none
+      first = face-moved (used (length f)) i j f (none-left (cond (used (length f)) (badIn passes i f) none) (badCorner passes (i + length f) m) e)
 
-    go : (b : Bool) → badCorner finiteCorner (i + length f) m ≡ none → ((k : ℕ) → badCorner finiteCorner (i + length f) m ≡ none → badCorner finiteCorner k (picked q (suc n) m) ≡ none) → badCorner finiteCorner j (cond b (f ∷ picked q (suc n) m) (picked q (suc n) m)) ≡ none
-    go true l r = unfold badCorner finiteCorner in ap (λ o. orElse o (badCorner finiteCorner (j + length f) (picked q (suc n) m))) first ∙ unfold orElse in r (j + length f) l
-    go false l r = r j l
+      go : (b : Bool) → badCorner passes (i + length f) m ≡ none → ((k : ℕ) → badCorner passes (i + length f) m ≡ none → badCorner passes k (picked q (suc n) m) ≡ none) → badCorner passes j (cond b (f ∷ picked q (suc n) m) (picked q (suc n) m)) ≡ none
+      go true l r = unfold badCorner in ap (λ o. orElse o (badCorner passes (j + length f) (picked q (suc n) m))) first ∙ unfold orElse in r (j + length f) l
+      go false l r = r j l
 
--- the corners of an island of a mesh that the desk accepts are finite
-pub island-good : (q : ℕ → Bool) (m : List (List Corner)) → badCorner finiteCorner 0 m ≡ none → badCorner finiteCorner 0 (picked q 0 m) ≡ none
-island-good q m e = picked-good q 0 0 0 m e
+  -- the corners of an island of a mesh that the desk accepts pass its test
+  pub island-good : (q : ℕ → Bool) (m : List (List Corner)) → badCorner passes 0 m ≡ none → badCorner passes 0 (picked q 0 m) ≡ none
+  island-good q m e = picked-good q 0 0 0 m e
 
 -- ---- each island is accepted
 
@@ -106,18 +107,19 @@ pub known : (mesh : Handed) (h : Float) (answer work : ℕ) → verdict (shown m
 unfolding caught tooMany
 known mesh h answer work e =
     let F = fine (shown mesh h answer work) e in
-    (fit mesh (λ i. le-ltb faceLimit (length (mesh .sizes)) (F .few) i || F .fits i), record { threshold = F .threshold; corners = F .good })
+    (fit mesh (λ i. le-ltb faceLimit (length (mesh .sizes)) (F .few) i || F .fits i), record { threshold = F .threshold; corners = F .good; normals = F .normals })
 
 -- lists that the desk accepts, said row by row
-pub accepts : (mesh : Handed) (h : Float) (answer work : ℕ) → length (mesh .sizes) ≤ faceLimit → length (mesh .positions) ≡ 3 * cornerCount (mesh .sizes) → length (mesh .normals) ≡ 3 * cornerCount (mesh .sizes) → length (mesh .texture) ≡ 2 * cornerCount (mesh .sizes) → not (isFinite h) ≡ false → notFinite mesh ≡ none → slotWords * slotCount (mesh .sizes) ≤ answer → workWords * length (mesh .sizes) ≤ work → verdict (shown mesh h answer work) ≡ none
+pub accepts : (mesh : Handed) (h : Float) (answer work : ℕ) → length (mesh .sizes) ≤ faceLimit → length (mesh .positions) ≡ 3 * cornerCount (mesh .sizes) → length (mesh .normals) ≡ 3 * cornerCount (mesh .sizes) → length (mesh .texture) ≡ 2 * cornerCount (mesh .sizes) → not (isFinite h) ≡ false → notFinite mesh ≡ none → noNormal mesh ≡ none → slotWords * slotCount (mesh .sizes) ≤ answer → workWords * length (mesh .sizes) ≤ work → verdict (shown mesh h answer work) ≡ none
 unfolding misfit unfit
-accepts mesh h answer work few p n t f bad a w =
+accepts mesh h answer work few p n t f bad bare a w =
     is-fine (shown mesh h answer work)
     (record {
       few = few;
       fits = three _ _ _ (eq-eqb (length (mesh .positions)) (3 * cornerCount (mesh .sizes)) p) (eq-eqb (length (mesh .normals)) (3 * cornerCount (mesh .sizes)) n) (eq-eqb (length (mesh .texture)) (2 * cornerCount (mesh .sizes)) t);
       threshold = f;
       good = bad;
+      normals = bare;
       answer-fits = a;
       work-fits = w;
     })

@@ -4,6 +4,7 @@ use native.Mathlib.Nat.{not-suc-le-zero}
 use native.Mathlib.Omega.{arith}
 use mathlib.Core.Path.{_≡_, refl, sym, _∙_, ap, subst}
 use mathlib.Core.Bool.{Bool, true, false, cond}
+use mathlib.Core.Option.{none}
 use mathlib.Core.List.{List, _++_}
 use lib.Dec.{eqb}
 use lib.ListN.{length, getD, take, drop, length-drop}
@@ -16,7 +17,7 @@ use Rattle.definition.specs.Limits.{workWords}
 use Rattle.definition.specs.declared.Corner.{Corner}
 use Rattle.definition.specs.Handed.{handed, meshOf, Handed, used, slotsOf, slotCount}
 use Rattle.definition.specs.Frames.{frames}
-use Rattle.definition.specs.Desk.{finiteCorner, badCorner}
+use Rattle.definition.specs.Desk.{finiteCorner, hasNormal, badCorner}
 use Rattle.definition.specs.Outcome.{answerWords}
 use Rattle.laws.proofs.Bridge.{answer-length}
 use Rattle.unions.proofs.Stores.{either}
@@ -81,6 +82,10 @@ module _ (mesh : Handed) (h : Float) (order : List ℕ) (r : Ready mesh order) w
     cut : (j : ℕ) (us : List Float) → j ≤ length us → length (take j us) ≡ j
     cut j us e = length-take-le j us e
 
+    -- what the desk asks of corners holds of the island's
+    still-good : (passes : Corner → Bool) → badCorner passes 0 m ≡ none → badCorner passes 0 (meshOf (handed (take k ss′) (take (3 * c) xs′) (take (3 * c) (normalsIn n xs′)) (take (2 * c) (textureIn n xs′)))) ≡ none
+    still-good passes e = ap (badCorner passes 0) (mesh-cut n c xs′ (take k ss′) (g .corners) ∙ mesh-is) ∙ island-good passes q m e
+
     pub fit : Fit n k c h ss′ xs′ fs w
     fit =
         let b : c ≤ 4 * n = omega (arith, g .low, g .few) in
@@ -101,7 +106,8 @@ module _ (mesh : Handed) (h : Float) (order : List ℕ) (r : Ready mesh order) w
               (cut (3 * c) (normalsIn n xs′) (omega (arith, x, y, o, b)) ∙ ap (λ i. 3 * i) (g .corners))
               (cut (2 * c) (textureIn n xs′) (omega (arith, x, z, o, b)) ∙ ap (λ i. 2 * i) (g .corners))
               (good .threshold)
-              (ap (badCorner finiteCorner 0) (mesh-cut n c xs′ (take k ss′) (g .corners) ∙ mesh-is) ∙ island-good q m (good .corners))
+              (still-good finiteCorner (good .corners))
+              (still-good hasNormal (good .normals))
               (omega (arith, few-slots, room .frames))
               (omega (arith, there, g .few, room .work));
         }

@@ -11,7 +11,7 @@ use Rattle.bits.specs.Word.{isFinite}
 use Rattle.tangent.specs.Slot.{slotWords}
 use Rattle.definition.specs.Limits.{faceLimit, workWords}
 use Rattle.definition.specs.Handed.{handed, meshOf, Handed, cornerCount, slotCount}
-use Rattle.definition.specs.Desk.{shown, notFinite, verdict}
+use Rattle.definition.specs.Desk.{shown, notFinite, noNormal, verdict}
 use Rattle.islands.specs.Islands.{islandOf}
 use Rattle.apart.specs.Lists.{Past}
 use Rattle.apart.specs.Order.{among, Linked, Begun}
@@ -25,10 +25,11 @@ pub record Ready (mesh : Handed) (order : List ℕ) : Type 0 where
   pub linked : Linked (length (mesh .sizes)) (islandOf (meshOf mesh)) 0 order
   pub begun : Begun (mesh .sizes) (length (mesh .sizes)) order
 
--- no number is a NaN or infinity
+-- no number is a NaN or infinity, and every corner has a normal
 pub record Good (mesh : Handed) (h : Float) : Type 0 where
   pub threshold : not (isFinite h) ≡ false
   pub corners : notFinite mesh ≡ none
+  pub normals : noNormal mesh ≡ none
 
 -- the base accepts k faces with c corners, whose sizes and numbers are the first in these lists, for a mesh of n faces
 pub record Fit (n k c : ℕ) (h : Float) (ss : List ℕ) (xs : List Float) (frames work : List ℕ) : Type 0 where

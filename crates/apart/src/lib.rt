@@ -434,7 +434,7 @@ fn make_frames(
 }
 
 // What one call of the base leaves, got one island at a time; the lists of its own are lent: for each face of the mesh 1 entry of `labels`, 4 of `order`, 1 of `own_sizes`, 32 of `own_numbers` and 40 of `own_frames`.
-// A refusal (a number from 1 to 6 by the table, or 9 where a list of its own is too short) alters nothing.
+// A refusal (a number from 1 to 7 by the table, or 9 where a list of its own is too short) alters nothing.
 pub fn frames_by_islands(
     sizes: &[u8],
     positions: &[f32],

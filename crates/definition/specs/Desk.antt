@@ -1,6 +1,6 @@
--- Document 01, 'When the desk says no': the table of refusals. Definitions only.
+-- Document 01, 'When the desk says no', as request E4 amends it: the table of refusals. Definitions only.
 use Prim.Native.Nat.{ℕ, suc, _+_, _*_}
-use mathlib.Core.Bool.{Bool, true, false, cond, not, _&&_}
+use mathlib.Core.Bool.{Bool, true, false, cond, not, _&&_, _||_}
 use mathlib.Core.List.{List, [], _∷_}
 use mathlib.Core.Option.{Option, none, some}
 use lib.Dec.{eqb, ltb}
@@ -8,6 +8,7 @@ use lib.ListN.{length}
 use lib.Ieee.{Float}
 use Rattle.bits.specs.Word.{isFinite}
 use Rattle.math.specs.declared.Vec3.{Vec3}
+use Rattle.math.specs.Vector.{counts}
 use Rattle.tangent.specs.Slot.{slotWords}
 use Rattle.definition.specs.declared.Corner.{Corner}
 use Rattle.definition.specs.Limits.{faceLimit, workWords}
@@ -40,6 +41,14 @@ badCorner fine i (f ∷ m) = let r = badCorner fine (i + length f) m in orElse (
 -- 4: the lowest corner of a mesh that 'holds a NaN or infinity'
 abbrev pub notFinite : Handed → Option ℕ
 notFinite mesh = badCorner finiteCorner 0 (meshOf mesh)
+
+-- a corner with a normal: one of its components counts (sample 6: its absolute value is strictly above bits 00800000)
+unfoldable pub hasNormal : Corner → Bool
+hasNormal c = counts (c .normal .x) || counts (c .normal .y) || counts (c .normal .z)
+
+-- 7, request E4: the lowest corner of a mesh 'whose three normal components all count as zero'
+abbrev pub noNormal : Handed → Option ℕ
+noNormal mesh = badCorner hasNormal 0 (meshOf mesh)
 
 -- whether there is one
 unfoldable pub isThere : Option ℕ → Bool
@@ -84,13 +93,14 @@ shown mesh h answer work = record { mesh = mesh; threshold = h; answer = answer;
 abbrev pub atDesk : Call → Shown
 atDesk x = shown (x .mesh) (x .threshold) (length (x .answer)) (length (x .work))
 
--- the rows in the table's order
+-- the rows in the table's order; 7 is 'checked right after 4'
 unfoldable pub table : Shown → List Row
 table x =
     record { number = 1; applies = tooMany (x .mesh .sizes); place = 0 }
     ∷ record { number = 2; applies = misfit (x .mesh); place = 0 }
     ∷ record { number = 3; applies = not (isFinite (x .threshold)); place = 0 }
     ∷ record { number = 4; applies = isThere (notFinite (x .mesh)); place = orZero (notFinite (x .mesh)) }
+    ∷ record { number = 7; applies = isThere (noNormal (x .mesh)); place = orZero (noNormal (x .mesh)) }
     ∷ record { number = 5; applies = ltb (x .answer) (slotWords * slotCount (x .mesh .sizes)); place = 0 }
     ∷ record { number = 6; applies = ltb (x .work) (workWords * length (x .mesh .sizes)); place = 0 }
     ∷ []

@@ -11,4 +11,4 @@ workWords = 128
 
 -- the highest number of a refusal
 abbrev pub highestRefusal : ℕ
-highestRefusal = 6
+highestRefusal = 7

@@ -11,7 +11,7 @@ use Rattle.tangent.specs.Slot.{slotWords}
 use Rattle.lists.specs.Lists.{first}
 use Rattle.definition.specs.Limits.{faceLimit, workWords}
 use Rattle.definition.specs.Handed.{cornerCount, slotCount}
-use Rattle.definition.specs.Desk.{Shown, tooMany, unfit, misfit, notFinite, isThere, orZero, table, verdict}
+use Rattle.definition.specs.Desk.{Shown, tooMany, unfit, misfit, notFinite, noNormal, isThere, orZero, table, verdict}
 use Rattle.desk.specs.declared.Verdict.{Verdict}
 use Rattle.desk.specs.Verdict.{said, asVerdict, lentNumber}
 
@@ -28,6 +28,9 @@ module _ (x : Shown) where
 
   abbrev pub Lowest : Option ℕ → Type 0
   Lowest o = notFinite (x .mesh) ≡ o
+
+  abbrev pub Bare : Option ℕ → Type 0
+  Bare o = noNormal (x .mesh) ≡ o
 
   abbrev Told : Verdict → Type 0
   Told v = v ≡ asVerdict (verdict x)
@@ -61,9 +64,13 @@ module _ (x : Shown) where
   unfolding asVerdict verdict table first isThere orZero
   row4 m f t i b = rw (m, f, t, b)
 
-  pub rows56 : IsMany false → IsMisfit false → IsFinite true → Lowest none → Told (said (lentNumber (slotCount (x .mesh .sizes)) (length (x .mesh .sizes)) (x .answer) (x .work)) 0)
+  pub row7 : IsMany false → IsMisfit false → IsFinite true → Lowest none → (i : ℕ) → Bare (some i) → Told (said 7 i)
+  unfolding asVerdict verdict table first isThere orZero
+  row7 m f t b i n = rw (m, f, t, b, n)
+
+  pub rows56 : IsMany false → IsMisfit false → IsFinite true → Lowest none → Bare none → Told (said (lentNumber (slotCount (x .mesh .sizes)) (length (x .mesh .sizes)) (x .answer) (x .work)) 0)
   unfolding asVerdict verdict table first isThere orZero lentNumber
-  rows56 m f t b = rw (m, f, t, b) (last (ltb (x .answer) (slotWords * slotCount (x .mesh .sizes))) (ltb (x .work) (workWords * length (x .mesh .sizes))))
+  rows56 m f t b n = rw (m, f, t, b, n) (last (ltb (x .answer) (slotWords * slotCount (x .mesh .sizes))) (ltb (x .work) (workWords * length (x .mesh .sizes))))
     where
       last : (a w : Bool) → said (cond a 5 (cond w 6 0)) 0 ≡ asVerdict (cond a (some (record { number = 5; applies = a; place = 0 })) (cond w (some (record { number = 6; applies = w; place = 0 })) none))
       last true w = unfold asVerdict in refl

@@ -1,10 +1,10 @@
-// The desk: refusals 1 to 6 of document 01, checked in the table's order; the first that applies is given, and none otherwise.
+// The desk: refusals 1 to 7 of document 01 and request E4, checked in the table's order; the first that applies is given, and none otherwise.
 ghost use mathlib.Core.Path.{_≡_};
 ghost use mathlib.Core.Bool.{cond};
-ghost use mathlib.Core.Option.{none};
+ghost use mathlib.Core.Option.{none, some};
 ghost use Prim.Native.Nat.{_+_, _*_, _≤_, _<_, _^_};
 ghost use lib.ListN.{length};
-ghost use Rattle.definition.specs.Desk.{shown, finiteCorner};
+ghost use Rattle.definition.specs.Desk.{shown};
 ghost use Rattle.definition.specs.Desk as desk;
 ghost use Rattle.definition.specs.Handed.{handed, cornersFrom, used, cornerCount, slotCount};
 ghost use Rattle.definition.specs.Limits.{faceLimit};
@@ -18,17 +18,24 @@ pub struct Verdict {
     pub place: u32,
 }
 
-// A corner that holds a NaN or infinity, by its number, or that none was found.
+// The lowest corner of a kind, by its number, or that none was found.
 pub enum FirstBad {
     At(u32),
     Nothing,
 }
 
-// What one pass over the lists tells: C, S, and the lowest corner of a face of 3 or 4 that holds a NaN or infinity.
+// What is wrong with corners: the lowest that holds a NaN or infinity, and the lowest without a normal.
+struct Flaws {
+    bad: FirstBad,
+    bare: FirstBad,
+}
+
+// What one pass over the lists tells: C, S, and the two corners, among those of faces of 3 or 4.
 struct Seen {
     corners: u32,
     slots: u32,
     bad: FirstBad,
+    bare: FirstBad,
 }
 
 fn finite_vector(v: Vec3) -> bool
@@ -55,72 +62,111 @@ fn finite_corner(c: Corner) -> bool
     false
 }
 
-// The lowest of count corners from number from on that holds a NaN or infinity.
-fn bad_in(positions: &[f32], normals: &[f32], texture: &[f32], from: u32, count: u32) -> FirstBad
-    requires { ⌜ from + count < 2 ^ 32 ⌝ }
-    ensures { λ r. ⌜ r ≡ spec.found (desk.badIn finiteCorner from (cornersFrom (now (positions .entry)) (now (normals .entry)) (now (texture .entry)) from count)) ⌝ }
+// Whether a component of the corner's normal counts.
+fn has_normal(c: Corner) -> bool
+    ensures { λ r. ⌜ r ≡ desk.hasNormal c ⌝ }
 {
-    let mut i = from;
-    let mut left = count;
-    while 0 < left {
-        if !finite_corner(mesh::corner_at(positions, normals, texture, i)) {
-            return FirstBad::At(i);
-        }
-        i += 1;
-        left -= 1;
+    let n = c.normal;
+    if math::not_zero(n.x) {
+        return true;
     }
-    FirstBad::Nothing
+    if math::not_zero(n.y) {
+        return true;
+    }
+    math::not_zero(n.z)
 }
 
-// The same of a face of a size, which counts only if it is 3 or 4.
-fn bad_face(positions: &[f32], normals: &[f32], texture: &[f32], from: u32, size: u8) -> FirstBad
-    requires { ⌜ from + size < 2 ^ 32 ⌝ }
-    ensures { λ r. ⌜ r ≡ spec.found (cond (used size) (desk.badIn finiteCorner from (cornersFrom (now (positions .entry)) (now (normals .entry)) (now (texture .entry)) from size)) none) ⌝ }
+// A corner that was found before, and else the corner of this number if it is not fine.
+fn lowest(found: FirstBad, fine: bool, i: u32) -> FirstBad
+    ensures { λ r. ⌜ r ≡ spec.found (spec.unlessFound found (cond fine none (some i))) ⌝ }
 {
-    if mesh::slots_of(size) == 0 {
+    if let FirstBad::At(j) = found {
+        return FirstBad::At(j);
+    }
+    if fine {
         return FirstBad::Nothing;
     }
-    bad_in(positions, normals, texture, from, size as u32)
+    FirstBad::At(i)
 }
 
-// The first of the two, if there is one: a corner that was found before, and the lowest such corner of a face.
-fn bad_by_now(
-    bad: FirstBad,
+// What was wrong before, and what is wrong with corner number i.
+fn flaws_with(before: Flaws, c: Corner, i: u32) -> Flaws
+    ensures { λ r. ⌜ (r .bad ≡ spec.found (spec.unlessFound (before .bad) (cond (desk.finiteCorner c) none (some i)))) × (r .bare ≡ spec.found (spec.unlessFound (before .bare) (cond (desk.hasNormal c) none (some i)))) ⌝ }
+{
+    let old_bad = before.bad;
+    let old_bare = before.bare;
+    let bad = lowest(old_bad, finite_corner(c), i);
+    let bare = lowest(old_bare, has_normal(c), i);
+    Flaws { bad, bare }
+}
+
+// What was wrong before, and what is wrong with count corners from number from on.
+fn flaws_in(
     positions: &[f32],
     normals: &[f32],
     texture: &[f32],
+    before: Flaws,
     from: u32,
-    size: u8,
-) -> FirstBad
-    requires { ⌜ from + size < 2 ^ 32 ⌝ }
-    ensures { λ r. ⌜ r ≡ spec.found (spec.unlessFound bad (cond (used size) (desk.badIn finiteCorner from (cornersFrom (now (positions .entry)) (now (normals .entry)) (now (texture .entry)) from size)) none)) ⌝ }
+    count: u32,
+) -> Flaws
+    requires { ⌜ from + count < 2 ^ 32 ⌝ }
+    ensures { λ r. ⌜ (r .bad ≡ spec.found (spec.unlessFound (before .bad) (desk.badIn desk.finiteCorner from (cornersFrom (now (positions .entry)) (now (normals .entry)) (now (texture .entry)) from count)))) × (r .bare ≡ spec.found (spec.unlessFound (before .bare) (desk.badIn desk.hasNormal from (cornersFrom (now (positions .entry)) (now (normals .entry)) (now (texture .entry)) from count)))) ⌝ }
 {
-    if let FirstBad::At(i) = bad {
-        return FirstBad::At(i);
+    let mut flaws = before;
+    let mut i = from;
+    let mut left = count;
+    while 0 < left {
+        flaws = flaws_with(flaws, mesh::corner_at(positions, normals, texture, i), i);
+        i += 1;
+        left -= 1;
     }
-    bad_face(positions, normals, texture, from, size)
+    flaws
 }
 
-// One pass over all lists: C, S, and the lowest such corner of all faces of 3 or 4, counted over all C. C is at most 255 * 65,536, so no sum overflows.
+// The same of a face of a size, which counts only if it is 3 or 4.
+fn flaws_of_face(
+    positions: &[f32],
+    normals: &[f32],
+    texture: &[f32],
+    before: Flaws,
+    from: u32,
+    size: u8,
+) -> Flaws
+    requires { ⌜ from + size < 2 ^ 32 ⌝ }
+    ensures { λ r. ⌜ (r .bad ≡ spec.found (spec.unlessFound (before .bad) (cond (used size) (desk.badIn desk.finiteCorner from (cornersFrom (now (positions .entry)) (now (normals .entry)) (now (texture .entry)) from size)) none))) × (r .bare ≡ spec.found (spec.unlessFound (before .bare) (cond (used size) (desk.badIn desk.hasNormal from (cornersFrom (now (positions .entry)) (now (normals .entry)) (now (texture .entry)) from size)) none))) ⌝ }
+{
+    if mesh::slots_of(size) == 0 {
+        return before;
+    }
+    flaws_in(positions, normals, texture, before, from, size as u32)
+}
+
+// One pass over all lists: C, S, and the lowest corner of each kind in all faces of 3 or 4, counted over all C. C is at most 255 * 65,536, so no sum overflows.
 fn look_over(sizes: &[u8], positions: &[f32], normals: &[f32], texture: &[f32]) -> Seen
     requires { ⌜ length (now sizes) ≤ faceLimit ⌝ }
-    ensures { λ r. ⌜ (r .corners ≡ cornerCount (now (sizes .entry))) × (r .slots ≡ slotCount (now (sizes .entry))) × (r .bad ≡ spec.found (desk.notFinite (handed (now (sizes .entry)) (now (positions .entry)) (now (normals .entry)) (now (texture .entry))))) ⌝ }
+    ensures { λ r. ⌜ (r .corners ≡ cornerCount (now (sizes .entry))) × (r .slots ≡ slotCount (now (sizes .entry))) × (r .bad ≡ spec.found (desk.notFinite (handed (now (sizes .entry)) (now (positions .entry)) (now (normals .entry)) (now (texture .entry))))) × (r .bare ≡ spec.found (desk.noNormal (handed (now (sizes .entry)) (now (positions .entry)) (now (normals .entry)) (now (texture .entry))))) ⌝ }
 {
     let mut corners: u32 = 0;
     let mut slots: u32 = 0;
-    let mut bad = FirstBad::Nothing;
+    let mut flaws = Flaws {
+        bad: FirstBad::Nothing,
+        bare: FirstBad::Nothing,
+    };
     let mut f: usize = 0;
     while f < sizes.len() {
         let size = sizes[f];
-        bad = bad_by_now(bad, positions, normals, texture, corners, size);
+        flaws = flaws_of_face(positions, normals, texture, flaws, corners, size);
         corners += size as u32;
         slots += mesh::slots_of(size) as u32;
         f += 1;
     }
+    let bad = flaws.bad;
+    let bare = flaws.bare;
     Seen {
         corners,
         slots,
         bad,
+        bare,
     }
 }
 
@@ -170,6 +216,10 @@ pub fn judge(
     let bad = seen.bad;
     if let FirstBad::At(i) = bad {
         return said(4, i);
+    }
+    let bare = seen.bare;
+    if let FirstBad::At(i) = bare {
+        return said(7, i);
     }
     said(lent(sizes, seen.slots, answer, work), 0)
 }

@@ -28,7 +28,7 @@ use packed::Unpacked;
 const SLOT_WORDS: u32 = tangent::SLOT_WORDS as u32;
 
 // The edition of the interface.
-const INTERFACE: u32 = 1;
+const INTERFACE: u32 = 2;
 
 // How many words a slot has.
 #[no_mangle]

@@ -71,7 +71,7 @@ fn number_faces(
 }
 
 // The lowest face number of its island for each face of 3 or 4, and FFFFFFFF for every other face. The work list is lent, and WORK_WORDS words a face of it are cleared.
-// A refusal (1, 2, 4 or 6 as for frames, and 9 where there is less than one label a face) alters neither list.
+// A refusal (1, 2, 4, 7 or 6 as for frames, and 9 where there is less than one label a face) alters neither list.
 pub fn label_faces(
     sizes: &[u8],
     positions: &[f32],

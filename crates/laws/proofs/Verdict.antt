@@ -14,7 +14,7 @@ use Rattle.lists.specs.Lists.{first, has}
 use Rattle.lists.specs.Every.{Each, Every, every-nil, every-cons}
 use Rattle.definition.specs.Limits.{faceLimit, workWords, highestRefusal}
 use Rattle.definition.specs.Handed.{slotCount}
-use Rattle.definition.specs.Desk.{Row, Shown, notFinite, isThere, orZero, tooMany, misfit, table, verdict, rowOf}
+use Rattle.definition.specs.Desk.{Row, Shown, notFinite, noNormal, isThere, orZero, tooMany, misfit, table, verdict, rowOf}
 use Rattle.laws.proofs.Part.{every-map}
 use Rattle.laws.proofs.Closed.{Found, first-found}
 use Rattle.laws.proofs.Weld.{found-at}
@@ -83,6 +83,7 @@ pub record Fine (x : Shown) : Type 0 where
   pub fits : misfit (x .mesh) ≡ false
   pub threshold : not (isFinite (x .threshold)) ≡ false
   pub good : notFinite (x .mesh) ≡ none
+  pub normals : noNormal (x .mesh) ≡ none
   pub answer-fits : slotWords * slotCount (x .mesh .sizes) ≤ x .answer
   pub work-fits : workWords * length (x .mesh .sizes) ≤ x .work
 
@@ -95,6 +96,7 @@ fine x e =
       fits = p 2 (record { number = 2; applies = misfit (x .mesh); place = 0 }) refl;
       threshold = p 3 (record { number = 3; applies = not (isFinite (x .threshold)); place = 0 }) refl;
       good = not-there (notFinite (x .mesh)) (p 4 (record { number = 4; applies = isThere (notFinite (x .mesh)); place = orZero (notFinite (x .mesh)) }) refl);
+      normals = not-there (noNormal (x .mesh)) (p 7 (record { number = 7; applies = isThere (noNormal (x .mesh)); place = orZero (noNormal (x .mesh)) }) refl);
       answer-fits = ltb-false (x .answer) (slotWords * slotCount (x .mesh .sizes)) (p 5 (record { number = 5; applies = ltb (x .answer) (slotWords * slotCount (x .mesh .sizes)); place = 0 }) refl);
       work-fits = ltb-false (x .work) (workWords * length (x .mesh .sizes)) (p 6 (record { number = 6; applies = ltb (x .work) (workWords * length (x .mesh .sizes)); place = 0 }) refl);
     }
@@ -105,5 +107,5 @@ unfolding verdict table tooMany isThere
 is-fine x F =
     none-found
     (every-cons (le-ltb faceLimit (length (x .mesh .sizes)) (F .few)) (every-cons (F .fits) (every-cons (F .threshold)
-    (every-cons (ap isThere (F .good)) (every-cons (le-ltb (x .answer) (slotWords * slotCount (x .mesh .sizes)) (F .answer-fits))
-    (every-cons (le-ltb (x .work) (workWords * length (x .mesh .sizes)) (F .work-fits)) every-nil))))))
+    (every-cons (ap isThere (F .good)) (every-cons (ap isThere (F .normals)) (every-cons (le-ltb (x .answer) (slotWords * slotCount (x .mesh .sizes)) (F .answer-fits))
+    (every-cons (le-ltb (x .work) (workWords * length (x .mesh .sizes)) (F .work-fits)) every-nil)))))))

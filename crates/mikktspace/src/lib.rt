@@ -60,7 +60,7 @@ fn make_frames(
 }
 
 // Tangent frames of a mesh: faces of these sizes, their corners' positions, normals and texture coordinates, at a threshold for the cosine of an angle. Ten words for each slot are written to the answer list; the work list is lent, and WORK_WORDS words a face of it are cleared.
-// A refusal (a number from 1 to 6) alters neither list.
+// A refusal (a number from 1 to 7) alters neither list.
 pub fn generate_tangent_space(
     sizes: &[u8],
     positions: &[f32],

@@ -23,7 +23,7 @@ use Rattle.definition.specs.Limits.{faceLimit, workWords}
 use Rattle.lists.specs.Lists.{first}
 use Rattle.definition.specs.Mesh.{cornerOf}
 use Rattle.definition.specs.Handed.{Handed, cornerAt, used, slotsOf, slotCount}
-use Rattle.definition.specs.Desk.{notFinite, Row, isThere, orZero, tooMany, misfit, table, verdict, shown}
+use Rattle.definition.specs.Desk.{notFinite, noNormal, Row, isThere, orZero, tooMany, misfit, table, verdict, shown}
 use Rattle.definition.specs.Step4Order.{sound, welded}
 use Rattle.laws.proofs.Laws.{some-triangle}
 use Rattle.laws.proofs.Weld.{welded-refl, welded-as, found-at}
@@ -74,16 +74,17 @@ given k r x s e a b =
     let f : r .number ≡ x .number = ap (λ (y : Row). y .number) (Option·some-injective r x s) in
     ((λ z. a (sym e ∙ (f ∙ z))), (λ z. b (sym e ∙ (f ∙ z))))
 
--- of six rows of which the third does not apply, nor the fifth where the first does not, neither is given
-never : (a b c d e f : Bool) (i : ℕ) (x : Row) → c ≡ false → (e ≡ true → a ≡ true) → first (λ r. r .applies) (rowOf 1 a 0 ∷ rowOf 2 b 0 ∷ rowOf 3 c 0 ∷ rowOf 4 d i ∷ rowOf 5 e 0 ∷ rowOf 6 f 0 ∷ []) ≡ some x → (x .number ≡ 3 → ⊥) × (x .number ≡ 5 → ⊥)
+-- of the seven rows of which the third does not apply, nor row 5 where the first does not, neither is given
+never : (a b c d e f g : Bool) (i j : ℕ) (x : Row) → c ≡ false → (f ≡ true → a ≡ true) → first (λ r. r .applies) (rowOf 1 a 0 ∷ rowOf 2 b 0 ∷ rowOf 3 c 0 ∷ rowOf 4 d i ∷ rowOf 7 e j ∷ rowOf 5 f 0 ∷ rowOf 6 g 0 ∷ []) ≡ some x → (x .number ≡ 3 → ⊥) × (x .number ≡ 5 → ⊥)
 unfolding first
-never true b c d e f i x p q s = given 1 (rowOf 1 true 0) x s refl (λ z. omega arith) (λ z. omega arith)
-never false true c d e f i x p q s = given 2 (rowOf 2 true 0) x s refl (λ z. omega arith) (λ z. omega arith)
-never false false true d e f i x p q s = absurd (true≢false p)
-never false false false true e f i x p q s = given 4 (rowOf 4 true i) x s refl (λ z. omega arith) (λ z. omega arith)
-never false false false false true f i x p q s = absurd (true≢false (sym (q refl)))
-never false false false false false true i x p q s = given 6 (rowOf 6 true 0) x s refl (λ z. omega arith) (λ z. omega arith)
-never false false false false false false i x p q s = absurd (Option·none-ne-some x s)
+never true b c d e f g i j x p q s = given 1 (rowOf 1 true 0) x s refl (λ z. omega arith) (λ z. omega arith)
+never false true c d e f g i j x p q s = given 2 (rowOf 2 true 0) x s refl (λ z. omega arith) (λ z. omega arith)
+never false false true d e f g i j x p q s = absurd (true≢false p)
+never false false false true e f g i j x p q s = given 4 (rowOf 4 true i) x s refl (λ z. omega arith) (λ z. omega arith)
+never false false false false true f g i j x p q s = given 7 (rowOf 7 true j) x s refl (λ z. omega arith) (λ z. omega arith)
+never false false false false false true g i j x p q s = absurd (true≢false (sym (q refl)))
+never false false false false false false true i j x p q s = given 6 (rowOf 6 true 0) x s refl (λ z. omega arith) (λ z. omega arith)
+never false false false false false false false i j x p q s = absurd (Option·none-ne-some x s)
 
 finite-zero : not (isFinite zeroᶠ) ≡ false
 unfolding isFinite ofBits
@@ -98,7 +99,8 @@ module _ (mesh : Handed) (work : ℕ) where
   unfolding verdict table tooMany
   never-3-5 x s =
       let bad = notFinite mesh in
-      never (ltb faceLimit (length (mesh .sizes))) (misfit mesh) (not (isFinite zeroᶠ)) (isThere bad) (ltb longest (slotWords * slotCount (mesh .sizes))) (ltb work (workWords * length (mesh .sizes))) (orZero bad) x finite-zero
+      let bare = noNormal mesh in
+      never (ltb faceLimit (length (mesh .sizes))) (misfit mesh) (not (isFinite zeroᶠ)) (isThere bad) (isThere bare) (ltb longest (slotWords * slotCount (mesh .sizes))) (ltb work (workWords * length (mesh .sizes))) (orZero bad) (orZero bare) x finite-zero
       (λ e. lt-ltb faceLimit (length (mesh .sizes)) (omega (arith, ltb-true longest (slotWords * slotCount (mesh .sizes)) e, slots-few (mesh .sizes)))) s
 
   numbered : (x : Row) → desk ≡ some x → Numbered x

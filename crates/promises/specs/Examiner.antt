@@ -55,7 +55,7 @@ pub record Sound (x : Asking) (d : Triangle) : Type 0 where
 abbrev pub Objects : Asking → Triangle → ℕ → ℕ → Type 0
 Objects x d k p = meaning.Examines (soundIn (x .mesh)) d (x .links) (x .groups) (x .ways) k p
 
--- a refusal: 1, 2, 4 or 6; no objection is made, and the work list is as it was
+-- a refusal: 1, 2, 4, 7 or 6; no objection is made, and the work list is as it was
 pub record Refused (x : Asking) (r : Examined) (u : List ℕ) : Type 0 where
   pub low : 0 < r .refusal
   pub high : r .refusal ≤ highestRefusal

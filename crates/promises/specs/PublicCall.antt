@@ -28,7 +28,7 @@ remains m = left (m .returned) (m .answer) (m .work)
 
 -- (That each call ends is part of what its contract says.)
 pub record Promised : Type 1 where
-  -- demand 1: refused with one of six numbers and nothing altered, or accepted; absent told apart from every number
+  -- demand 1: refused with one of seven numbers and nothing altered, or accepted; absent told apart from every number
   pub demand-1 : (x : Call) (m : Made x) → Refused x (remains m) ⊎ Taken x (remains m)
   -- demand 2: 'Every word of every answer equals the definition'
   pub demand-2 : (x : Call) (m : Made x) → remains m ≡ leaves x

@@ -13,7 +13,7 @@ const USAGE: &str = "usage: run [--seed N] [--count N] [--kind K].. [--gate] [--
   K is one, mesh, zeros, magnitudes, extreme, needle, refused, limits, largest, fans, big or shuffle; all of them unless one is named
   --gate     a few thousand of each kind, then every spoiled word has to be caught
   --spoil    alters one word of ours: tangent-x to mag-s, orientation, magnitude, absent, past-answer, work, past-work, number,
-             place, slots, refused-answer, refused-work, shuffled, before-answer, beside-answer, before-work, beside-work or handed
+             place, bare-number, bare-place, slots, refused-answer, refused-work, shuffled, before-answer, beside-answer, before-work, beside-work or handed
   --file     compares the one case of a file
   --to       where a case that differed is written";
 

@@ -1,7 +1,7 @@
 //! Numbers, thresholds and corners to build meshes from.
 use crate::mesh::{Corner, corner};
 use crate::random::Random;
-use crate::refusals::unfit;
+use crate::refusals::{bare, unfit};
 
 /// A set that numbers are taken from.
 #[derive(Clone, Copy)]
@@ -137,8 +137,18 @@ pub fn pool(r: &mut Random, count: usize, style: &Style) -> Vec<Corner> {
     (0..count).map(|_| make(r)).collect()
 }
 
-/// A normal.
+/// A normal, mostly one that does not count as zero: such a mesh is refused with 7.
 fn normal(r: &mut Random, family: Option<Family>) -> [f32; 3] {
+    loop {
+        let normal = any_normal(r, family);
+        if !bare(corner([0.0; 3], normal, [0.0; 2])) || r.chance(1, 4) {
+            return normal;
+        }
+    }
+}
+
+/// A normal, zero as often as the family has it.
+fn any_normal(r: &mut Random, family: Option<Family>) -> [f32; 3] {
     match family {
         Some(family) => [0; 3].map(|_| number(r, family)),
         None if r.chance(1, 2) => r.pick(&[

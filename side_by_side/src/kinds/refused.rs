@@ -2,9 +2,9 @@
 use super::faces::lent;
 use super::numbers::threshold;
 use super::small;
-use crate::mesh::{Case, Mesh, framed};
+use crate::mesh::{Case, Corner, Mesh, framed};
 use crate::random::Random;
-use crate::refusals::MOST_FACES;
+use crate::refusals::{MOST_FACES, bare};
 
 /// The bits of what is no finite number.
 const UNFIT: [u32; 6] = [
@@ -16,15 +16,44 @@ const UNFIT: [u32; 6] = [
     0xFFFF_FFFF,
 ];
 
-/// Of so many cases the first 64 have every set of grounds, the others those without refusal 1: such a mesh is large.
-const TURN: u64 = 1024;
+/// The bits of what counts as zero.
+const ZEROS: [u32; 6] = [
+    0x0000_0000,
+    0x8000_0000,
+    0x0000_0001,
+    0x807F_FFFF,
+    0x0080_0000,
+    0x8080_0000,
+];
 
-/// Case number `i`: the grounds are the binary digits of i, refusal 1 the last.
+/// The bits of the least numbers that do not.
+const LEAST: [u32; 2] = [0x0080_0001, 0x8080_0001];
+
+/// The refusals in the order of the table.
+const ORDER: [u32; 7] = [1, 2, 3, 4, 7, 5, 6];
+
+/// Of so many cases the first 128 have every set of grounds, the others those without refusal 1: such a mesh is large.
+const TURN: u64 = 2048;
+
+/// The grounds of case number `i`: its binary digits in the order of the table, refusal 1 the last.
+fn grounds(i: u64) -> Vec<u32> {
+    let set = if i % TURN < 128 { i } else { i & !1 };
+    let digits = (0..ORDER.len()).filter(|digit| set >> digit & 1 == 1);
+    digits.map(|digit| ORDER[digit]).collect()
+}
+
+/// Case number `i`.
 pub fn make(r: &mut Random, i: u64) -> Case {
-    let set = if i % TURN < 64 { i } else { i & !1 };
-    let ground = |number: u64| set >> (number - 1) & 1 == 1;
+    let grounds = grounds(i);
+    let ground = |number: u32| grounds.contains(&number);
     let mut mesh = base(r, ground(1));
-    let place = if ground(4) { plant(r, &mut mesh) } else { 0 };
+    let mut places = [0; 8];
+    if ground(7) {
+        places[7] = undress(r, &mut mesh);
+    }
+    if ground(4) {
+        places[4] = plant(r, &mut mesh);
+    }
     if ground(3) {
         mesh.threshold = r.pick(&UNFIT);
     }
@@ -37,11 +66,11 @@ pub fn make(r: &mut Random, i: u64) -> Case {
     if ground(2) {
         mislay(r, &mut mesh);
     }
-    let number = (1..=6).find(|&number| ground(number)).unwrap_or(0);
+    let number = grounds.first().copied().unwrap_or(0);
     Case {
         mesh,
         owners: vec![],
-        foreseen: Some((number as u32, if number == 4 { place } else { 0 })),
+        foreseen: Some((number, places[number as usize])),
     }
 }
 
@@ -49,10 +78,12 @@ pub fn make(r: &mut Random, i: u64) -> Case {
 fn base(r: &mut Random, crowded: bool) -> Mesh {
     let mut faces = small::faces(r);
     faces.push(vec![[0, 0, 0, 0, 0, 0x3F80_0000, 0, 0]; r.from_to(3, 4)]);
+    let dressed = faces.iter_mut().filter(|face| framed(face.len() as u8));
+    dressed.flatten().for_each(|corner| dress(r, corner));
     if crowded {
         let count = MOST_FACES + r.pick(&[1, 1, 2, 904]);
         let size = r.pick(&[0, 0, 1, 3]);
-        faces.resize(count, vec![[0; 8]; size]);
+        faces.resize(count, vec![[0, 0, 0, 0, 0, 0x3F80_0000, 0, 0]; size]);
     }
     if r.chance(1, 2) {
         r.shuffle(&mut faces);
@@ -61,8 +92,18 @@ fn base(r: &mut Random, crowded: bool) -> Mesh {
     lent(r, &faces, threshold)
 }
 
-/// Puts one to three NaNs or infinities into corners of faces with slots; the lowest of these corners.
-fn plant(r: &mut Random, mesh: &mut Mesh) -> u32 {
+/// Gives a corner without a normal one, and one of eight the least that there is: one number that counts, and two that do not.
+fn dress(r: &mut Random, corner: &mut Corner) {
+    if r.chance(1, 8) {
+        corner[3..6].fill_with(|| r.pick(&ZEROS));
+        corner[r.from_to(3, 5)] = r.pick(&LEAST);
+    } else if bare(*corner) {
+        corner[5] = 0x3F80_0000;
+    }
+}
+
+/// One to three corners of faces with slots.
+fn some_corners(r: &mut Random, mesh: &Mesh) -> Vec<usize> {
     let mut places = vec![];
     let mut first = 0;
     for &size in &mesh.sizes {
@@ -70,9 +111,23 @@ fn plant(r: &mut Random, mesh: &mut Mesh) -> u32 {
         first = corners.end;
         places.extend(corners.filter(|_| framed(size)));
     }
+    (0..r.from_to(1, 3)).map(|_| r.pick(&places)).collect()
+}
+
+/// Takes the normals of one to three corners of faces with slots away; the lowest of these corners.
+fn undress(r: &mut Random, mesh: &mut Mesh) -> u32 {
     let mut lowest = usize::MAX;
-    for _ in 0..r.from_to(1, 3) {
-        let corner = r.pick(&places);
+    for corner in some_corners(r, mesh) {
+        mesh.normals[3 * corner..3 * corner + 3].fill_with(|| r.pick(&ZEROS));
+        lowest = lowest.min(corner);
+    }
+    lowest as u32
+}
+
+/// Puts one to three NaNs or infinities into corners of faces with slots; the lowest of these corners.
+fn plant(r: &mut Random, mesh: &mut Mesh) -> u32 {
+    let mut lowest = usize::MAX;
+    for corner in some_corners(r, mesh) {
         let bits = r.pick(&UNFIT);
         match r.below(8) {
             k @ 0..3 => mesh.positions[3 * corner + k] = bits,
@@ -113,6 +168,38 @@ fn mislay(r: &mut Random, mesh: &mut Mesh) {
             mesh.positions.extend([0; 3]);
             mesh.normals.extend([0; 3]);
             mesh.texture.extend([0; 2]);
+        }
+    }
+}
+
+#[cfg(test)]
+mod tests {
+    use super::{ORDER, grounds, make};
+    use crate::random::Random;
+    use crate::refusals::refusal;
+
+    #[test]
+    fn every_two_of_the_seven_grounds_come_together() {
+        let sets: Vec<Vec<u32>> = (0..128).map(grounds).collect();
+        for (i, set) in sets.iter().enumerate() {
+            assert!(!sets[..i].contains(set), "{set:?} twice");
+        }
+        for one in ORDER {
+            let others = ORDER.into_iter().filter(|&other| other != one);
+            for other in others {
+                let both = |set: &&Vec<u32>| set.contains(&one) && set.contains(&other);
+                assert_eq!(sets.iter().filter(both).count(), 32, "{one} and {other}");
+            }
+        }
+    }
+
+    #[test]
+    fn cases_are_what_they_are_made_for() {
+        // refusal 1 is left to the runs: such meshes are large
+        for i in (0..1024).map(|i| 2 * i) {
+            let case = make(&mut Random::of(1, "refused", i), i);
+            let told = refusal(&case.mesh).unwrap_or((0, 0));
+            assert_eq!(Some(told), case.foreseen, "case {i}, {:?}", grounds(i));
         }
     }
 }

@@ -67,7 +67,10 @@ fn sheet(r: &mut Random) -> Vec<Face> {
 /// A closed flat fan with its places as texture, so that its frames are equal but for signs of zeros; some triangles
 /// have their corners in one line.
 fn rosette(r: &mut Random) -> Vec<Face> {
-    let normal = r.pick(&[[0.0; 3], [0.0, 0.0, 1.0]]);
+    // the least normal that is there takes nothing off a vector; one of sixteen is absent, and the mesh is refused
+    let least = f32::from_bits(0x0080_0001);
+    let tall = r.pick(&[[1.0, least].repeat(7), vec![1.0, 0.0]].concat());
+    let normal = [0.0, 0.0, tall];
     let point = |r: &mut Random, [x, y]: [f32; 2]| {
         let mut made = corner([x, y, 0.0], normal, [x, y]);
         made[0..3].iter_mut().for_each(|bits| touch(r, bits));

@@ -24,7 +24,17 @@ fn corner(random: &mut Random, scales: [f32; 2]) -> Corner {
     ([x, y, 0.25 * z], normal, [scales[0] * x, scales[1] * y])
 }
 
-/// Faces of two to five corners; in one of four meshes a number is not finite.
+/// A number that counts as zero, or in one of eight the next that does not.
+fn near_zero(random: &mut Random) -> f32 {
+    let bits = if random.chance(1, 8) {
+        0x0080_0001
+    } else {
+        random.pick(&[0, 0, 0x8000_0000, 1, 0x0080_0000, 0x8080_0000])
+    };
+    f32::from_bits(bits)
+}
+
+/// Faces of two to five corners; in one of four meshes a number is not finite, in one of four some normals are zero or next to it.
 fn faces(random: &mut Random) -> Faces {
     let scales = [0; 2].map(|_| random.pick(&[0.5, 1.5, 3.0, -2.0]));
     let count = random.below(MOST[0] + 1);
@@ -37,6 +47,12 @@ fn faces(random: &mut Random) -> Faces {
     if count > 0 && random.chance(1, 4) {
         let at = random.below(faces.texture.len());
         faces.texture[at][1] = f32::NAN;
+    }
+    if count > 0 && random.chance(1, 4) {
+        for _ in 0..random.from_to(1, 3) {
+            let at = random.below(faces.normals.len());
+            faces.normals[at] = [0; 3].map(|_| near_zero(random));
+        }
     }
     faces
 }

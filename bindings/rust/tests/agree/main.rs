@@ -19,13 +19,17 @@ use std::process::Command;
 const CASES: u64 = 400;
 
 /// Starts of lines that have to come about.
-const CAME_ABOUT: [&str; 11] = [
+const CAME_ABOUT: [&str; 15] = [
     "present ",
     "absent\n",
     "lost\n",
     "part 2 6 8\n",
     "frames 3 ",
     "frames 4 ",
+    "frames 7 ",
+    "by islands 7 ",
+    "labels 7 ",
+    "links 7 ",
     "examine 0 3 ",
     "examine 0 7 ",
     "examine 0 9 ",
@@ -74,7 +78,7 @@ fn rust_c_and_the_archive_s_words_agree_in_every_field() {
         dokphalun_sys::SLOT_WORDS,
         0,
     );
-    rust.said("archive", 1, 10, 0);
+    rust.said("archive", 2, 10, 0);
     let mut buffers = Buffers::new();
     for case in &cases {
         by_words::case(case, &mut words);
