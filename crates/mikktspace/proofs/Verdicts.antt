@@ -36,11 +36,11 @@ no-refusal x e = go (verdict x) (verdict-numbered x) e
     go (some r) (each-some f) e = let g = f .known .0 in absurd (omega arith)
 
 -- and every number is a small one
-pub number-small : (x : Shown) → told (verdict x) .number ≤ highestRefusal
-unfolding told
+pub number-small : (x : Shown) → asVerdict (verdict x) .number ≤ highestRefusal
+unfolding asVerdict
 number-small x = go (verdict x) (verdict-numbered x)
   where
-    go : (o : Option Row) → Each InTable o → told o .number ≤ highestRefusal
+    go : (o : Option Row) → Each InTable o → asVerdict o .number ≤ highestRefusal
     go none each-none = omega arith
     go (some r) (each-some f) = f .known .1
 
