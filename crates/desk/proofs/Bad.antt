@@ -138,8 +138,8 @@ module _ (fine : Corner → Bool) (ps ns ts : List Float) where
     abbrev pub FacesGive : FirstBad → ℕ → ℕ → Type 0
     FacesGive b f from = unlessFound b (inFaces fine ps ns ts from (drop f sizes)) ≡ inFaces fine ps ns ts 0 sizes
 
-    pub next-face : (a b : FirstBad) (f from to : ℕ) → f < length sizes → a ≡ found (unlessFound b (inFace fine ps ns ts from (getD sizes f 0))) → FacesGive b f from → to ≡ from + getD sizes f 0 → FacesGive a (f + 1) to
-    next-face a b f from to h e g t = ap (λ (k : ℕ). unlessFound a (inFaces fine ps ns ts k (drop (f + 1) sizes))) t ∙ ap (λ (x : FirstBad). unlessFound x (inFaces fine ps ns ts (from + getD sizes f 0) (drop (f + 1) sizes))) e ∙ face-more b f from h ∙ g
+    pub next-face : (a b : FirstBad) (f from at to : ℕ) → f < length sizes → a ≡ found (unlessFound b (inFace fine ps ns ts at (getD sizes f 0))) → FacesGive b f from → at ≡ from → to ≡ from + getD sizes f 0 → FacesGive a (f + 1) to
+    next-face a b f from at to h e g s t = ap (λ (k : ℕ). unlessFound a (inFaces fine ps ns ts k (drop (f + 1) sizes))) t ∙ ap (λ (x : FirstBad). unlessFound x (inFaces fine ps ns ts (from + getD sizes f 0) (drop (f + 1) sizes))) (e ∙ ap (λ (k : ℕ). found (unlessFound b (inFace fine ps ns ts k (getD sizes f 0)))) s) ∙ face-more b f from h ∙ g
 
     pub all-passed : (b : FirstBad) (f from : ℕ) → length sizes ≤ f → FacesGive b f from → b ≡ found (inFaces fine ps ns ts 0 sizes)
     all-passed b f from h g = at-last b ∙ ap found (ap (unlessFound b) (sym past-end) ∙ g)

@@ -17,7 +17,7 @@ use Rattle.promises.specs.Impostors.{rowsOf}
 abbrev pub verdictOf : Call → Option Row
 verdictOf x = verdict (atDesk x)
 
--- the number of a refusal is one of 1 to 6
+-- the number of a refusal is one of 1 to `highestRefusal`
 pub numbered : (x : Call) → Each InTable (verdictOf x)
 numbered x = verdict-numbered (atDesk x)
 

@@ -51,8 +51,8 @@ loop-again c =
       omega arith,
       omega (arith, l .inv .4, corners-more sizes (l .f) h),
       (λ i. l .inv .5 i + c .slots-of .ensures .0 i) ∙ sym (slots-more sizes (l .f) h),
-      next-face finiteCorner _ _ _ sizes _ _ (l .f) (l .corners) _ h (b .flaws-of-face .ensures .0) (l .inv .6) (omega arith),
-      next-face hasNormal _ _ _ sizes _ _ (l .f) (l .corners) _ h (b .flaws-of-face .ensures .1) (l .inv .7) (omega arith),
+      next-face finiteCorner _ _ _ sizes _ _ (l .f) (l .corners) _ _ h (b .flaws-of-face .ensures .0) (l .inv .6) (omega arith) (omega arith),
+      next-face hasNormal _ _ _ sizes _ _ (l .f) (l .corners) _ _ h (b .flaws-of-face .ensures .1) (l .inv .7) (omega arith) (omega arith),
     )
 
 returns : tie.Need-returns Inv-loop μ-loop
