@@ -1,5 +1,6 @@
 -- Blocks that are appended to a cut card, in whole or in part, leave a cut of the same card. Assumes nothing.
 use Prim.Native.Nat.{ℕ, _+_, _-_, _*_, _/_, _%_, _≤_, _<_}
+use native.Mathlib.Nat.{mul-le-mul-left}
 use native.Mathlib.Omega.{arith}
 use mathlib.Core.Path.{_≡_, refl, sym, ap, _∙_}
 use mathlib.Core.Bool.{Bool, true, false}
@@ -11,8 +12,9 @@ use lib.Dec.{ltb}
 use borrow.Author.Tests.{ltb-true, ltb-false}
 use Rattle.lists.specs.Parts.{joined, part}
 use Rattle.lists.proofs.Parts.{joined-same, joined-add, part-part}
-use Rattle.blocks.specs.Format.{blockBytes, recordsHeld, roomWords, blocksFor, usedWords, recordsIn, blockOf}
-use Rattle.blocks.proofs.Counts.{words-are, used-fits, called}
+use Rattle.blocks.specs.declared.Kind.{Kind}
+use Rattle.blocks.specs.Format.{blockBytes, recordWords, recordsHeld, roomWords, blocksFor, usedWords, recordsIn, blockOf}
+use Rattle.blocks.proofs.Counts.{words-fit, place-is, called, blocks-among}
 use Rattle.cards.specs.Writer.{recordsOf, writable, blocksOf, cardOf}
 use Rattle.cards.proofs.Lengths.{length-blocks}
 use Rattle.cards.proofs.Outcomes.{whole-records}
@@ -62,47 +64,46 @@ patch-begins front xs after f g at j e l h k b = go (ltb (at + j) (length f)) re
         (drop (at + j) g, ap (λ (x : List ℕ). x ++ drop (at + j) g) (whole ∙ (ap (λ (x : List ℕ). take (at + j) g ++ x) none ∙ append-nil (take (at + j) g))) ∙ take-append-drop (at + j) g)
 
 -- the next records of l
-module _ (l : List ℕ) (can : writable l ≡ true) (b : ℕ) (rs : List ℕ) (own : rs ≡ part (roomWords * b) (length rs) l) (ok : writable rs ≡ true) (f : NextRecords (recordsOf l) b (recordsOf rs)) where
+module _ (kind : Kind) (l : List ℕ) (can : writable kind l ≡ true) (b : ℕ) (rs : List ℕ) (own : rs ≡ part (roomWords * b) (length rs) l) (ok : writable kind rs ≡ true) (f : NextRecords kind (recordsOf kind l) b (recordsOf kind rs)) where
   -- they are among those of l
-  among : recordsHeld * b + recordsOf rs ≤ recordsOf l
-  among = go (f .kind)
+  among : recordsHeld kind * b + recordsOf kind rs ≤ recordsOf kind l
+  among = go (f .which)
     where
-      go : (recordsHeld * b + recordsOf rs ≡ recordsOf l) ⊎ ((recordsHeld * b + recordsOf rs < recordsOf l) × (recordsOf rs % recordsHeld ≡ 0)) → recordsHeld * b + recordsOf rs ≤ recordsOf l
+      go : (recordsHeld kind * b + recordsOf kind rs ≡ recordsOf kind l) ⊎ ((recordsHeld kind * b + recordsOf kind rs < recordsOf kind l) × (recordsOf kind rs % recordsHeld kind ≡ 0)) → recordsHeld kind * b + recordsOf kind rs ≤ recordsOf kind l
       go (inl e) = omega (arith, e)
       go (inr e) = omega (arith, e .0)
 
   -- each of their blocks is the block of l
-  one : (i : ℕ) → i < blocksFor (recordsOf rs) → part (roomWords * i) (usedWords (recordsOf l) (b + i)) rs ≡ recordsIn (recordsOf l) (b + i) l
+  one : (i : ℕ) → i < blocksFor kind (recordsOf kind rs) → part (roomWords * i) (usedWords kind (recordsOf kind l) (b + i)) rs ≡ recordsIn kind (recordsOf kind l) (b + i) l
   unfolding recordsIn
   one i h =
-      ap (part (roomWords * i) (usedWords (recordsOf l) (b + i))) own
-      ∙ (part-part (roomWords * b) (length rs) (roomWords * i) (usedWords (recordsOf l) (b + i)) l
-      (omega (arith, next-words (recordsOf l) b (recordsOf rs) i f h, words-are (recordsOf rs) i, used-fits (recordsOf rs) i (called (recordsOf rs) i h), whole-records rs ok))
-      (omega (arith, among, whole-records rs ok, whole-records l can))
-      ∙ ap (λ (p : ℕ). part p (usedWords (recordsOf l) (b + i)) l) place)
+      ap (part (roomWords * i) (usedWords kind (recordsOf kind l) (b + i))) own
+      ∙ (part-part (roomWords * b) (length rs) (roomWords * i) (usedWords kind (recordsOf kind l) (b + i)) l
+      (omega (arith, next-words kind (recordsOf kind l) b (recordsOf kind rs) i f h, words-fit kind (recordsOf kind rs) i (called kind (recordsOf kind rs) i h), whole-records kind rs ok))
+      (omega (arith, place-is kind b (recordsOf kind rs), mul-le-mul-left (recordWords kind) among, whole-records kind rs ok, whole-records kind l can))
+      ∙ ap (λ (p : ℕ). part p (usedWords kind (recordsOf kind l) (b + i)) l) place)
     where
       place : roomWords * b + roomWords * i ≡ roomWords * (b + i)
       place = omega arith
 
-  fit-in : b + blocksFor (recordsOf rs) ≤ blocksFor (recordsOf l)
-  unfolding blocksFor
-  fit-in = omega (arith, among)
+  fit-in : b + blocksFor kind (recordsOf kind rs) ≤ blocksFor kind (recordsOf kind l)
+  fit-in = blocks-among kind b (recordsOf kind rs) (recordsOf kind l) among
 
   -- the card of l: the blocks before, theirs, and the rest
-  pub card-split : (rest : List ℕ) × (cardOf l ≡ blocksOf b (recordsOf l) l ++ (blocksFrom (recordsOf l) b rs ++ rest))
+  pub card-split : (rest : List ℕ) × (cardOf kind l ≡ blocksOf kind b (recordsOf kind l) l ++ (blocksFrom kind (recordsOf kind l) b rs ++ rest))
   unfolding cardOf blocksOf blocksFrom
   card-split =
-      let n = recordsOf l in
-      let k = blocksFor (recordsOf rs) in
-      let m = blocksFor n - (b + k) in
-      let g : ℕ → List ℕ = λ i. blockOf n i (recordsIn n i l) in
-      let theirs = joined-same k (λ i. blockOf n (b + i) (part (roomWords * i) (usedWords n (b + i)) rs)) (λ i. g (b + i)) (λ i h. ap (blockOf n (b + i)) (one i h)) in
-      let count : blocksFor n ≡ b + (k + m) = omega (arith, fit-in) in
+      let n = recordsOf kind l in
+      let k = blocksFor kind (recordsOf kind rs) in
+      let m = blocksFor kind n - (b + k) in
+      let g : ℕ → List ℕ = λ i. blockOf kind n i (recordsIn kind n i l) in
+      let theirs = joined-same k (λ i. blockOf kind n (b + i) (part (roomWords * i) (usedWords kind n (b + i)) rs)) (λ i. g (b + i)) (λ i h. ap (blockOf kind n (b + i)) (one i h)) in
+      let count : blocksFor kind n ≡ b + (k + m) = omega (arith, fit-in) in
       (joined m (λ i. g (b + (k + i))), ap (λ (j : ℕ). joined j g) count ∙ (joined-add b (k + m) g ∙ ap (λ (x : List ℕ). joined b g ++ x) (joined-add k m (λ i. g (b + i)) ∙ ap (λ (x : List ℕ). x ++ joined m (λ i. g (b + (k + i)))) (sym theirs))))
 
   -- and what appending them leaves, in whole or in part
-  pub append-begins : (c : List ℕ) (j : ℕ) → b ≡ length c / blockBytes → j ≤ blockBytes * blocksFor (recordsOf rs) → Begins c (cardOf l) → Begins (patched c (blockBytes * b) (take j (blocksFrom (recordsOf l) b rs))) (cardOf l)
+  pub append-begins : (c : List ℕ) (j : ℕ) → b ≡ length c / blockBytes → j ≤ blockBytes * blocksFor kind (recordsOf kind rs) → Begins c (cardOf kind l) → Begins (patched c (blockBytes * b) (take j (blocksFrom kind (recordsOf kind l) b rs))) (cardOf kind l)
   unfolding blocksFrom
   append-begins c j e h s =
-      patch-begins (blocksOf b (recordsOf l) l) (blocksFrom (recordsOf l) b rs) (card-split .0) c (cardOf l) (blockBytes * b) j (card-split .1)
-      (length-blocks b (recordsOf l) l (omega (arith, whole-records l can)) (omega (arith, fit-in))) (omega (arith, e)) (omega (arith, h, length-from (recordsOf l) b rs f (blocksFor (recordsOf rs)) (omega arith))) s
+      patch-begins (blocksOf kind b (recordsOf kind l) l) (blocksFrom kind (recordsOf kind l) b rs) (card-split .0) c (cardOf kind l) (blockBytes * b) j (card-split .1)
+      (length-blocks kind b (recordsOf kind l) l (omega (arith, whole-records kind l can)) (omega (arith, fit-in))) (omega (arith, e)) (omega (arith, h, length-from kind (recordsOf kind l) b rs f (blocksFor kind (recordsOf kind rs)) (omega arith))) s

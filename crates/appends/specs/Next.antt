@@ -1,12 +1,13 @@
--- Which block comes next on a card that may be torn, from request E14. Definitions only.
+-- Which block comes next on a card that may be torn, from request E14, for either kind. Definitions only.
 use Prim.Native.Nat.{ℕ, _*_, _/_}
 use mathlib.Core.Bool.{Bool, cond}
 use lib.Dec.{ltb}
+use Rattle.blocks.specs.declared.Kind.{Kind}
 use Rattle.blocks.specs.Format.{blockBytes, blocksFor, recordsUsed}
 
 -- whether a card of so many bytes holds more than n records call for
-unfoldable pub overfull : ℕ → ℕ → Bool
-overfull n long = ltb (blockBytes * blocksFor n) long
+unfoldable pub overfull : Kind → ℕ → ℕ → Bool
+overfull kind n long = ltb (blockBytes * blocksFor kind n) long
 
 -- the first block that is not whole: 'Appending after that starts at the torn block'
 unfoldable pub firstTorn : ℕ → ℕ
@@ -23,8 +24,8 @@ pub record Following : Type 0 where
   pub at : ℕ
 
 -- how many records the torn block takes, none where the card is whole, and where it goes; refused with 3 where it holds more than n records call for
-unfoldable pub following : ℕ → ℕ → Following
-following n long =
-    cond (overfull n long)
+unfoldable pub following : Kind → ℕ → ℕ → Following
+following kind n long =
+    cond (overfull kind n long)
     (record { number = 3; records = 0; at = 0 })
-    (record { number = 0; records = recordsUsed n (firstTorn long); at = placeOf long })
+    (record { number = 0; records = recordsUsed kind n (firstTorn long); at = placeOf long })

@@ -4,3 +4,4 @@ pub mod Judged
 pub mod Written
 pub mod Changed
 pub mod Same
+pub mod Other

@@ -11,6 +11,7 @@ use borrow.Author.Tests.{ltb-true, ltb-false, eq-eqb, ne-eqb}
 use Rattle.lists.specs.Parts.{joined, part}
 use Rattle.words.specs.Words.{wordAt, wordsAt}
 use Rattle.words.proofs.Words.{same-word, word-of, length-words, words-part}
+use Rattle.blocks.specs.declared.Kind.{Kind}
 use Rattle.blocks.specs.Format.{blockBytes, blockWords, headerWords, recordsUsed, usedWords}
 use Rattle.blocks.specs.Judged.{soundBlock, blockAt, good, lost, recordsRead}
 use Rattle.blocks.proofs.Counts.{used-words-le}
@@ -27,7 +28,7 @@ there b bs = go (ltb b (length bs / blockBytes)) refl
     go true h = h ∙ sym (eq-eqb (length (take blockBytes (drop (blockBytes * b) bs))) blockBytes (omega (arith, size, ltb-true b (length bs / blockBytes) h)))
     go false h = h ∙ sym (ne-eqb (length (take blockBytes (drop (blockBytes * b) bs))) blockBytes (λ e. omega (arith, e, size, ltb-false b (length bs / blockBytes) h)))
 
-module _ (n b : ℕ) (bs cs : List ℕ) (e : part (blockBytes * b) blockBytes bs ≡ part (blockBytes * b) blockBytes cs) where
+module _ (kind : Kind) (n b : ℕ) (bs cs : List ℕ) (e : part (blockBytes * b) blockBytes bs ≡ part (blockBytes * b) blockBytes cs) where
   -- each byte
   byte : (i : ℕ) → i < blockBytes → getD bs (blockBytes * b + i) 0 ≡ getD cs (blockBytes * b + i) 0
   unfolding part
@@ -54,16 +55,16 @@ module _ (n b : ℕ) (bs cs : List ℕ) (e : part (blockBytes * b) blockBytes bs
       at : (i : ℕ) → i < blockWords → getD (wordsAt bs (blockWords * b) blockWords) i 0 ≡ getD (wordsAt cs (blockWords * b) blockWords) i 0
       at i h = word-of bs (blockWords * b) blockWords i h ∙ (word i h ∙ sym (word-of cs (blockWords * b) blockWords i h))
 
-  pub same-good : good n b bs ≡ good n b cs
+  pub same-good : good kind n b bs ≡ good kind n b cs
   unfolding good
-  same-good = λ z. (there b bs ∙ (ap (λ (l : List ℕ). eqb (length l) blockBytes) e ∙ sym (there b cs))) z && soundBlock n b (same-block z)
+  same-good = λ z. (there b bs ∙ (ap (λ (l : List ℕ). eqb (length l) blockBytes) e ∙ sym (there b cs))) z && soundBlock kind n b (same-block z)
 
-  pub same-read : recordsRead n b bs ≡ recordsRead n b cs
+  pub same-read : recordsRead kind n b bs ≡ recordsRead kind n b cs
   unfolding recordsRead blockAt
-  same-read = λ z. cond (same-good z) (same-words z) (joined (recordsUsed n b) (λ _. lost))
+  same-read = λ z. cond (same-good z) (same-words z) (joined (recordsUsed kind n b) (λ _. lost kind))
     where
-      own : (l : List ℕ) → part headerWords (usedWords n b) (wordsAt l (blockWords * b) blockWords) ≡ wordsAt l (blockWords * b + headerWords) (usedWords n b)
-      own l = words-part l (blockWords * b) headerWords (usedWords n b) blockWords (omega (arith, used-words-le n b))
+      own : (l : List ℕ) → part headerWords (usedWords kind n b) (wordsAt l (blockWords * b) blockWords) ≡ wordsAt l (blockWords * b + headerWords) (usedWords kind n b)
+      own l = words-part l (blockWords * b) headerWords (usedWords kind n b) blockWords (omega (arith, used-words-le kind n b))
 
-      same-words : wordsAt bs (blockWords * b + headerWords) (usedWords n b) ≡ wordsAt cs (blockWords * b + headerWords) (usedWords n b)
-      same-words = sym (own bs) ∙ (ap (part headerWords (usedWords n b)) same-block ∙ own cs)
+      same-words : wordsAt bs (blockWords * b + headerWords) (usedWords kind n b) ≡ wordsAt cs (blockWords * b + headerWords) (usedWords kind n b)
+      same-words = sym (own bs) ∙ (ap (part headerWords (usedWords kind n b)) same-block ∙ own cs)

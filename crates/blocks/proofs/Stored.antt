@@ -10,35 +10,36 @@ use Rattle.words.specs.Words.{wordBytes, bytesOf}
 use Rattle.lists.proofs.Parts.{length-zeros, sum-append, sum-zeros, length-part}
 use Rattle.words.proofs.Stores.{sets-join}
 use Rattle.words.proofs.Words.{bytes-append, bytes-one, length-bytes}
+use Rattle.blocks.specs.declared.Kind.{Kind}
 use Rattle.blocks.specs.Format.{blockBytes, blockWords, headerWords, roomWords, summedWords, usedWords, header, body, complement, checkWord, block, blockOf}
 use Rattle.blocks.proofs.Counts.{used-words-le}
 
 -- the words before the records are seven
-pub length-header : (n b : ℕ) → length (header n b) ≡ headerWords
+pub length-header : (kind : Kind) (n b : ℕ) → length (header kind n b) ≡ headerWords
 unfolding header
-length-header n b = refl
+length-header kind n b = refl
 
 -- all words but the last are 127
-pub length-body : (n b : ℕ) (rs : List ℕ) → length rs ≡ usedWords n b → length (body n b rs) ≡ summedWords
+pub length-body : (kind : Kind) (n b : ℕ) (rs : List ℕ) → length rs ≡ usedWords kind n b → length (body kind n b rs) ≡ summedWords
 unfolding body
-length-body n b rs e =
-    length-append (header n b ++ rs) (replicate (roomWords - usedWords n b) 0)
-    ∙ omega (arith, length-append (header n b) rs, length-header n b, length-zeros (roomWords - usedWords n b), used-words-le n b)
+length-body kind n b rs e =
+    length-append (header kind n b ++ rs) (replicate (roomWords - usedWords kind n b) 0)
+    ∙ omega (arith, length-append (header kind n b) rs, length-header kind n b, length-zeros (roomWords - usedWords kind n b), used-words-le kind n b)
 
 -- and all are 128
-pub length-block : (n b : ℕ) (rs : List ℕ) → length rs ≡ usedWords n b → length (block n b rs) ≡ blockWords
+pub length-block : (kind : Kind) (n b : ℕ) (rs : List ℕ) → length rs ≡ usedWords kind n b → length (block kind n b rs) ≡ blockWords
 unfolding block
-length-block n b rs e = length-append (body n b rs) (checkWord (body n b rs) ∷ []) ∙ omega (arith, length-body n b rs e)
+length-block kind n b rs e = length-append (body kind n b rs) (checkWord (body kind n b rs) ∷ []) ∙ omega (arith, length-body kind n b rs e)
 
-pub length-block-bytes : (n b : ℕ) (rs : List ℕ) → length rs ≡ usedWords n b → length (blockOf n b rs) ≡ blockBytes
+pub length-block-bytes : (kind : Kind) (n b : ℕ) (rs : List ℕ) → length rs ≡ usedWords kind n b → length (blockOf kind n b rs) ≡ blockBytes
 unfolding blockOf
-length-block-bytes n b rs e = length-bytes (block n b rs) ∙ omega (arith, length-block n b rs e)
+length-block-bytes kind n b rs e = length-bytes (block kind n b rs) ∙ omega (arith, length-block kind n b rs e)
 
 -- the sum of all words but the last
-sum-body : (n b : ℕ) (rs : List ℕ) → sumOf (body n b rs) ≡ sumOf (header n b) + sumOf rs
+sum-body : (kind : Kind) (n b : ℕ) (rs : List ℕ) → sumOf (body kind n b rs) ≡ sumOf (header kind n b) + sumOf rs
 unfolding body
-sum-body n b rs =
-    sum-append (header n b ++ rs) (replicate (roomWords - usedWords n b) 0) ∙ omega (arith, sum-append (header n b) rs, sum-zeros (roomWords - usedWords n b))
+sum-body kind n b rs =
+    sum-append (header kind n b ++ rs) (replicate (roomWords - usedWords kind n b) 0) ∙ omega (arith, sum-append (header kind n b) rs, sum-zeros (roomWords - usedWords kind n b))
 
 -- words that are stored after words
 then : (l u : List ℕ) (p q : ℕ) (xs ys : List ℕ) → u ≡ sets l (4 * p) (bytesOf xs) → q ≡ p + length xs → sets u (4 * q) (bytesOf ys) ≡ sets l (4 * p) (bytesOf (xs ++ ys))
@@ -47,47 +48,47 @@ then l u p q xs ys e f =
     ∙ (sets-join l (4 * p) (4 * q) (bytesOf xs) (bytesOf ys) (omega (arith, length-bytes xs)) ∙ ap (sets l (4 * p)) (sym (bytes-append xs ys)))
 
 -- header, records, zeros and the last word, one after another, are the block
-module _ (card h records : List ℕ) (at n b from u : ℕ) (head : h ≡ header n b) (count : u ≡ usedWords n b) (enough : from + u ≤ length records) where
+module _ (kind : Kind) (card h records : List ℕ) (at n b from u : ℕ) (head : h ≡ header kind n b) (count : u ≡ usedWords kind n b) (enough : from + u ≤ length records) where
   abbrev rs : List ℕ
-  rs = part from (usedWords n b) records
+  rs = part from (usedWords kind n b) records
 
   own : part from u records ≡ rs
   own = ap (λ (k : ℕ). part from k records) count
 
-  length-own : length rs ≡ usedWords n b
-  length-own = length-part from (usedWords n b) records (omega (arith, enough, count))
+  length-own : length rs ≡ usedWords kind n b
+  length-own = length-part from (usedWords kind n b) records (omega (arith, enough, count))
 
-  first : part 0 headerWords h ≡ header n b
+  first : part 0 headerWords h ≡ header kind n b
   unfolding part
-  first = ap (take headerWords) head ∙ take-all headerWords (header n b) (omega (arith, length-header n b))
+  first = ap (take headerWords) head ∙ take-all headerWords (header kind n b) (omega (arith, length-header kind n b))
 
   pub block-stored : (c d e f : List ℕ) (s t w : ℕ)
       → c ≡ sets card (4 * (blockWords * at)) (bytesOf (part 0 headerWords h)) → d ≡ sets c (4 * (blockWords * at + headerWords)) (bytesOf (part from u records))
       → e ≡ sets d (4 * (blockWords * at + headerWords + u)) (bytesOf (replicate (roomWords - u) 0)) → f ≡ sets e (4 * (blockWords * at + summedWords)) (wordBytes w)
       → s ≡ sumOf (part 0 headerWords h) → t ≡ sumOf (part from u records) → w ≡ complement (s + t)
-      → f ≡ sets card (blockBytes * at) (blockOf n b (part from (usedWords n b) records))
+      → f ≡ sets card (blockBytes * at) (blockOf kind n b (part from (usedWords kind n b) records))
   unfolding blockOf block body checkWord
   block-stored c d e f s t w p q r k x y z =
       k ∙ (ap (λ (v : List ℕ). sets e (4 * (blockWords * at + summedWords)) v) (sym (bytes-one w))
-      ∙ (then card e (blockWords * at) (blockWords * at + summedWords) (body n b rs) (w ∷ []) zeros (omega (arith, length-body n b rs length-own))
-      ∙ (λ i. sets card (place i) (bytesOf (body n b rs ++ last i ∷ [])))))
+      ∙ (then card e (blockWords * at) (blockWords * at + summedWords) (body kind n b rs) (w ∷ []) zeros (omega (arith, length-body kind n b rs length-own))
+      ∙ (λ i. sets card (place i) (bytesOf (body kind n b rs ++ last i ∷ [])))))
     where
       place : 4 * (blockWords * at) ≡ blockBytes * at
       place = omega arith
 
-      last : w ≡ complement (sumOf (body n b rs))
-      last = z ∙ ap complement ((λ i. (x ∙ ap sumOf first) i + (y ∙ ap sumOf own) i) ∙ sym (sum-body n b rs))
+      last : w ≡ complement (sumOf (body kind n b rs))
+      last = z ∙ ap complement ((λ i. (x ∙ ap sumOf first) i + (y ∙ ap sumOf own) i) ∙ sym (sum-body kind n b rs))
 
-      start : c ≡ sets card (4 * (blockWords * at)) (bytesOf (header n b))
+      start : c ≡ sets card (4 * (blockWords * at)) (bytesOf (header kind n b))
       start = p ∙ ap (λ (v : List ℕ). sets card (4 * (blockWords * at)) (bytesOf v)) first
 
-      filled : d ≡ sets card (4 * (blockWords * at)) (bytesOf (header n b ++ rs))
+      filled : d ≡ sets card (4 * (blockWords * at)) (bytesOf (header kind n b ++ rs))
       filled =
           q ∙ (ap (λ (v : List ℕ). sets c (4 * (blockWords * at + headerWords)) (bytesOf v)) own
-          ∙ then card c (blockWords * at) (blockWords * at + headerWords) (header n b) rs start (omega (arith, length-header n b)))
+          ∙ then card c (blockWords * at) (blockWords * at + headerWords) (header kind n b) rs start (omega (arith, length-header kind n b)))
 
-      zeros : e ≡ sets card (4 * (blockWords * at)) (bytesOf (header n b ++ rs ++ replicate (roomWords - usedWords n b) 0))
+      zeros : e ≡ sets card (4 * (blockWords * at)) (bytesOf (header kind n b ++ rs ++ replicate (roomWords - usedWords kind n b) 0))
       zeros =
           r ∙ (ap (λ (v : ℕ). sets d (4 * (blockWords * at + headerWords + v)) (bytesOf (replicate (roomWords - v) 0))) count
-          ∙ then card d (blockWords * at) (blockWords * at + headerWords + usedWords n b) (header n b ++ rs) (replicate (roomWords - usedWords n b) 0) filled
-          (omega (arith, length-append (header n b) rs, length-header n b, length-own)))
+          ∙ then card d (blockWords * at) (blockWords * at + headerWords + usedWords kind n b) (header kind n b ++ rs) (replicate (roomWords - usedWords kind n b) 0) filled
+          (omega (arith, length-append (header kind n b) rs, length-header kind n b, length-own)))

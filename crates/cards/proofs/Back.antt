@@ -11,9 +11,10 @@ use Rattle.lists.specs.Parts.{everyBelow, joined, part}
 use Rattle.words.specs.Words.{Fit}
 use Rattle.lists.proofs.Parts.{every-all, every-at, joined-same, joined-split, part-follows}
 use Rattle.words.proofs.Words.{fit-part}
+use Rattle.blocks.specs.declared.Kind.{Kind}
 use Rattle.blocks.specs.Format.{blockBytes, recordWords, recordsHeld, roomWords, blocksFor, recordsUsed, usedWords, recordsIn, blockOf}
 use Rattle.blocks.specs.Judged.{recordsRead}
-use Rattle.blocks.proofs.Counts.{words-are, used-fits, called, full, last-block, no-blocks}
+use Rattle.blocks.proofs.Counts.{words-are, used-fits, called, wide-some, one-of, place-is, block-below, words-fit, full-words, last-words, no-words}
 use Rattle.blocks.proofs.Written.{written-read}
 use Rattle.cards.specs.Writer.{recordsOf, writable, blocksOf, cardOf}
 use Rattle.cards.specs.Reader.{blocksThere, bytesPast, readings}
@@ -21,74 +22,68 @@ use Rattle.cards.proofs.Lengths.{length-own, length-blocks}
 use Rattle.cards.proofs.Outcomes.{whole-records, few-records, marked-records}
 
 -- the records of the blocks before b, joined
-before : (n b : ℕ) (l : List ℕ) → b < blocksFor n → joined b (λ k. recordsIn n k l) ≡ take (roomWords * b) l
+before : (kind : Kind) (n b : ℕ) (l : List ℕ) → b < blocksFor kind n → joined b (λ k. recordsIn kind n k l) ≡ take (roomWords * b) l
 unfolding joined recordsIn
-before n zero l h = refl
-before n (suc b) l h =
-    ap (λ (x : List ℕ). x ++ recordsIn n b l) (before n b l (omega arith))
-    ∙ (ap (λ (k : ℕ). take (roomWords * b) l ++ part (roomWords * b) k l) count ∙ (part-follows (roomWords * b) roomWords l ∙ ap (λ (k : ℕ). take k l) place))
+before kind n zero l h = refl
+before kind n (suc b) l h =
+    ap (λ (x : List ℕ). x ++ recordsIn kind n b l) (before kind n b l (omega arith))
+    ∙ (ap (λ (k : ℕ). take (roomWords * b) l ++ part (roomWords * b) k l) (full-words kind n b h) ∙ (part-follows (roomWords * b) roomWords l ∙ ap (λ (k : ℕ). take k l) place))
   where
-    count : usedWords n b ≡ roomWords
-    count = omega (arith, words-are n b, full n b h)
-
     place : roomWords * b + roomWords ≡ roomWords * suc b
     place = omega arith
 
 -- and of all
-joined-records : (n k : ℕ) (l : List ℕ) → blocksFor n ≡ k → length l ≡ recordWords * n → joined k (λ b. recordsIn n b l) ≡ l
+joined-records : (kind : Kind) (n k : ℕ) (l : List ℕ) → blocksFor kind n ≡ k → length l ≡ recordWords kind * n → joined k (λ b. recordsIn kind n b l) ≡ l
 unfolding joined recordsIn
-joined-records n zero l e h = sym (nothing l (omega (arith, h, no-blocks n e)))
+joined-records kind n zero l e h = sym (nothing l (omega (arith, h, no-words kind n e)))
   where
     nothing : (l : List ℕ) → length l ≡ 0 → l ≡ []
     nothing [] h = refl
     nothing (x ∷ l) h = absurd (omega arith)
-joined-records n (suc m) l e h =
-    ap (λ (x : List ℕ). x ++ recordsIn n m l) (before n m l (omega (arith, e)))
-    ∙ (part-follows (roomWords * m) (usedWords n m) l ∙ take-all (roomWords * m + usedWords n m) l (omega (arith, h, words-are n m, last-block n m e)))
+joined-records kind n (suc m) l e h =
+    ap (λ (x : List ℕ). x ++ recordsIn kind n m l) (before kind n m l (omega (arith, e)))
+    ∙ (part-follows (roomWords * m) (usedWords kind n m) l ∙ take-all (roomWords * m + usedWords kind n m) l (omega (arith, h, last-words kind n m e)))
 
-module _ (l : List ℕ) (can : writable l ≡ true) where
+module _ (kind : Kind) (l : List ℕ) (can : writable kind l ≡ true) where
   -- the words 0 of a block's records
-  pub marks : (b : ℕ) → recordsHeld * b < recordsOf l → everyBelow (recordsUsed (recordsOf l) b) (λ r. leb (getD (recordsIn (recordsOf l) b l) (recordWords * r) 0) 1) ≡ true
+  pub marks : (b : ℕ) → recordsHeld kind * b < recordsOf kind l → everyBelow (recordsUsed kind (recordsOf kind l) b) (λ r. leb (getD (recordsIn kind (recordsOf kind l) b l) (recordWords kind * r) 0) 1) ≡ true
   unfolding recordsIn part
-  marks b h = every-all (recordsUsed n b) (λ r. leb (getD (recordsIn n b l) (recordWords * r) 0) 1) (λ r k. ap (λ (w : ℕ). leb w 1) (word r k) ∙ every-at n (recordsHeld * b + r) (λ r. leb (getD l (recordWords * r) 0) 1) (marked-records l can) (omega (arith, k, used-fits n b h)))
+  marks b h = every-all (recordsUsed kind n b) (λ r. leb (getD (recordsIn kind n b l) (recordWords kind * r) 0) 1) (λ r k. ap (λ (w : ℕ). leb w 1) (word r k) ∙ every-at n (recordsHeld kind * b + r) (λ r. leb (getD l (recordWords kind * r) 0) 1) (marked-records kind l can) (omega (arith, k, used-fits kind n b h)))
     where
       n : ℕ
-      n = recordsOf l
+      n = recordsOf kind l
 
-      word : (r : ℕ) → r < recordsUsed (recordsOf l) b → getD (take (usedWords (recordsOf l) b) (drop (roomWords * b) l)) (recordWords * r) 0 ≡ getD l (recordWords * (recordsHeld * b + r)) 0
+      word : (r : ℕ) → r < recordsUsed kind (recordsOf kind l) b → getD (take (usedWords kind (recordsOf kind l) b) (drop (roomWords * b) l)) (recordWords kind * r) 0 ≡ getD l (recordWords kind * (recordsHeld kind * b + r)) 0
       word r k =
-          getD-take (usedWords (recordsOf l) b) (drop (roomWords * b) l) (recordWords * r) 0 (omega (arith, k, words-are (recordsOf l) b))
-          ∙ (getD-drop (roomWords * b) l (recordWords * r) 0 ∙ ap (λ (j : ℕ). getD l j 0) place)
-        where
-          place : roomWords * b + recordWords * r ≡ recordWords * (recordsHeld * b + r)
-          place = omega arith
+          getD-take (usedWords kind (recordsOf kind l) b) (drop (roomWords * b) l) (recordWords kind * r) 0 (omega (arith, one-of (recordWords kind) r (recordsUsed kind (recordsOf kind l) b) k, wide-some kind, words-are kind (recordsOf kind l) b))
+          ∙ (getD-drop (roomWords * b) l (recordWords kind * r) 0 ∙ ap (λ (j : ℕ). getD l j 0) (sym (place-is kind b r)))
 
-  pub length-card : length (cardOf l) ≡ blockBytes * blocksFor (recordsOf l)
+  pub length-card : length (cardOf kind l) ≡ blockBytes * blocksFor kind (recordsOf kind l)
   unfolding cardOf
-  length-card = length-blocks (blocksFor (recordsOf l)) (recordsOf l) l (omega (arith, whole-records l can)) (omega arith)
+  length-card = length-blocks kind (blocksFor kind (recordsOf kind l)) (recordsOf kind l) l (omega (arith, whole-records kind l can)) (omega arith)
 
-module _ (l : List ℕ) (can : writable l ≡ true) (fit : Fit l) where
+module _ (kind : Kind) (l : List ℕ) (can : writable kind l ≡ true) (fit : Fit l) where
   -- one block
-  pub block-back : (b : ℕ) → b < blocksFor (recordsOf l) → recordsRead (recordsOf l) b (cardOf l) ≡ recordsIn (recordsOf l) b l
+  pub block-back : (b : ℕ) → b < blocksFor kind (recordsOf kind l) → recordsRead kind (recordsOf kind l) b (cardOf kind l) ≡ recordsIn kind (recordsOf kind l) b l
   unfolding cardOf blocksOf recordsIn
   block-back b h =
-      let s = joined-split (blocksFor n) b (λ k. blockOf n k (recordsIn n k l)) h in
-      let c = called n b h in
-      let w = whole-records l can in
-      ap (recordsRead n b) (s .1)
-      ∙ written-read n b (recordsIn n b l) (length-own n b l (omega (arith, w)) c) (blocksOf b n l) (s .0) (length-blocks b n l (omega (arith, w)) (omega (arith, h))) (few-records l can) (omega (arith, c, few-records l can))
-      (fit-part (roomWords * b) (usedWords n b) l (omega (arith, w, words-are n b, used-fits n b c)) fit) (marks l can b c)
+      let s = joined-split (blocksFor kind n) b (λ k. blockOf kind n k (recordsIn kind n k l)) h in
+      let c = called kind n b h in
+      let w = whole-records kind l can in
+      ap (recordsRead kind n b) (s .1)
+      ∙ written-read kind n b (recordsIn kind n b l) (length-own kind n b l (omega (arith, w)) c) (blocksOf kind b n l) (s .0) (length-blocks kind b n l (omega (arith, w)) (omega (arith, h))) (few-records kind l can) (omega (arith, block-below kind n b c, few-records kind l can))
+      (fit-part (roomWords * b) (usedWords kind n b) l (omega (arith, w, words-fit kind n b c)) fit) (marks kind l can b c)
     where
       n : ℕ
-      n = recordsOf l
+      n = recordsOf kind l
 
   -- all of them
-  pub all-back : readings (recordsOf l) (cardOf l) ≡ l
+  pub all-back : readings kind (recordsOf kind l) (cardOf kind l) ≡ l
   unfolding readings
   all-back =
-      joined-same (blocksFor (recordsOf l)) (λ b. recordsRead (recordsOf l) b (cardOf l)) (λ b. recordsIn (recordsOf l) b l) block-back
-      ∙ joined-records (recordsOf l) (blocksFor (recordsOf l)) l refl (whole-records l can)
+      joined-same (blocksFor kind (recordsOf kind l)) (λ b. recordsRead kind (recordsOf kind l) b (cardOf kind l)) (λ b. recordsIn kind (recordsOf kind l) b l) block-back
+      ∙ joined-records kind (recordsOf kind l) (blocksFor kind (recordsOf kind l)) l refl (whole-records kind l can)
 
-  pub none-past : bytesPast (recordsOf l) (cardOf l) ≡ 0
+  pub none-past : bytesPast kind (recordsOf kind l) (cardOf kind l) ≡ 0
   unfolding bytesPast blocksThere
-  none-past = omega (arith, length-card l can)
+  none-past = omega (arith, length-card kind l can)

@@ -7,6 +7,7 @@ ghost use Rattle.mesh.specs.Parts.{spanOf};
 ghost use Rattle.labels.specs.Labels.{Labels};
 ghost use Rattle.apart.specs.Call.{lists, Contract as Islands};
 ghost use Rattle.appends.specs.Contract.{Follows, Appends};
+ghost use Rattle.blocks.specs.declared.Kind.the-variants.{Ten};
 ghost use Rattle.cards.specs.Contract.{Writes, Reads};
 ghost use Rattle.packed.specs.Contract.{Packs, Unpacks};
 ghost use Rattle.examine.specs.Contract.{Examines, Hands};
@@ -129,7 +130,7 @@ pub extern "C" fn dokphalun_frames_by_islands(
 // See cards::write.
 #[no_mangle]
 pub extern "C" fn dokphalun_card_write(answer: &[u32], card: &mut [u8]) -> Written
-    ensures { λ r. ⌜ Writes (now (answer .entry)) (now (card .entry)) r (now (card .exit)) ⌝ }
+    ensures { λ r. ⌜ Writes Ten (now (answer .entry)) (now (card .entry)) r (now (card .exit)) ⌝ }
 {
     cards::write(answer, card)
 }
@@ -137,7 +138,7 @@ pub extern "C" fn dokphalun_card_write(answer: &[u32], card: &mut [u8]) -> Writt
 // See cards::read.
 #[no_mangle]
 pub extern "C" fn dokphalun_card_read(card: &[u8], total: u32, answer: &mut [u32]) -> CardFound
-    ensures { λ r. ⌜ Reads (now (card .entry)) total (now (answer .entry)) r (now (answer .exit)) ⌝ }
+    ensures { λ r. ⌜ Reads Ten (now (card .entry)) total (now (answer .entry)) r (now (answer .exit)) ⌝ }
 {
     cards::read(card, total, answer)
 }
@@ -145,7 +146,7 @@ pub extern "C" fn dokphalun_card_read(card: &[u8], total: u32, answer: &mut [u32
 // See appends::next_block.
 #[no_mangle]
 pub extern "C" fn dokphalun_card_next(long: usize, total: u32) -> Next
-    ensures { λ r. ⌜ Follows long total r ⌝ }
+    ensures { λ r. ⌜ Follows Ten long total r ⌝ }
 {
     appends::next_block(long, total)
 }
@@ -158,7 +159,7 @@ pub extern "C" fn dokphalun_card_append(
     records: &[u32],
     lent: &mut [u8],
 ) -> Appended
-    ensures { λ r. ⌜ Appends long total (now (records .entry)) (now (lent .entry)) r (now (lent .exit)) ⌝ }
+    ensures { λ r. ⌜ Appends Ten long total (now (records .entry)) (now (lent .entry)) r (now (lent .exit)) ⌝ }
 {
     appends::append(long, total, records, lent)
 }

@@ -1,30 +1,13 @@
 -- `appends::next_block` meets its contract. Assumes nothing.
-use native.Mathlib.Omega.{arith}
-use mathlib.Core.Path.{sym, _∙_}
-use mathlib.Core.Bool.{true, false}
-use Rattle.appends.specs.Next.{firstTorn, placeOf}
-use Rattle.appends.specs.Contract.{afterNext}
-use Rattle.appends.proofs.Outcomes.{next-is, following-by}
 use borrow.Author.Needs.{needs}
 use Rattle.appends.proofs.next_block.Statement.{statement}
 use Rattle.appends.proofs.next_block.Tie as tie
 
 returns : tie.Need-returns
-unfolding afterNext
-returns c =
-    let a = c .before .before .args in
-    sym (following-by (a .total) (a .long) true (sym (c .before .overfull .ensures) ∙ c .if1 .taken))
-
-returns-2 : tie.Need-returns-2
-unfolding afterNext firstTorn placeOf
-returns-2 c =
-    let e = c .before in
-    let a = e .before .before .args in
-    next-is (a .total) (a .long) _ _ _ (c .wanted .ensures) (omega arith) (omega arith)
-    ∙ sym (following-by (a .total) (a .long) false (sym (e .before .overfull .ensures) ∙ e .if1 .left))
+returns c = c .next-block-as .ensures
 
 pub next-block-spec : {M : Type 1} → statement M
 next-block-spec =
     tie.close
     (tie.spec
-    (λ c κs. search needs) returns (λ c κs. search needs) (λ c. search needs) returns-2)
+    (λ c κs. search needs) returns)

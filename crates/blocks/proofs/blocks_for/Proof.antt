@@ -1,17 +1,21 @@
 -- `blocks::blocks_for` meets its contract. Assumes nothing.
-use native.Mathlib.Omega.{arith}
-use mathlib.Core.Path.{refl}
+use Prim.Native.Nat.{ℕ, _+_, _-_, _/_, _≤_}
+use mathlib.Core.Path.{sym, ap, subst}
 use Rattle.blocks.specs.Format.{blocksFor}
+use Rattle.blocks.proofs.Counts.{blocks-le}
 use borrow.Author.Needs.{needs}
 use Rattle.blocks.proofs.blocks_for.Statement.{statement}
 use Rattle.blocks.proofs.blocks_for.Tie as tie
 
 returns : tie.Need-returns
 unfolding blocksFor
-returns c = (refl, omega arith)
+returns c =
+    let a = c .before .args in
+    let e = ap (λ (h : ℕ). (a .total + (h - 1)) / h) (c .records-held .ensures .0) in
+    (e, subst (λ (r : ℕ). r ≤ a .total) (sym e) (blocks-le (a .kind) (a .total)))
 
 pub blocks-for-spec : {M : Type 1} → statement M
 blocks-for-spec =
     tie.close
     (tie.spec
-    (λ c. search needs) (λ c. search needs) returns)
+    (λ c κs. search needs) (λ c. search needs) (λ c. search needs) (λ c. search needs) returns)

@@ -30,13 +30,13 @@ returns : tie.Need-returns Inv-loop μ-loop
 returns c =
     let l = c .before .before .before .loop in
     let a = c .before .before .before .before .before .args in
-    sym (every-fails headerWords (l .i) (λ k. eqb (wordAt (a .card .now) (a .p + k)) (getD (a .t3) k 0)) (omega arith) (ap (λ w. eqb w (getD (a .t3) (l .i) 0)) (sym (c .before .word-at .ensures)) ∙ ne-eqb _ _ (c .if1 .taken)))
+    sym (every-fails headerWords (l .i) (λ k. eqb (wordAt (a .card .now) (a .p + k)) (getD (a .t3) k 0)) (omega arith) (ap (λ w. eqb w (getD (a .t3) (l .i) 0)) (sym (c .before .word-at .ensures)) ∙ ne-eqb (c .before .word-at .result) (getD (a .t3) (l .i) 0) (λ e. omega (arith, e, c .if1 .taken))))
 
 loop-again : tie.Need-loop-again Inv-loop μ-loop
 loop-again c =
     let l = c .before .before .before .loop in
     let a = c .before .before .before .before .before .args in
-    (omega arith, every-more (l .i) (λ k. eqb (wordAt (a .card .now) (a .p + k)) (getD (a .t3) k 0)) (l .inv .1) (ap (λ w. eqb w (getD (a .t3) (l .i) 0)) (sym (c .before .word-at .ensures)) ∙ eq-eqb _ _ (c .if1 .left)))
+    (omega arith, every-more (l .i) (λ k. eqb (wordAt (a .card .now) (a .p + k)) (getD (a .t3) k 0)) (l .inv .1) (ap (λ w. eqb w (getD (a .t3) (l .i) 0)) (sym (c .before .word-at .ensures)) ∙ eq-eqb (c .before .word-at .result) (getD (a .t3) (l .i) 0) (omega (arith, c .if1 .left))))
 
 -- the loop ends past the last word
 all-seen : (i : ℕ) → i ≤ headerWords → headerWords ≤ i → headerWords ≡ i

@@ -1,42 +1,38 @@
 -- `blocks::lose_one` meets its contract. Assumes nothing.
 use native.Mathlib.Omega.{arith}
-use Prim.Native.Nat.{_-_, _≤_}
-use native.Mathlib.Nat.{le-antisymm}
-use mathlib.Core.Path.{_≡_, refl, _∙_, ap}
-use lib.ListN.{length, take, length-set}
+use Prim.Native.Nat.{ℕ, suc, _+_, _-_}
+use mathlib.Core.Path.{_≡_, _∙_, ap}
+use mathlib.Core.List.{List}
+use lib.ListN.{set, replicate, length-set}
 use lib.Seq.{sets}
-use Rattle.blocks.specs.Format.{recordWords}
-use Rattle.words.proofs.Stores.{sets-more}
-use Rattle.blocks.specs.Judged.{lost}
-use Rattle.blocks.specs.Judged as spec
+use Rattle.blocks.specs.Judged.{lostWords}
+use borrow.Author.Needs.{needs}
 use Rattle.blocks.proofs.lose_one.Statement.{statement}
 use Rattle.blocks.proofs.lose_one.Tie as tie
-use borrow.Author.Needs.{needs}
 
-abbrev Inv-loop : tie.InvT-loop
-Inv-loop answer₀ p lost i₀ answer i = (i ≤ recordWords) × (answer ≡ sets answer₀ p (take i spec.lost)) × (length answer ≡ length answer₀)
+-- word 0, and the zeros after it
+lost-is : (l u : List ℕ) (p wide : ℕ) → u ≡ sets (set l p 2) (p + 1) (replicate (wide - 1) 0) → u ≡ sets l p (lostWords wide)
+unfolding lostWords
+lost-is l u p wide h = h ∙ ap (λ (q : ℕ). sets (set l p 2) q (replicate (wide - 1) 0)) next
+  where
+    next : p + 1 ≡ suc p
+    next = omega arith
 
-abbrev μ-loop : tie.MeasureT-loop
-μ-loop answer₀ p lost i₀ answer i = recordWords - i
+clear-requires : tie.Need-clear-requires
+clear-requires c κs = simp length-set (omega arith)
 
-loop-holds : tie.Need-loop-holds Inv-loop μ-loop
-loop-holds c = (omega arith, refl, refl)
+same-length : tie.Need-same-length
+same-length c =
+    let a = c .before .before .before .before .before .args in
+    c .before .before .clear .kept .0 ∙ length-set (a .answer .now) (a .p) _
 
-loop-again : tie.Need-loop-again Inv-loop μ-loop
-loop-again c =
-    let l = c .before .loop in
-    let a = c .before .before .args in
-    (omega arith, sets-more (a .answer .now) (l .answer) spec.lost (a .p) (l .i) (omega arith) (l .inv .1), simp length-set (l .inv .2))
-
-returns : tie.Need-returns Inv-loop μ-loop
+returns : tie.Need-returns
 returns c =
-    let l = c .before .loop in
-    let a = c .before .before .args in
-    l .inv .1 ∙ ap (λ k. sets (a .answer .now) (a .p) (take k spec.lost)) (le-antisymm (l .inv .0) (c .loop-test .left))
+    let a = c .before .before .before .before .before .args in
+    lost-is (a .answer .now) _ (a .p) (a .wide) (c .before .before .clear .ensures)
 
 pub lose-one-spec : {M : Type 1} → statement M
 lose-one-spec =
     tie.close
     (tie.spec
-    Inv-loop μ-loop loop-holds (λ c. search needs) (λ c. search needs) (λ c. search needs) (λ c. search needs) (λ c. search needs)
-    (λ c. search needs) (λ c. search needs) loop-again (λ c. search needs) returns)
+    (λ c. search needs) (λ c. search needs) (λ c. search needs) (λ c. search needs) clear-requires same-length returns)

@@ -1,9 +1,8 @@
 -- `blocks::put_block` meets its contract. Assumes nothing.
 use native.Mathlib.Omega.{arith}
-use Prim.Native.Nat.{ℕ, _+_, _*_}
-use mathlib.Core.Path.{_≡_, sym, _∙_, ap}
-use Rattle.blocks.specs.Format.{recordWords, complement}
-use Rattle.blocks.proofs.Counts.{words-are}
+use Prim.Native.Nat.{ℕ, _+_}
+use mathlib.Core.Path.{_≡_, _∙_, ap}
+use Rattle.blocks.specs.Format.{complement}
 use Rattle.blocks.proofs.Stored.{block-stored}
 use borrow.Author.Needs.{needs}
 use Rattle.blocks.proofs.put_block.Statement.{statement}
@@ -12,8 +11,7 @@ use Rattle.blocks.proofs.put_block.Tie as tie
 put-words-requires-2 : tie.Need-put-words-requires-2
 put-words-requires-2 c κs =
     let u = c .before .before .before .before .before .before .before in
-    let a = u .before .before .before .args in
-    (omega (arith, c .before .before .before .put-words .kept .0), omega (arith, words-are (a .total) (a .b), u .records-used .ensures .0), omega arith)
+    (omega (arith, c .before .before .before .put-words .kept .0, u .used-words .ensures), omega (arith, u .used-words .ensures), omega (arith, u .used-words .ensures))
 
 add-complement : tie.Need-add-complement
 add-complement c = omega (arith, c .before .before .before .before .before .before .before .put-words2 .ensures .2, c .before .before .before .before .before .before .before .before .before .before .before .put-words .ensures .2)
@@ -31,8 +29,8 @@ returns c =
     let u = w .before .before .before .before in
     let s = u .before .before .before in
     let a = s .args in
-    let e = ap (λ (k : ℕ). recordWords * k) (u .records-used .ensures .0) ∙ sym (words-are (a .total) (a .b)) in
-    block-stored (a .card .now) (w .before .before .before .header .result) (a .records .now) (a .at) (a .total) (a .b) (a .from) (recordWords * u .records-used .result) (w .before .before .before .header .ensures) e
+    let e = u .used-words .ensures .0 in
+    block-stored (a .kind) (a .card .now) (w .before .before .before .header .result) (a .records .now) (a .at) (a .total) (a .b) (a .from) (u .used-words .result) (w .before .before .before .header .ensures) e
     (omega (arith, e, s .pre .2)) (w .put-words .last .0) (r .put-words2 .last .0) (z .put-zeros .last .0) (p .put-word .last .0) (w .put-words .result) (r .put-words2 .result)
     (p .before .complement .result) (w .put-words .ensures .0) (r .put-words2 .ensures .0) (z .put-zeros .ensures) (p .put-word .ensures) (w .put-words .ensures .1) (r .put-words2 .ensures .1)
     (of-sum _ _ (w .put-words .result + r .put-words2 .result) (p .before .complement .ensures) (omega arith))
@@ -41,7 +39,7 @@ pub put-block-spec : {M : Type 1} → statement M
 put-block-spec =
     tie.close
     (tie.spec
-    (λ c. search needs) (λ c κs. search needs) (λ c. search needs) (λ c κs. search needs) (λ c. search needs)
+    (λ c. search needs) (λ c κs. search needs) (λ c κs. search needs) (λ c. search needs)
     (λ c κs. search needs) (λ c. search needs) put-words-requires-2 (λ c. search needs) (λ c. search needs) (λ c. search needs)
     (λ c κs. search needs) (λ c. search needs) add-complement (λ c κs. search needs) (λ c κs. search needs) (λ c. search needs)
     returns)
