@@ -1,9 +1,9 @@
 -- The lowest corner that fails a test, one corner after the other and one face after the other. Assumes nothing.
-use Prim.Native.Nat.{ℕ, zero, suc, _+_, _*_, _-_, _≤_, _<_}
+use Prim.Native.Nat.{ℕ, zero, suc, _+_, _*_, _-_, _%_, _≤_, _<_}
 use native.Mathlib.Numerals.{add-one}
 use native.Mathlib.Omega.{arith}
 use mathlib.Core.Path.{_≡_, refl, sym, ap, _∙_}
-use mathlib.Core.Bool.{Bool, true, false, cond, true≢false}
+use mathlib.Core.Bool.{Bool, true, false, cond}
 use mathlib.Core.List.{List, [], _∷_}
 use mathlib.Core.Option.{Option, none, some}
 use lib.ListN.{length, getD, drop, drop-of-length-le}
@@ -15,7 +15,8 @@ use Rattle.definition.specs.declared.Corner.{Corner}
 use Rattle.definition.specs.Desk.{badIn, badCorner, orElse}
 use Rattle.desk.specs.declared.FirstBad.{FirstBad}
 use Rattle.desk.specs.declared.FirstBad.the-variants.{At, Nothing}
-use Rattle.desk.specs.Verdict.{found, unlessFound}
+use Rattle.desk.specs.declared.Verdict.{Verdict}
+use Rattle.desk.specs.Verdict.{said, found, unlessFound, saidAt}
 
 one-less : (n : ℕ) → suc n - 1 ≡ n
 one-less n = omega arith
@@ -77,9 +78,6 @@ takes-some n h = go (used n) refl
     go false e = absurd (h (unfold slotsOf in rw (e)))
 
 -- ---- what was found
-isAt : FirstBad → Bool
-isAt (At i) = true
-isAt Nothing = false
 
 -- found before, or else here; and then in what is behind it
 pub then : (bad : FirstBad) (here rest : Option ℕ) → unlessFound (found (unlessFound bad here)) rest ≡ unlessFound bad (orElse here rest)
@@ -99,15 +97,27 @@ pub at-once : (o : Option ℕ) → unlessFound Nothing o ≡ o
 unfolding unlessFound
 at-once o = refl
 
-pub is-some : (o : Option ℕ) (i : ℕ) → At i ≡ found o → o ≡ some i
-unfolding found isAt
-is-some none i e = absurd (true≢false (ap isAt e))
-is-some (some j) i e = let s : At i ≡ At j = e in ap some (cc)
+-- a verdict at a corner: what was found, and that nothing was
+pub at-corner : (k : ℕ) (o : Option ℕ) (v : Verdict) → v ≡ saidAt k (found o) → (v .number ≡ 0 → ⊥) → (i : ℕ) × (o ≡ some i) × (v ≡ said k i)
+unfolding found saidAt
+at-corner k none v e h = absurd (h (ap (λ (w : Verdict). w .number) e))
+at-corner k (some i) v e h = (i, refl, e)
 
-pub is-none : (o : Option ℕ) → Nothing ≡ found o → o ≡ none
-unfolding found isAt
-is-none none e = refl
-is-none (some j) e = absurd (true≢false (sym (ap isAt e)))
+pub no-corner : (k : ℕ) (o : Option ℕ) (v : Verdict) → v ≡ saidAt (suc k) (found o) → v .number ≡ 0 → o ≡ none
+unfolding found saidAt
+no-corner k none v e h = refl
+no-corner k (some i) v e h = absurd (omega (arith, ap (λ (w : Verdict). w .number) e, h))
+
+-- its number
+pub corner-number : (k : ℕ) (o : FirstBad) (v : Verdict) → v ≡ saidAt k o → v .number ≤ k
+unfolding saidAt
+corner-number k (At i) v e = omega (arith, ap (λ (w : Verdict). w .number) e)
+corner-number k Nothing v e = omega (arith, ap (λ (w : Verdict). w .number) e)
+
+pub seven-or-none : (o : FirstBad) (v : Verdict) → v ≡ saidAt 7 o → v .number % 7 ≡ 0
+unfolding saidAt
+seven-or-none (At i) v e = omega (arith, ap (λ (w : Verdict). w .number) e)
+seven-or-none Nothing v e = omega (arith, ap (λ (w : Verdict). w .number) e)
 
 -- ---- what is left: the corners from number i on, the faces from number f on
 module _ (fine : Corner → Bool) (ps ns ts : List Float) where

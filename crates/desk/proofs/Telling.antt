@@ -1,6 +1,7 @@
 -- The verdict, by the first row of the table that applies. Assumes nothing.
 use Prim.Native.Nat.{ℕ, _*_, _≤_, _<_}
-use mathlib.Core.Path.{_≡_, refl}
+use native.Mathlib.Omega.{arith}
+use mathlib.Core.Path.{_≡_, refl, ap, _∙_}
 use mathlib.Core.Bool.{Bool, true, false, cond}
 use mathlib.Core.Option.{Option, none, some}
 use lib.Dec.{ltb}
@@ -13,7 +14,7 @@ use Rattle.definition.specs.Limits.{faceLimit, workWords}
 use Rattle.definition.specs.Handed.{cornerCount, slotCount}
 use Rattle.definition.specs.Desk.{Shown, tooMany, unfit, misfit, notFinite, noNormal, isThere, orZero, table, verdict}
 use Rattle.desk.specs.declared.Verdict.{Verdict}
-use Rattle.desk.specs.Verdict.{said, asVerdict, lentNumber}
+use Rattle.desk.specs.Verdict.{said, asVerdict, lentNumber, thresholdNumber}
 
 module _ (x : Shown) where
   -- ---- what the rows say
@@ -60,6 +61,23 @@ module _ (x : Shown) where
   unfolding asVerdict verdict table first
   row3 m f t = rw (m, f, t)
 
+  -- by its number
+  pub third : (n : ℕ) → n ≡ thresholdNumber (x .threshold) → (n ≡ 0 → ⊥) → IsMany false → IsMisfit false → Told (said n 0)
+  unfolding thresholdNumber
+  third n e h m f = go (isFinite (x .threshold)) refl
+    where
+      go : (b : Bool) → isFinite (x .threshold) ≡ b → Told (said n 0)
+      go true t = absurd (h (e ∙ ap (λ (b : Bool). cond b 0 3) t))
+      go false t = ap (λ (k : ℕ). said k 0) (e ∙ ap (λ (b : Bool). cond b 0 3) t) ∙ row3 m f t
+
+  pub not-third : (n : ℕ) → n ≡ thresholdNumber (x .threshold) → n ≡ 0 → IsFinite true
+  unfolding thresholdNumber
+  not-third n e z = go (isFinite (x .threshold)) refl
+    where
+      go : (b : Bool) → isFinite (x .threshold) ≡ b → isFinite (x .threshold) ≡ true
+      go true t = t
+      go false t = absurd (omega (arith, e ∙ ap (λ (b : Bool). cond b 0 3) t, z))
+
   pub row4 : IsMany false → IsMisfit false → IsFinite true → (i : ℕ) → Lowest (some i) → Told (said 4 i)
   unfolding asVerdict verdict table first isThere orZero
   row4 m f t i b = rw (m, f, t, b)
@@ -76,3 +94,13 @@ module _ (x : Shown) where
       last true w = unfold asVerdict in refl
       last false true = unfold asVerdict in refl
       last false false = unfold asVerdict in refl
+
+-- the number of rows 5 and 6
+pub lent-number : (n slots faces answer work : ℕ) → n ≡ lentNumber slots faces answer work → n ≤ 6
+unfolding lentNumber
+lent-number n slots faces answer work e = go (ltb answer (slotWords * slots)) (ltb work (workWords * faces)) e
+  where
+    go : (a b : Bool) → n ≡ cond a 5 (cond b 6 0) → n ≤ 6
+    go true b e = omega (arith, e)
+    go false true e = omega (arith, e)
+    go false false e = omega (arith, e)

@@ -3,6 +3,8 @@ use Prim.Native.Nat.{ℕ, _*_}
 use mathlib.Core.Bool.{cond}
 use mathlib.Core.Option.{Option, none, some}
 use lib.Dec.{ltb}
+use lib.Ieee.{Float}
+use Rattle.bits.specs.Word.{isFinite}
 use Rattle.tangent.specs.Slot.{slotWords}
 use Rattle.definition.specs.Limits.{workWords}
 use Rattle.definition.specs.Desk.{Row}
@@ -32,3 +34,12 @@ unlessFound Nothing o = o
 -- rows 5 and 6 of the table, for S slots and F faces, where no row before them applies
 unfoldable pub lentNumber : ℕ → ℕ → ℕ → ℕ → ℕ
 lentNumber slots faces answer work = cond (ltb answer (slotWords * slots)) 5 (cond (ltb work (workWords * faces)) 6 0)
+
+-- row 3 of the table, where no row before it applies
+unfoldable pub thresholdNumber : Float → ℕ
+thresholdNumber t = cond (isFinite t) 0 3
+
+-- rows 4 and 7: a verdict of this number at the corner that was found, and none where none was
+unfoldable pub saidAt : ℕ → FirstBad → Verdict
+saidAt n (At i) = said n i
+saidAt n Nothing = said 0 0

@@ -184,11 +184,31 @@ fn lent(sizes: &[u8], slots: u32, answer: usize, work: usize) -> u32
     0
 }
 
+// Refusal 3, and 0 where it does not apply.
+fn unfit_threshold(threshold: f32) -> u32
+    ensures { λ r. ⌜ r ≡ spec.thresholdNumber threshold ⌝ }
+{
+    if bits::is_finite(threshold) {
+        return 0;
+    }
+    3
+}
+
 // A verdict of this number and place.
 fn said(number: u32, place: u32) -> Verdict
     ensures { λ r. ⌜ r ≡ spec.said number place ⌝ }
 {
     Verdict { number, place }
+}
+
+// A verdict of this number where a corner was found, and none otherwise.
+fn said_at(number: u32, found: FirstBad) -> Verdict
+    ensures { λ r. ⌜ r ≡ spec.saidAt number found ⌝ }
+{
+    if let FirstBad::At(i) = found {
+        return said(number, i);
+    }
+    said(0, 0)
 }
 
 // The verdict on a mesh, a threshold, and the lengths of the lists that are lent.
@@ -210,16 +230,22 @@ pub fn judge(
     if mesh::unfit(seen.corners, positions.len(), normals.len(), texture.len()) {
         return said(2, 0);
     }
-    if !bits::is_finite(threshold) {
-        return said(3, 0);
-    }
+    let third = unfit_threshold(threshold);
     let bad = seen.bad;
-    if let FirstBad::At(i) = bad {
-        return said(4, i);
-    }
+    let fourth = said_at(4, bad);
+    let four = fourth.number;
     let bare = seen.bare;
-    if let FirstBad::At(i) = bare {
-        return said(7, i);
+    let seventh = said_at(7, bare);
+    let seven = seventh.number;
+    let lists = lent(sizes, seen.slots, answer, work);
+    if third != 0 {
+        return said(third, 0);
     }
-    said(lent(sizes, seen.slots, answer, work), 0)
+    if four != 0 {
+        return fourth;
+    }
+    if seven != 0 {
+        return seventh;
+    }
+    said(lists, 0)
 }

@@ -1,18 +1,16 @@
 -- `desk::judge` meets its contract: each way out is the first row that applies. Assumes nothing.
-use Prim.Native.Nat.{ℕ}
+use Prim.Native.Nat.{ℕ, _%_, _≤_}
 use native.Mathlib.Omega.{arith}
 use mathlib.Core.Path.{_≡_, sym, ap, _∙_}
 use mathlib.Core.Bool.{Bool, true, false}
 use mathlib.Core.Option.{none}
-use borrow.Author.Tests.{not-true, not-false}
 use borrow.Author.Needs.{needs}
 use lib.ListN.{length}
-use Rattle.definition.specs.Handed.{handed}
-use Rattle.definition.specs.Desk.{Shown, shown}
-use Rattle.desk.specs.declared.Verdict.{Verdict}
-use Rattle.desk.specs.Verdict.{said, lentNumber}
-use Rattle.desk.proofs.Bad.{is-some, is-none}
-use Rattle.desk.proofs.Telling.{IsMany, IsMisfit, IsFinite, Lowest, many, few, fits, row1, row2, row3, row4, row7, rows56}
+use Rattle.definition.specs.Handed.{handed, slotCount}
+use Rattle.definition.specs.Desk.{Shown, shown, notFinite, noNormal}
+use Rattle.desk.specs.Verdict.{said, found, lentNumber, thresholdNumber, saidAt}
+use Rattle.desk.proofs.Bad.{at-corner, no-corner, corner-number, seven-or-none}
+use Rattle.desk.proofs.Telling.{IsMany, IsMisfit, IsFinite, Lowest, Bare, many, few, fits, row1, row2, third, not-third, row4, row7, rows56, lent-number}
 use Rattle.desk.proofs.judge.Statement.{statement}
 use Rattle.desk.proofs.judge.Tie as tie
 
@@ -43,54 +41,92 @@ returns-2 c =
     let e = t .before .before .before in
     c .said2 .ensures ∙ row2 (asked (e .before)) (not-many e) (misfit-is (t .before) ∙ t .if2 .taken)
 
+-- ---- the tests of the other rows, all of them made
+
+abbrev shownTo : tie.After-lent → Shown
+shownTo e = asked (e .before .before .before .before .before .before .before .before)
+
+third-is : (e : tie.After-lent) → e .before .before .before .unfit-threshold .result ≡ thresholdNumber (shownTo e .threshold)
+third-is e = e .before .before .before .unfit-threshold .ensures
+
+fourth-is : (e : tie.After-lent) → e .before .before .said-at .result ≡ saidAt 4 (found (notFinite (shownTo e .mesh)))
+fourth-is e = e .before .before .said-at .ensures ∙ ap (saidAt 4) (e .before .before .before .before .before .before .look-over .ensures .2)
+
+seventh-is : (e : tie.After-lent) → e .before .said-at2 .result ≡ saidAt 7 (found (noNormal (shownTo e .mesh)))
+seventh-is e = e .before .said-at2 .ensures ∙ ap (saidAt 7) (e .before .before .before .before .before .before .look-over .ensures .3)
+
+lists-is : (e : tie.After-lent) → let q = shownTo e in e .lent .result ≡ lentNumber (slotCount (q .mesh .sizes)) (length (q .mesh .sizes)) (q .answer) (q .work)
+lists-is e =
+    let q = shownTo e in
+    e .lent .ensures ∙ ap (λ (k : ℕ). lentNumber k (length (q .mesh .sizes)) (q .answer) (q .work)) (e .before .before .before .before .before .before .look-over .ensures .1)
+
+-- what numbers they have
+four-small : (e : tie.After-lent) → e .before .before .said-at .result .number ≤ 4
+four-small e = corner-number 4 _ _ (fourth-is e)
+
+seven-small : (e : tie.After-lent) → e .before .said-at2 .result .number ≤ 7
+seven-small e = corner-number 7 _ _ (seventh-is e)
+
+seven-only : (e : tie.After-lent) → e .before .said-at2 .result .number % 7 ≡ 0
+seven-only e = seven-or-none _ _ (seventh-is e)
+
+lists-small : (e : tie.After-lent) → e .lent .result ≤ 6
+lists-small e = lent-number _ _ _ _ _ (lists-is e)
+
+-- rows 1 and 2 do not apply
+few-faces : (e : tie.After-lent) → IsMany (shownTo e) false
+few-faces e = not-many (e .before .before .before .before .before .before .before)
+
+all-fit : (e : tie.After-lent) → IsMisfit (shownTo e) false
+all-fit e = not-misfit (e .before .before .before .before)
+
+-- ---- the first that applies
+
+-- row 3 does not
+finite-threshold : (c : tie.Else3) → IsFinite (shownTo (c .before)) true
+finite-threshold c = let e = c .before in not-third (shownTo e) (e .before .before .before .unfit-threshold .result) (third-is e) (omega (arith, c .if3 .left, four-small e))
+
 returns-3 : tie.Need-returns-3
 returns-3 c =
-    let b = c .before .before in
-    let e = b .before .before .before .before in
-    c .said3 .ensures ∙ row3 (asked (e .before)) (not-many e) (not-misfit (b .before)) (sym (b .is-finite .ensures) ∙ not-true (b .is-finite .result) (c .before .if3 .taken))
+    let t = c .before in
+    let e = t .before in
+    c .said3 .ensures ∙ third (shownTo e) (e .before .before .before .unfit-threshold .result) (third-is e) (λ z. omega (arith, z, t .if3 .taken)) (few-faces e) (all-fit e)
 
--- nor does row 3
-finite-threshold : (c : tie.Else3) → IsFinite (asked (c .before .before .before .before .before .before)) true
-finite-threshold c = sym (c .before .is-finite .ensures) ∙ not-false (c .before .is-finite .result) (c .if3 .left)
-
--- a verdict of a number, by its place
-at-place : (n i : ℕ) (v : Verdict) → (p : ℕ) → v ≡ said n p → v .place ≡ i → v ≡ said n i
-at-place n i v p e f = λ k. record { number = e k .number; place = f k }
+-- nor does row 4
+none-bad : (c : tie.Else4) → Lowest (shownTo (c .before .before)) none
+none-bad c = let e = c .before .before in no-corner 3 _ (e .before .before .said-at .result) (fourth-is e) (omega (arith, c .if4 .left, seven-small e))
 
 returns-4 : tie.Need-returns-4
 returns-4 c =
-    let b = c .before .before in
-    let d = b .before .before in
-    let s = d .before .before .before .before in
-    at-place 4 (b .bad .given .0 .0) (c .said4 .result) _ (c .said4 .ensures) (omega (arith, ap (λ (v : Verdict). v .place) (c .said4 .ensures))) ∙ row4 (asked (s .before .before)) (not-many (s .before)) (not-misfit (d .before .before)) (finite-threshold d) _ (is-some _ _ (sym (b .bad .given .1) ∙ s .look-over .ensures .2))
+    let d = c .before in
+    let e = d .before in
+    let r = at-corner 4 _ (e .before .before .said-at .result) (fourth-is e) (λ z. omega (arith, z, c .if4 .taken)) in
+    r .2 ∙ row4 (shownTo e) (few-faces e) (all-fit e) (finite-threshold d) (r .0) (r .1)
 
--- nor does row 4
-none-bad : (c : tie.After-enum-told) → Lowest (asked (c .before .before .before .before .before .before .before .before)) none
-none-bad c = is-none _ (sym (c .enum-told .given .1) ∙ c .before .before .before .before .before .before .look-over .ensures .2)
+-- nor does row 7
+none-bare : (c : tie.Else5) → Bare (shownTo (c .before .before .before)) none
+none-bare c = let e = c .before .before .before in no-corner 6 _ (e .before .said-at2 .result) (seventh-is e) (omega (arith, c .if5 .left, seven-small e, seven-only e, lists-small e))
 
 returns-5 : tie.Need-returns-5
 returns-5 c =
-    let b = c .before .before in
-    let t = b .before .before in
-    let d = t .before .before in
-    let s = d .before .before .before .before in
-    at-place 7 (b .bare .given .0 .0) (c .said5 .result) _ (c .said5 .ensures) (omega (arith, ap (λ (v : Verdict). v .place) (c .said5 .ensures))) ∙ row7 (asked (s .before .before)) (not-many (s .before)) (not-misfit (d .before .before)) (finite-threshold d) (none-bad t) _ (is-some _ _ (sym (b .bare .given .1) ∙ s .look-over .ensures .3))
+    let b = c .before in
+    let d = b .before in
+    let e = d .before in
+    let r = at-corner 7 _ (e .before .said-at2 .result) (seventh-is e) (λ z. omega (arith, z, c .if5 .taken)) in
+    r .2 ∙ row7 (shownTo e) (few-faces e) (all-fit e) (finite-threshold d) (none-bad b) (r .0) (r .1)
 
 returns-6 : tie.Need-returns-6
 returns-6 c =
     let l = c .before in
-    let t = l .before .before .before in
-    let d = t .before .before in
-    let s = d .before .before .before .before in
-    let q = asked (s .before .before) in
-    c .said6 .ensures ∙ ap (λ n. said n 0) (l .lent .ensures ∙ ap (λ (k : ℕ). lentNumber k (length (q .mesh .sizes)) (q .answer) (q .work)) (s .look-over .ensures .1))
-    ∙ rows56 q (not-many (s .before)) (not-misfit (d .before .before)) (finite-threshold d) (none-bad t) (is-none _ (sym (l .before .enum-told2 .given .1) ∙ s .look-over .ensures .3))
+    let b = l .before in
+    let d = b .before in
+    let e = d .before in
+    c .said4 .ensures ∙ ap (λ (n : ℕ). said n 0) (lists-is e) ∙ rows56 (shownTo e) (few-faces e) (all-fit e) (finite-threshold d) (none-bad b) (none-bare l)
 
 pub judge-spec : {M : Type 1} → statement M
 judge-spec =
     tie.close
     (tie.spec
     (λ c κs. search needs) returns (λ c κs. search needs) (λ c κs. search needs) (λ c κs. search needs) returns-2
-    (λ c κs. search needs) (λ c κs. search needs) returns-3 (λ c. search needs) (λ c κs. search needs) returns-4
-    (λ c. search needs) (λ c. search needs) (λ c κs. search needs) returns-5
-    (λ c. search needs) (λ c κs. search needs) (λ c κs. search needs) returns-6)
+    (λ c κs. search needs) (λ c κs. search needs) (λ c κs. search needs) (λ c κs. search needs) (λ c κs. search needs) returns-3
+    returns-4 returns-5 (λ c κs. search needs) returns-6)
