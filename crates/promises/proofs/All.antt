@@ -11,6 +11,7 @@ use Rattle.promises.proofs.FaceParts as FaceParts
 use Rattle.promises.proofs.OwnLinks as OwnLinks
 use Rattle.promises.proofs.OwnColumns as OwnColumns
 use Rattle.promises.proofs.Moments as Moments
+use Rattle.promises.proofs.FourFunctions as FourFunctions
 use Rattle.promises.proofs.TwoWalks as TwoWalks
 use Rattle.promises.proofs.NarrowAngles as NarrowAngles
 use Rattle.promises.proofs.Cosines as Cosines
@@ -35,6 +36,7 @@ all-promised =
       impostors = Impostors.impostors;
       faithful = Faithful.faithful;
       face-parts = FaceParts.face-parts;
+      four-functions = FourFunctions.four-functions;
       own-links = OwnLinks.own-links;
       own-columns = OwnColumns.own-columns;
       every-moment = Moments.at-every-moment;

@@ -8,6 +8,7 @@ pub mod StepNine
 pub mod OwnLinks
 pub mod OwnColumns
 pub mod Moments
+pub mod FourFunctions
 pub mod OwnLists
 pub mod TwoWalks
 pub mod NarrowAngles

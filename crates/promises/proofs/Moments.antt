@@ -390,7 +390,7 @@ module _ (rows : ℕ) (l x : List ℕ) (O : Only (placesColumn ∷ []) rows l x)
   there : (k r : ℕ) → outside (placesColumn ∷ []) k ≡ true → r < rows → cell rows k r x ≡ cell rows k r l
   there k r e h = cell-kept (placesColumn ∷ []) rows l x O k r e h
 
-  walkable-there : (n : ℕ) → Walkable rows n l → Walkable rows n x
+  pub walkable-there : (n : ℕ) → Walkable rows n l → Walkable rows n x
   walkable-there n W = record { fits = W .fits; long = omega (arith, W .long, O .size); few = W .few; links = λ k h. subst (λ (y : ℕ). y ≤ 3 * n) (sym (there linkColumn k refl (omega (arith, W .fits)))) (W .links k h) }
 
   asked-there : (ss : List Triangle) (d : Triangle) → 3 * length ss ≤ rows → Asked rows ss d (links ss) l → Asked rows ss d (links ss) x

@@ -311,9 +311,9 @@ module _ (rows : ℕ) (mesh : Handed) (xs : List Triangle) (d : Triangle) (c : M
       let k : t < length ys = omega (arith, few) in
       cell-kept groupedColumns rows (six .linked) u (six .only) anyColumn t refl (omega (arith, room)) ∙ (six .five .held t k .loose ∙ ap (λ x. flag (x .any)) (List·getD-append ss (broken xs) d t h))
 
-  sharp : Every one-triangle.Sharp ss
+  pub own-sharp : Every one-triangle.Sharp ss
   unfolding cornerOf kept after
-  sharp = index-every one-triangle.Sharp ss d (λ t h. record { ab = six .five .sharp .apart t one h; bc = six .five .sharp .apart t two h; ca = six .five .sharp .apart t three h })
+  own-sharp = index-every one-triangle.Sharp ss d (λ t h. record { ab = six .five .sharp .apart t one h; bc = six .five .sharp .apart t two h; ca = six .five .sharp .apart t three h })
 
   -- ---- besides
 
@@ -396,8 +396,8 @@ module _ (rows : ℕ) (mesh : Handed) (xs : List Triangle) (d : Triangle) (c : M
   pub own-words : c .sound ≡ length ss → OwnWords rows (c .sound) (c .members) (wayOf ss d) u
   own-words e =
       let N = six .five .names in
-      let A = of-links ss N sharp in
-      let B = of-groups ss N sharp in
+      let A = of-links ss N own-sharp in
+      let B = of-groups ss N own-sharp in
       subst (λ n. OwnWords rows n (c .members) (wayOf ss d) u) (sym e)
       (record {
         links = link-words rows ss d u N welded-words linked-words A;

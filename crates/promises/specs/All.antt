@@ -9,6 +9,7 @@ use Rattle.promises.specs.Faithful as Faithful
 use Rattle.promises.specs.FaceParts as FaceParts
 use Rattle.promises.specs.OwnLinks as OwnLinks
 use Rattle.promises.specs.OwnColumns as OwnColumns
+use Rattle.promises.specs.FourFunctions as FourFunctions
 use Rattle.promises.specs.TwoWalks as TwoWalks
 use Rattle.promises.specs.NarrowAngles as NarrowAngles
 use Rattle.promises.specs.Cosines as Cosines
@@ -35,7 +36,8 @@ pub record AllPromised : Type 1 where
   pub faithful : Faithful.Promised
   -- the part of a list that belongs to a face
   pub face-parts : FaceParts.Promised
-  -- links, groups and orientations (E11), in the definition and in the columns
+  -- links, groups and orientations (E11): in its own words, of four functions that the columns instantiate; in the definition and in the columns
+  pub four-functions : FourFunctions.Promised
   pub own-links : OwnLinks.Promised
   pub own-columns : OwnColumns.Promised
   pub every-moment : OwnColumns.AtEveryMoment

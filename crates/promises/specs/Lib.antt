@@ -7,6 +7,7 @@ pub mod Demand3
 pub mod PublicCall
 pub mod OwnLinks
 pub mod OwnColumns
+pub mod FourFunctions
 pub mod TwoWalks
 pub mod NarrowAngles
 pub mod Cosines
