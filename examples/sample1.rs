@@ -14,6 +14,7 @@ struct Outcome {
     slots: u32,
 }
 
+// declared here and not taken from `dokphalun-sys`: this file and the archive are all that it takes
 // a list passes as a pointer and a number of elements
 #[rustfmt::skip]
 unsafe extern "C" {

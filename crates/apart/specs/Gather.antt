@@ -8,6 +8,7 @@ use lib.Ieee.{Float, nan}
 use Rattle.definition.specs.declared.Corner.{Corner}
 use Rattle.definition.specs.Handed.{meshOf, Handed, meshFrom, cornerCount}
 use Rattle.islands.specs.Together.{picked}
+use Rattle.apart.specs.Call.{numberEntries}
 use Rattle.apart.specs.Lists.{Past}
 
 -- from corner b of the last three lists there stand the numbers of n corners that stand from corner a in the first three
@@ -31,7 +32,7 @@ meshIn n xs sizes = meshFrom xs (normalsIn n xs) (textureIn n xs) 0 sizes
 pub record Laid (ps ns ts : List Float) (n base c z : ℕ) (u v : List Float) : Type 0 where
   pub comes : Alike ps ns ts v (normalsIn n v) (textureIn n v) base c z
   pub stays : Alike u (normalsIn n u) (textureIn n u) v (normalsIn n v) (textureIn n v) 0 0 c
-  pub past : Past nan (32 * n) u v
+  pub past : Past nan (numberEntries * n) u v
 
 -- of the first f faces of a mesh those that pass q are gathered: k of them, with c corners, in the lists ss and xs
 pub record Gathered (q : ℕ → Bool) (mesh : Handed) (f k c : ℕ) (ss : List ℕ) (xs : List Float) : Type 0 where

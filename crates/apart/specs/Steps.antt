@@ -13,6 +13,7 @@ use Rattle.definition.specs.Limits.{faceLimit, workWords}
 use Rattle.definition.specs.Handed.{handed, meshOf, Handed, cornerCount, slotCount}
 use Rattle.definition.specs.Desk.{shown, notFinite, noNormal, verdict}
 use Rattle.islands.specs.Islands.{islandOf}
+use Rattle.apart.specs.Call.{numberEntries}
 use Rattle.apart.specs.Lists.{Past}
 use Rattle.apart.specs.Order.{among, Linked, Begun}
 use Rattle.apart.specs.Gather.{normalsIn, textureIn}
@@ -36,7 +37,7 @@ pub record Fit (n k c : ℕ) (h : Float) (ss : List ℕ) (xs : List Float) (fram
   pub few : n ≤ faceLimit
   pub low : c ≤ 4 * n
   pub faces : k ≤ length ss
-  pub long : 32 * n ≤ length xs
+  pub long : numberEntries * n ≤ length xs
   pub corners : c ≡ cornerCount (take k ss)
   pub accepted : verdict (shown (handed (take k ss) (take (3 * c) xs) (take (3 * c) (normalsIn n xs)) (take (2 * c) (textureIn n xs))) h (length frames) (length work)) ≡ none
 
@@ -46,13 +47,13 @@ pub record Room (sizes a w ss : List ℕ) (xs : List Float) (fs : List ℕ) : Ty
   pub work : workWords * length sizes ≤ length w
   pub blank : (x : ℕ) → x < workWords * length sizes → getD w x 0 ≡ 0
   pub faces : length sizes ≤ length ss
-  pub numbers : 32 * length sizes ≤ length xs
+  pub numbers : numberEntries * length sizes ≤ length xs
   pub frames : slotWords * (4 * length sizes) ≤ length fs
 
 -- the lists of its own are as they were but for their first entries, which islands stood in
 pub record Kept (n : ℕ) (ss ss′ : List ℕ) (xs xs′ : List Float) (fs fs′ : List ℕ) : Type 0 where
   pub sizes : Past 0 n ss ss′
-  pub numbers : Past nan (32 * n) xs xs′
+  pub numbers : Past nan (numberEntries * n) xs xs′
   pub frames : Past 0 (slotWords * (4 * n)) fs fs′
 
 -- island t is done: a becomes b

@@ -6,7 +6,7 @@ ghost use Prim.Native.Nat.{_+_, _*_, _≤_, _<_};
 ghost use lib.ListN.{length, drop};
 ghost use Rattle.words.specs.Words.{wordValues};
 ghost use Rattle.blocks.specs.declared.Kind.the-variants.{Ten};
-ghost use Rattle.blocks.specs.Format.{recordsUsed};
+ghost use Rattle.blocks.specs.Format.{recordsUsed, blocksFor};
 ghost use Rattle.cards.specs.Writer.{recordsOf, cardBytes};
 ghost use Rattle.appends.specs.Next as next;
 ghost use Rattle.appends.specs.Append as spec;
@@ -84,12 +84,12 @@ fn are_next(kind: Kind, total: u32, b: usize, count: u32) -> bool
     (0 < count) & (all | full)
 }
 
-// The bytes of the blocks from b on that hold these records.
-fn put_blocks(kind: Kind, total: u32, b: usize, records: &[u32], lent: &mut [u8])
-    requires { ⌜ (spec.areNext kind total b (recordsOf kind (now records)) ≡ true) × (recordsOf kind (now records) < wordValues) × (b ≤ wordValues) × (cardBytes kind (recordsOf kind (now records)) ≤ length (now lent)) ⌝ }
+// The bytes of the blocks from b on that hold these records, as many as they make.
+fn put_blocks(kind: Kind, total: u32, b: usize, records: &[u32], lent: &mut [u8], made: usize)
+    requires { ⌜ (made ≡ blocksFor kind (recordsOf kind (now records))) × (spec.areNext kind total b (recordsOf kind (now records)) ≡ true) × (recordsOf kind (now records) < wordValues) × (b ≤ wordValues) × (cardBytes kind (recordsOf kind (now records)) ≤ length (now lent)) ⌝ }
     ensures { λ _. ⌜ now (lent .exit) ≡ spec.blocksFrom kind total b (now (records .entry)) ++ drop (cardBytes kind (recordsOf kind (now (records .entry)))) (now (lent .entry)) ⌝ }
 {
-    for i in 0..blocks::blocks_for(kind, cards::records_of(kind, records) as u32) {
+    for i in 0..made {
         blocks::put_block(lent, kind, i, total, b + i, records, blocks::ROOM_WORDS * i);
     }
 }
@@ -114,7 +114,7 @@ pub fn append_as(kind: Kind, long: usize, total: u32, records: &[u32], lent: &mu
     if !are_next(kind, total, first, count) {
         return refused(4);
     }
-    put_blocks(kind, total, first, records, lent);
+    put_blocks(kind, total, first, records, lent, made);
     Appended {
         number: 0,
         blocks: made as u32,

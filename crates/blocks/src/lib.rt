@@ -140,17 +140,18 @@ pub fn put_block(
     words::put_word(card, p + SUMMED_WORDS, complement(first + second));
 }
 
-// Whether the words of the card from word p on are these.
+// Whether the words of the card from word p on are these, one by one.
 fn headed(card: &[u8], p: usize, h: [u32; HEADER_WORDS]) -> bool
     requires { ⌜ 4 * (p + format.headerWords) ≤ length (now card) ⌝ }
     ensures { λ r. ⌜ r ≡ everyBelow format.headerWords (λ i. eqb (wordAt (now (card .entry)) (p + i)) (getD h i 0)) ⌝ }
 {
-    for i in 0..HEADER_WORDS {
-        if words::word_at(card, p + i) != h[i] {
-            return false;
-        }
-    }
-    true
+    (words::word_at(card, p) == h[0])
+        & (words::word_at(card, p + 1) == h[1])
+        & (words::word_at(card, p + 2) == h[2])
+        & (words::word_at(card, p + 3) == h[3])
+        & (words::word_at(card, p + 4) == h[4])
+        & (words::word_at(card, p + 5) == h[5])
+        & (words::word_at(card, p + 6) == h[6])
 }
 
 // Whether each of `count` records of `wide` words from word p on has 0 or 1 in its word 0.

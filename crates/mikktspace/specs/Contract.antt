@@ -1,7 +1,8 @@
 -- What the public call promises: result, answer list and work list are the definition's, for every input. Definitions only.
 use Prim.Native.Nat.{ℕ}
 use mathlib.Core.Path.{_≡_}
-use mathlib.Core.List.{List}
+use mathlib.Core.List.{List, _++_}
+use lib.ListN.{drop, replicate}
 use Rattle.definition.specs.Handed.{Call}
 use Rattle.definition.specs.Outcome.{Result, outcome}
 use Rattle.mikktspace.specs.declared.Outcome.{Outcome}
@@ -13,3 +14,7 @@ left r answer work = record { number = r .number; place = r .place; slots = r .s
 -- The contract of the public call x: it returns r, and leaves the answer list as b and the work list as v.
 abbrev pub Contract : Call → Outcome → List ℕ → List ℕ → Type 0
 Contract x r b v = left r b v ≡ outcome x
+
+-- a list whose first n words are zeros
+unfoldable pub clearedFirst : ℕ → List ℕ → List ℕ
+clearedFirst n l = replicate n 0 ++ drop n l

@@ -31,6 +31,14 @@ fn said(number: u32, place: u32, slots: u32) -> Outcome
     }
 }
 
+// The first words of a list that is lent, zeros; the rest stands.
+fn clear_first(list: &mut [u32], count: usize)
+    requires { ⌜ count ≤ length (now list) ⌝ }
+    ensures { λ _. ⌜ now (list .exit) ≡ spec.clearedFirst count (now (list .entry)) ⌝ }
+{
+    table::clear_first(list, count);
+}
+
 // Steps 1 to 9 for a mesh that the desk accepts; the result is how many slots there are.
 fn make_frames(
     sizes: &[u8],
@@ -46,7 +54,7 @@ fn make_frames(
 {
     let slots = mesh::slots_before(sizes, definition::FACE_LIMIT);
     let rows = 6 * sizes.len();
-    table::clear_first(answer, tangent::SLOT_WORDS * slots);
+    clear_first(answer, tangent::SLOT_WORDS * slots);
     let counts = grouped::group_mesh(sizes, positions, normals, texture, work);
     contributions::contribute_all(work, rows, counts.sound, positions, normals);
     let met = groups::GroupCounts {
@@ -55,7 +63,7 @@ fn make_frames(
     };
     spaces::generate_tangent_spaces(work, rows, threshold, answer, met);
     copies::copy_frames(work, rows, counts.sound, counts.all, positions, answer);
-    table::clear_first(work, definition::WORK_WORDS * sizes.len());
+    clear_first(work, definition::WORK_WORDS * sizes.len());
     slots as u32
 }
 

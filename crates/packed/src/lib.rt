@@ -162,8 +162,9 @@ fn put_seven(l: &mut [u16], p: usize, seven: [u16; PACKED_NUMBERS])
     requires { ⌜ p + packer.packedWords ≤ length (now l) ⌝ }
     ensures { λ _. ⌜ now (l .exit) ≡ sets (now (l .entry)) p seven ⌝ }
 {
-    for i in 0..PACKED_NUMBERS {
-        l[p + i] = seven[i];
+    let end = p + PACKED_NUMBERS;
+    for k in p..end {
+        l[k] = seven[k - p];
     }
 }
 
@@ -300,8 +301,9 @@ fn read_slot(s: &[u16], answer: &mut [u32], p: usize)
     ensures { λ _. ⌜ now (answer .exit) ≡ sets (now (answer .entry)) p (reader.readSeven (now (s .entry))) ⌝ }
 {
     let absent = all_nothing(s);
-    for i in 0..READ_WORDS {
-        answer[p + i] = read_at(s, absent, i);
+    let end = p + READ_WORDS;
+    for k in p..end {
+        answer[k] = read_at(s, absent, k - p);
     }
 }
 

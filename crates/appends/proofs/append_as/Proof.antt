@@ -110,7 +110,7 @@ put-blocks-requires c κs =
     let r = e .before .before in
     let i = r .before .before .before in
     let a = i .before .before .before .before .args in
-    (sym (told (t .before)) ∙ not-false _ (t .if4 .left), few-records (a .kind) (a .records .now) (can i), first-fits e, room r)
+    (omega (arith, made-is (r .before)), sym (told (t .before)) ∙ not-false _ (t .if4 .left), few-records (a .kind) (a .records .now) (can i), first-fits e, room r)
 
 cast-t17 : tie.Need-cast-t17
 cast-t17 c =

@@ -1,56 +1,34 @@
 -- `blocks::headed` meets its contract. Assumes nothing.
-use native.Mathlib.Omega.{arith}
-use Prim.Native.Nat.{ℕ, _+_, _-_, _≤_}
-use native.Mathlib.Nat.{le-antisymm}
-use mathlib.Core.Path.{_≡_, sym, _∙_, ap}
-use mathlib.Core.Bool.{true}
+use native.Mathlib.Nat.{add-zero}
+use mathlib.Core.Path.{sym, ap, _∙_}
+use mathlib.Core.Bool.{_&&_}
 use lib.Dec.{eqb}
 use lib.ListN.{getD}
-use Rattle.blocks.specs.Format.{headerWords}
 use Rattle.lists.specs.Parts.{everyBelow}
 use Rattle.words.specs.Words.{wordAt}
-use Rattle.lists.proofs.Parts.{every-more, every-fails, every-none}
-use borrow.Author.Tests.{eq-eqb, ne-eqb}
+use borrow.Author.Needs.{needs}
 use Rattle.blocks.proofs.headed.Statement.{statement}
 use Rattle.blocks.proofs.headed.Tie as tie
-use borrow.Author.Needs.{needs}
 
-abbrev Inv-loop : tie.InvT-loop
-Inv-loop card p h i₀ i = (i ≤ headerWords) × (everyBelow i (λ k. eqb (wordAt card (p + k)) (getD h k 0)) ≡ true)
-
-abbrev μ-loop : tie.MeasureT-loop
-μ-loop card p h i₀ i = headerWords - i
-
-loop-holds : tie.Need-loop-holds Inv-loop μ-loop
-loop-holds c =
-    let a = c .before .args in
-    (omega arith, every-none (λ k. eqb (wordAt (a .card .now) (a .p + k)) (getD (a .t3) k 0)))
-
-returns : tie.Need-returns Inv-loop μ-loop
+returns : tie.Need-returns
+unfolding everyBelow
 returns c =
-    let l = c .before .before .before .loop in
-    let a = c .before .before .before .before .before .args in
-    sym (every-fails headerWords (l .i) (λ k. eqb (wordAt (a .card .now) (a .p + k)) (getD (a .t3) k 0)) (omega arith) (ap (λ w. eqb w (getD (a .t3) (l .i) 0)) (sym (c .before .word-at .ensures)) ∙ ne-eqb (c .before .word-at .result) (getD (a .t3) (l .i) 0) (λ e. omega (arith, e, c .if1 .taken))))
-
-loop-again : tie.Need-loop-again Inv-loop μ-loop
-loop-again c =
-    let l = c .before .before .before .loop in
-    let a = c .before .before .before .before .before .args in
-    (omega arith, every-more (l .i) (λ k. eqb (wordAt (a .card .now) (a .p + k)) (getD (a .t3) k 0)) (l .inv .1) (ap (λ w. eqb w (getD (a .t3) (l .i) 0)) (sym (c .before .word-at .ensures)) ∙ eq-eqb (c .before .word-at .result) (getD (a .t3) (l .i) 0) (omega (arith, c .if1 .left))))
-
--- the loop ends past the last word
-all-seen : (i : ℕ) → i ≤ headerWords → headerWords ≤ i → headerWords ≡ i
-all-seen i h l = sym (le-antisymm h l)
-
-returns-2 : tie.Need-returns-2 Inv-loop μ-loop
-returns-2 c =
-    let l = c .before .loop in
-    let a = c .before .before .before .args in
-    sym (ap (λ n. everyBelow n (λ k. eqb (wordAt (a .card .now) (a .p + k)) (getD (a .t3) k 0))) (all-seen (l .i) (l .inv .0) (omega (arith, c .loop-test .left))) ∙ l .inv .1)
+    let g = c .before in
+    let f = g .before in
+    let e = f .before in
+    let d = e .before in
+    let b = d .before in
+    let a = b .before in
+    let x = a .before .before .args in
+    let h = x .t3 in
+    let first = a .word-at .ensures ∙ ap (wordAt (x .card .now)) (sym (add-zero (x .p))) in
+    λ z. eqb (first z) (getD h 0 0) && eqb (b .word-at2 .ensures z) (getD h 1 0) && eqb (d .word-at3 .ensures z) (getD h 2 0) && eqb (e .word-at4 .ensures z) (getD h 3 0) && eqb (f .word-at5 .ensures z) (getD h 4 0) && eqb (g .word-at6 .ensures z) (getD h 5 0) && eqb (c .word-at7 .ensures z) (getD h 6 0)
 
 pub headed-spec : {M : Type 1} → statement M
 headed-spec =
     tie.close
     (tie.spec
-    Inv-loop μ-loop loop-holds (λ c. search needs) (λ c κs. search needs) (λ c. search needs) (λ c. search needs) returns
-    (λ c. search needs) (λ c. search needs) loop-again returns-2)
+    (λ c κs. search needs) (λ c. search needs) (λ c. search needs) (λ c κs. search needs) (λ c. search needs)
+    (λ c. search needs) (λ c κs. search needs) (λ c. search needs) (λ c. search needs) (λ c κs. search needs)
+    (λ c. search needs) (λ c. search needs) (λ c κs. search needs) (λ c. search needs) (λ c. search needs)
+    (λ c κs. search needs) (λ c. search needs) (λ c. search needs) (λ c κs. search needs) (λ c. search needs) returns)

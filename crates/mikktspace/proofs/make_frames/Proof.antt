@@ -1,16 +1,17 @@
 -- `mikktspace::make_frames` meets its contract. Assumes nothing.
-use Prim.Native.Nat.{_*_, _≤_}
+use Prim.Native.Nat.{ℕ, _*_, _≤_}
 use native.Mathlib.Omega.{arith}
-use mathlib.Core.Path.{ap, _∙_}
-use mathlib.Core.List.{_++_}
+use mathlib.Core.Path.{_≡_, ap, _∙_}
+use mathlib.Core.List.{List, _++_}
 use denote.Ref.{now}
 use lib.ListN.{length, drop, replicate}
 use Rattle.definition.specs.Desk.{shown}
 use Rattle.tangent.specs.Slot.{slotWords}
-use Rattle.definition.specs.Handed.{handed}
+use Rattle.definition.specs.Handed.{handed, slotCount}
+use Rattle.definition.specs.Limits.{workWords}
 use Rattle.definition.specs.Outcome.{accepted}
 use Rattle.table.specs.Columns.{columns, rowsOf}
-use Rattle.mikktspace.specs.Contract.{left}
+use Rattle.mikktspace.specs.Contract.{left, clearedFirst}
 use Rattle.laws.proofs.Verdict.{Fine, fine}
 use Rattle.mikktspace.proofs.Verdicts.{all-slots}
 use Rattle.mikktspace.proofs.Whole.{counts-fit, all-ranged, answered, cleared}
@@ -78,6 +79,11 @@ clear-first-requires-2 c κs =
 cast-result : tie.Need-cast-result
 cast-result c = omega (arith, c .before .before .before .before .before .before .before .before .before .before .before .before .before .before .before .before .before .before .before .before .before .before .before .before .before .before .before .before .slots-before .ensures .1)
 
+-- a list that is cleared so far
+cleared-to : (k m : ℕ) (l u : List ℕ) → u ≡ clearedFirst k l → k ≡ m → u ≡ replicate m 0 ++ drop m l
+unfolding clearedFirst
+cleared-to k m l u e h = e ∙ ap (λ (j : ℕ). replicate j 0 ++ drop j l) h
+
 returns : tie.Need-returns
 unfolding left accepted
 returns c =
@@ -93,9 +99,9 @@ returns c =
     let L = g .group-mesh .ensures in
     let p = n .before .before .before .before in
     let slots = all-slots (now (a .sizes)) _ (known s .few) (n .slots-before .ensures .0) in
-    let first = q .clear-first .ensures ∙ ap (λ k. replicate (slotWords * k) 0 ++ drop (slotWords * k) (now (a .answer))) slots in
+    let first = cleared-to _ (slotWords * slotCount (now (a .sizes))) (now (a .answer)) _ (q .clear-first .ensures) (omega (arith, slots)) in
     let answer = answered (handed (now (a .sizes)) (now (a .positions)) (now (a .normals)) (now (a .texture))) _ (now (a .work)) _ _ L (known s .good) (k .contribute-all .ensures .1) (room s) (λ i. p .shared-slice-known3 .given i) (k .contribute-all .ensures .0) (a .threshold) (now (a .answer)) _ _ _ _ first (t .generate-tangent-spaces .ensures .0) (t .generate-tangent-spaces .ensures .1) (f .copy-frames .ensures) in
-    let work = cleared (handed (now (a .sizes)) (now (a .positions)) (now (a .normals)) (now (a .texture))) _ (now (a .work)) _ _ L (known s .good) (k .contribute-all .ensures .1) (room s) (λ i. p .shared-slice-known3 .given i) (k .contribute-all .ensures .0) (a .threshold) (now (a .answer)) _ _ _ _ first (t .generate-tangent-spaces .ensures .0) (t .generate-tangent-spaces .ensures .1) (f .copy-frames .ensures) _ (y .clear-first2 .ensures) in
+    let work = cleared (handed (now (a .sizes)) (now (a .positions)) (now (a .normals)) (now (a .texture))) _ (now (a .work)) _ _ L (known s .good) (k .contribute-all .ensures .1) (room s) (λ i. p .shared-slice-known3 .given i) (k .contribute-all .ensures .0) (a .threshold) (now (a .answer)) _ _ _ _ first (t .generate-tangent-spaces .ensures .0) (t .generate-tangent-spaces .ensures .1) (f .copy-frames .ensures) _ (cleared-to _ (workWords * length (now (a .sizes))) _ _ (y .clear-first2 .ensures) (omega arith)) in
     λ i. record { number = 0; place = 0; slots = slots i; answer = answer i; work = work i }
 
 pub make-frames-spec : {M : Type 1} → statement M
