@@ -25,7 +25,7 @@ use Rattle.view.proofs.Frame.{only-trans, only-more}
 use Rattle.view.proofs.Records.{held-kept}
 use Rattle.view.proofs.Weld.{welds, sound-welds, mesh-sharp, vertices-kept}
 use Rattle.listing.specs.Listing.{Listed}
-use Rattle.weld.specs.Welding.{weldColumns, Welded}
+use Rattle.weld.specs.Welding.{weldColumns}
 use Rattle.neighbors.specs.Sides.{stepColumns}
 use Rattle.grouped.specs.Links.{linkedColumns, LeftByFive}
 
@@ -40,7 +40,7 @@ module _ (mesh : Handed) (n m : ℕ) (w u v z : List ℕ) where
   abbrev rows : ℕ
   rows = rowsOf (length (mesh .sizes))
 
-  module _ (L : Listed mesh n m w u) (W : Welded rows (3 * m) (mesh .positions) (mesh .normals) (mesh .texture) u v)
+  module _ (L : Listed mesh n m w u) (welded : Only weldColumns rows u v)
       (weld-is : (sizes : List ℕ) (ys : List Triangle) (d : Triangle) → 3 * length ys ≡ 3 * m → Held rows (handed sizes (mesh .positions) (mesh .normals) (mesh .texture)) ys d u → Vertices rows ys d v)
       (link-is : (ss : List Triangle) (d : Triangle) → length ss ≡ n → Names ss → Sharp ss d → Welds rows ss d v → Linked rows ss d (links ss) z)
       (range : (r : ℕ) → r < 3 * n → cell rows linkColumn r z ≤ 3 * n) (only : Only stepColumns rows v z)
@@ -55,7 +55,7 @@ module _ (mesh : Handed) (n m : ℕ) (w u v z : List ℕ) where
     five e d =
         let sharp = mesh-sharp (mesh .positions) (mesh .normals) (mesh .texture) (mesh .sizes) d held e in
         record {
-          held = held-kept rows mesh (sound xs ++ broken xs) d v (held-kept rows mesh (sound xs ++ broken xs) d u (L .held d) (L .fits) weldColumns v refl (W .only)) (L .fits) stepColumns z refl only;
+          held = held-kept rows mesh (sound xs ++ broken xs) d v (held-kept rows mesh (sound xs ++ broken xs) d u (L .held d) (L .fits) weldColumns v refl welded) (L .fits) stepColumns z refl only;
           vertices = vertices-kept stepColumns rows (sound xs ++ broken xs) d v z refl (L .fits) only (vertices d);
           names = own-names;
           sharp = sharp;
@@ -67,7 +67,7 @@ module _ (mesh : Handed) (n m : ℕ) (w u v z : List ℕ) where
       sound-count = L .sound-count;
       count = L .count;
       fits = L .fits;
-      only = only-trans linkedColumns rows w u z (only-more recordColumns linkedColumns rows w u refl (L .only)) (only-trans linkedColumns rows u v z (only-more weldColumns linkedColumns rows u v refl (W .only)) (only-more stepColumns linkedColumns rows v z refl only));
+      only = only-trans linkedColumns rows w u z (only-more recordColumns linkedColumns rows w u refl (L .only)) (only-trans linkedColumns rows u v z (only-more weldColumns linkedColumns rows u v refl welded) (only-more stepColumns linkedColumns rows v z refl only));
       range = range;
       stands = five;
     }

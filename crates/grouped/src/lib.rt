@@ -31,7 +31,8 @@ pub fn link_mesh(
     let rows = 6 * sizes.len();
     let counts = listing::list_triangles(work, sizes, positions, normals, texture);
     weld::weld(work, rows, 3 * counts.all, positions, normals, texture);
-    neighbors::link_sides(work, rows, counts.sound);
+    let sound = counts.sound;
+    neighbors::link_sides(work, rows, sound);
     counts
 }
 
@@ -48,12 +49,13 @@ pub fn group_mesh(
 {
     let rows = 6 * sizes.len();
     let triangles = link_mesh(sizes, positions, normals, texture, work);
-    let counts = flat::build_4_rule_groups(work, rows, triangles.sound);
+    let sound = triangles.sound;
+    let counts = flat::build_4_rule_groups(work, rows, sound);
     let met = counts.groups;
     let members = counts.members;
     members::order_members(work, rows, counts);
     MeshCounts {
-        sound: triangles.sound,
+        sound,
         all: triangles.all,
         groups: met,
         members,

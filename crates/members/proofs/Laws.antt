@@ -22,6 +22,10 @@ pub begin-out : (rows groups count : ℕ) (w : List ℕ) (q : ℕ) → groups �
 unfolding beginOf
 begin-out rows groups count w q h = (sym (ap (λ (b : Bool). cond b (min (cell rows beginColumn q w) count) count) (le-ltb q groups h)), omega arith)
 
+-- where members begin, by the number of the group
+pub begin-by : (rows groups count : ℕ) (w : List ℕ) (k q r : ℕ) → r ≡ beginOf rows groups count w k → k ≡ q → r ≡ beginOf rows groups count w q
+begin-by rows groups count w k q r e h = e ∙ ap (beginOf rows groups count w) h
+
 -- nothing to sort
 pub sorts-idle : (rows f t F T : ℕ) (w : List ℕ) → f ≡ F → t ≡ T → t ≤ f → Sorts rows F T w w
 sorts-idle rows f t F T w p q h = idle (omega arith)

@@ -1,5 +1,11 @@
 -- `contributions::contribute` meets its contract. Assumes nothing.
-use mathlib.Core.Path.{ap, _∙_}
+use Prim.Native.Nat.{ℕ}
+use native.Mathlib.Omega.{arith}
+use mathlib.Core.Path.{_≡_, ap, _∙_}
+use mathlib.Core.List.{List}
+use lib.Ieee.{Float}
+use Rattle.table.specs.Table.{cell}
+use Rattle.table.specs.Columns.{cornerColumn}
 use Rattle.math.specs.declared.Vec3.{Vec3}
 use Rattle.definition.specs.Handed.{vectorAt}
 use Rattle.definition.specs.Step7Sums.{projected}
@@ -12,6 +18,10 @@ use Rattle.contributions.proofs.contribute.Tie as tie
 store-requires : tie.Need-store-requires
 store-requires c κs = let s = c .before .before .before .before .before .before .before .before .before .before .before .before .before .before .before .before .before in (s .pre .1, s .pre .4)
 
+-- a vector that was read, by its number
+vector-by : (l : List Float) (k m : ℕ) (v : Vec3) → v ≡ vectorAt l k → k ≡ m → v ≡ vectorAt l m
+vector-by l k m v e h = e ∙ ap (vectorAt l) h
+
 returns : tie.Need-returns
 returns c =
     let o = c .before .before in
@@ -23,7 +33,7 @@ returns c =
     let k2 = k3 .before .before in
     let k1 = k2 .before .before in
     let a = k1 .before .before .before .before .before .args in
-    let n = v .vector-at .ensures ∙ ap (vectorAt (a .normals .now)) (k1 .corner-at .ensures) in
+    let n = vector-by (a .normals .now) _ (cell (a .rows) cornerColumn (a .r) (a .work .now)) _ (v .vector-at .ensures) (omega (arith, k1 .corner-at .ensures)) in
     let at = f .before .before .vector-at2 .ensures ∙ ap (vectorAt (a .positions .now)) (k1 .corner-at .ensures) in
     let to = f .before .vector-at3 .ensures ∙ ap (vectorAt (a .positions .now)) (k2 .corner-at2 .ensures) in
     let from = f .vector-at4 .ensures ∙ ap (vectorAt (a .positions .now)) (k3 .corner-at3 .ensures) in

@@ -13,7 +13,7 @@ build-4-rule-groups-requires c κs =
     let l = c .before .before .before in
     let s = l .before .before .before .before .before .before .before in
     let L = l .link-mesh .ensures in
-    (left-room _ _ _ _ _ L .0, omega (arith, s .pre .1, l .link-mesh .ensures .only .size), omega (arith, s .pre .0), L .range)
+    (omega (arith, left-room _ _ _ _ _ L .0, left-room _ _ _ _ _ L .1), omega (arith, s .pre .1, l .link-mesh .ensures .only .size), omega (arith, s .pre .0), λ r h. omega (arith, L .range r (omega (arith, h))))
 
 order-members-requires : tie.Need-order-members-requires
 order-members-requires c κs =
@@ -21,7 +21,7 @@ order-members-requires c κs =
     let l = g .before .before .before .before in
     let s = l .before .before .before .before .before .before .before in
     let R = left-room _ _ _ _ _ (l .link-mesh .ensures) in
-    (omega (arith, g .build-4-rule-groups .ensures .1 .0 .0, R .0), g .build-4-rule-groups .ensures .1 .0 .1, omega (arith, s .pre .1, l .link-mesh .ensures .only .size, g .build-4-rule-groups .kept .0), omega (arith, s .pre .0))
+    (omega (arith, g .build-4-rule-groups .ensures .1 .0 .0, R .0, R .1), g .build-4-rule-groups .ensures .1 .0 .1, omega (arith, s .pre .1, l .link-mesh .ensures .only .size, g .build-4-rule-groups .kept .0), omega (arith, s .pre .0))
 
 returns : tie.Need-returns
 returns c =
@@ -31,7 +31,7 @@ returns c =
     let s = l .before .before .before .before .before .before .before in
     let a = s .args in
     let R = left-room _ _ _ _ _ (l .link-mesh .ensures) in
-    joined (handed (now (a .sizes)) (now (a .positions)) (now (a .normals)) (now (a .texture))) (l .link-mesh .result .sound) (l .link-mesh .result .all) (g .build-4-rule-groups .result .groups) (g .build-4-rule-groups .result .members) (now (a .work)) _ _ _ (l .link-mesh .ensures) (g .build-4-rule-groups .ensures .0) (o .order-members .ensures .0) (g .build-4-rule-groups .ensures .1 .1) (o .order-members .ensures .1) (omega (arith, g .build-4-rule-groups .ensures .1 .0 .0, R .0)) (g .build-4-rule-groups .ensures .1 .0 .1)
+    joined (handed (now (a .sizes)) (now (a .positions)) (now (a .normals)) (now (a .texture))) (l .link-mesh .result .sound) (l .link-mesh .result .all) (g .build-4-rule-groups .result .groups) (g .build-4-rule-groups .result .members) (now (a .work)) _ _ _ (l .link-mesh .ensures) (λ ss d ls B e N S A. g .build-4-rule-groups .ensures .0 ss d ls B (omega (arith, e)) N S A) (o .order-members .ensures .0) (g .build-4-rule-groups .ensures .1 .1) (o .order-members .ensures .1) (omega (arith, g .build-4-rule-groups .ensures .1 .0 .0, R .0, R .1)) (g .build-4-rule-groups .ensures .1 .0 .1)
 
 pub group-mesh-spec : {M : Type 1} → statement M
 group-mesh-spec =

@@ -13,7 +13,7 @@ link-sides-requires c κs =
     let l = k .before .before .before .before .before in
     let s = l .before .before .before .before .before .before .before in
     let L = l .list-triangles .ensures in
-    (sound-room _ _ _ _ _ L, omega (arith, s .pre .1, L .only .size, k .weld .ensures .0 .only .size), omega (arith, s .pre .0))
+    (omega (arith, sound-room _ _ _ _ _ L), omega (arith, s .pre .1, L .only .size, k .weld .ensures .0 .only .size), omega (arith, s .pre .0))
 
 returns : tie.Need-returns
 returns c =
@@ -23,7 +23,7 @@ returns c =
     let s = l .before .before .before .before .before .before .before in
     let p = l .before .before .before .before .before in
     let a = s .args in
-    left (handed (now (a .sizes)) (now (a .positions)) (now (a .normals)) (now (a .texture))) (l .list-triangles .result .sound) (l .list-triangles .result .all) (now (a .work)) _ _ _ (l .list-triangles .ensures) (k .weld .ensures .0) (k .weld .ensures .1) (e .link-sides .ensures .0) (e .link-sides .ensures .1 .0) (e .link-sides .ensures .1 .1) (λ i. p .shared-slice-known2 .given i)
+    left (handed (now (a .sizes)) (now (a .positions)) (now (a .normals)) (now (a .texture))) (l .list-triangles .result .sound) (l .list-triangles .result .all) (now (a .work)) _ _ _ (l .list-triangles .ensures) (k .weld .ensures .0 .only) (λ sizes ys d n H. k .weld .ensures .1 sizes ys d (omega (arith, n)) H) (λ ss d n N S W. e .link-sides .ensures .0 ss d (omega (arith, n)) N S W) (λ r h. omega (arith, e .link-sides .ensures .1 .0 r (omega (arith, h)))) (e .link-sides .ensures .1 .1) (λ i. p .shared-slice-known2 .given i)
 
 pub link-mesh-spec : {M : Type 1} → statement M
 link-mesh-spec =

@@ -26,7 +26,7 @@ loop-again c =
     let s = c .before .before .before in
     let a = s .args in
     let h = c .before .loop-test .taken in
-    (omega (arith, h), fill-more (a .rows) orderColumn (λ j. getD (column (a .rows) metColumn (a .work .now)) j 0) (a .work .now) (l .work) (l .j) _ (l .inv .1) (fill-reads (a .rows) orderColumn metColumn _ (a .work .now) (l .work) (l .j) (l .j) (l .inv .1) refl (omega (arith, h, s .pre .0)) (omega (arith, h, s .pre .0))), simp length-set (l .inv .2))
+    (omega (arith, h), fill-more (a .rows) orderColumn (λ j. getD (column (a .rows) metColumn (a .work .now)) j 0) (a .work .now) (l .work) (l .j) _ (l .inv .1) (omega (arith, fill-reads (a .rows) orderColumn metColumn _ (a .work .now) (l .work) (l .j) (l .j) (l .inv .1) refl (omega (arith, h, s .pre .0)) (omega (arith, h, s .pre .0)))), simp length-set (l .inv .2))
 
 same-length : tie.Need-same-length Inv-loop μ-loop
 same-length c = c .before .loop .inv .2
