@@ -1,11 +1,12 @@
 -- `appends::append_as` meets its contract. Assumes nothing.
 use native.Mathlib.Omega.{arith}
-use Prim.Native.Nat.{_*_, _/_, _≤_, _<_}
+use Prim.Native.Nat.{ℕ, _*_, _/_, _≤_, _<_}
 use mathlib.Core.Path.{_≡_, sym, _∙_, ap}
-use mathlib.Core.Bool.{true, false}
+use mathlib.Core.Bool.{Bool, true, false}
 use lib.ListN.{length}
 use borrow.Author.Tests.{not-true, not-false}
 use Rattle.words.specs.Words.{wordValues}
+use Rattle.blocks.specs.declared.Kind.{Kind}
 use Rattle.blocks.specs.Format.{blockBytes, blocksFor}
 use Rattle.blocks.proofs.Counts.{blocks-le}
 use Rattle.cards.specs.Writer.{recordsOf, writable, cardBytes}
@@ -41,12 +42,15 @@ room c = omega (arith, c .if2 .left, made-is (c .before))
 within : (c : tie.Else3) → let a = c .before .before .before .before .before .before .before .before .before .args in overfull (a .kind) (a .total) (a .long) ≡ false
 within c = sym (c .before .overfull .ensures) ∙ c .if3 .left
 
+next-by : (kind : Kind) (n m b k j : ℕ) (r : Bool) → r ≡ areNext kind n b k → n ≡ m → k ≡ j → r ≡ areNext kind m b j
+next-by kind n m b k j r e g h = e ∙ (λ z. areNext kind (g z) b (h z))
+
 told : (c : tie.After-are-next) → let a = c .before .before .before .before .before .before .before .before .before .before .args in c .are-next .result ≡ areNext (a .kind) (a .total) (firstTorn (a .long)) (recordsOf (a .kind) (a .records .now))
 unfolding firstTorn
 told c =
     let n = c .before .before .before .before .before in
     let a = n .before .before .before .before .before .args in
-    c .are-next .ensures ∙ ap (areNext (a .kind) (a .total) (a .long / blockBytes)) (n .records-of .ensures)
+    next-by (a .kind) _ (a .total) (a .long / blockBytes) _ (recordsOf (a .kind) (a .records .now)) _ (c .are-next .ensures) (omega arith) (n .records-of .ensures)
 
 returns : tie.Need-returns
 unfolding afterAppend notAdded
@@ -112,11 +116,6 @@ put-blocks-requires c κs =
     let a = i .before .before .before .before .args in
     (omega (arith, made-is (r .before)), sym (told (t .before)) ∙ not-false _ (t .if4 .left), few-records (a .kind) (a .records .now) (can i), first-fits e, room r)
 
-cast-t17 : tie.Need-cast-t17
-cast-t17 c =
-    let f = c .before .before .before .before .before .before .before .before .before in
-    omega (arith, f .blocks-for .ensures .1, few (f .before))
-
 returns-5 : tie.Need-returns-5
 unfolding afterAppend nowAdded firstTorn placeOf
 returns-5 c =
@@ -136,4 +135,5 @@ append-as-spec =
     (tie.spec
     (λ c κs. search needs) (λ c κs. search needs) returns (λ c κs. search needs) cast-count (λ c κs. search needs) mul-if2
     (λ c κs. search needs) returns-2 (λ c κs. search needs) (λ c κs. search needs) returns-3 are-next-requires
-    (λ c κs. search needs) returns-4 put-blocks-requires cast-t17 (λ c. search needs) (λ c. search needs) returns-5)
+    (λ c κs. search needs) returns-4 put-blocks-requires
+    (λ c. omega (arith, c .before .before .before .before .before .before .before .before .before .blocks-for .ensures .1, few (c .before .before .before .before .before .before .before .before .before .before))) (λ c. search needs) (λ c. search needs) returns-5)

@@ -1,5 +1,5 @@
 -- `blocks::complement` meets its contract. Assumes nothing.
-use mathlib.Core.Path.{refl}
+use native.Mathlib.Omega.{arith}
 use Rattle.blocks.specs.Format.{complement}
 use borrow.Author.Needs.{needs}
 use Rattle.blocks.proofs.complement.Statement.{statement}
@@ -7,7 +7,7 @@ use Rattle.blocks.proofs.complement.Tie as tie
 
 returns : tie.Need-returns
 unfolding complement
-returns c = refl
+returns c = omega arith
 
 pub complement-spec : {M : Type 1} → statement M
 complement-spec =

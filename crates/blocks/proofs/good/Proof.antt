@@ -48,14 +48,14 @@ returns-2 : tie.Need-returns-2
 returns-2 c =
     let i = c .before .before .before .before in
     let a = i .before .before .args in
-    bad-header (a .kind) (a .total) (a .b) (a .card .now) (i .if1 .left) (sym (headed-is (c .before)) ∙ not-true _ (c .if2 .taken))
+    bad-header (a .kind) (a .total) (a .b) (a .card .now) (omega (arith, i .if1 .left)) (sym (headed-is (c .before)) ∙ not-true _ (c .if2 .taken))
 
 returns-3 : tie.Need-returns-3
 returns-3 c =
     let e = c .before .before in
     let i = e .before .before .before .before in
     let a = i .before .before .args in
-    bad-mark (a .kind) (a .total) (a .b) (a .card .now) (i .if1 .left) (sym (headed-is (e .before)) ∙ not-false _ (e .if2 .left)) (sym (marked-is (c .before)) ∙ not-true _ (c .if3 .taken))
+    bad-mark (a .kind) (a .total) (a .b) (a .card .now) (omega (arith, i .if1 .left)) (sym (headed-is (e .before)) ∙ not-false _ (e .if2 .left)) (sym (marked-is (c .before)) ∙ not-true _ (c .if3 .taken))
 
 returns-4 : tie.Need-returns-4
 returns-4 c =
@@ -63,7 +63,7 @@ returns-4 c =
     let e = m .before .before in
     let i = e .before .before .before .before in
     let a = i .before .before .args in
-    bad-rest (a .kind) (a .total) (a .b) (a .card .now) (i .if1 .left) (sym (headed-is (e .before)) ∙ not-false _ (e .if2 .left)) (sym (marked-is (m .before)) ∙ not-false _ (m .if3 .left))
+    bad-rest (a .kind) (a .total) (a .b) (a .card .now) (omega (arith, i .if1 .left)) (sym (headed-is (e .before)) ∙ not-false _ (e .if2 .left)) (sym (marked-is (m .before)) ∙ not-false _ (m .if3 .left))
     (sym (emptied-is (c .before)) ∙ not-true _ (c .if4 .taken))
 
 returns-5 : tie.Need-returns-5
@@ -75,7 +75,7 @@ returns-5 c =
     let i = e .before .before .before .before in
     let a = i .before .before .args in
     c .checked .ensures
-    ∙ by-sum (a .kind) (a .total) (a .b) (a .card .now) (i .if1 .left) (sym (headed-is (e .before)) ∙ not-false _ (e .if2 .left)) (sym (marked-is (m .before)) ∙ not-false _ (m .if3 .left))
+    ∙ by-sum (a .kind) (a .total) (a .b) (a .card .now) (omega (arith, i .if1 .left)) (sym (headed-is (e .before)) ∙ not-false _ (e .if2 .left)) (sym (marked-is (m .before)) ∙ not-false _ (m .if3 .left))
     (sym (emptied-is (z .before)) ∙ not-false _ (z .if4 .left))
 
 pub good-spec : {M : Type 1} → statement M
