@@ -16,6 +16,10 @@ use lib.Dec.{eqb, ltb}
 use borrow.Author.Tests.{eqb-true, eqb-false, ltb-true, ltb-false}
 use Rattle.table.specs.Table.{cell, put, column, filledTo}
 
+-- a store, by its place and its number
+pub set-by : (w : List ℕ) (p q x y : ℕ) → p ≡ q → x ≡ y → set w p x ≡ set w q y
+set-by w p q x y e f = λ i. set w (e i) (f i)
+
 -- a column that stands below column n ends at or before that one's start
 pub column-ends : (k n rows : ℕ) → k < n → k * rows + rows ≤ n * rows
 column-ends k n rows h = subst (λ (m : ℕ). m ≤ n * rows) (suc-mul k rows) (mul-le-mul-right rows h)

@@ -15,6 +15,10 @@ use Rattle.words.specs.Words.{wordValues, wordBytes, bytesOf, wordAt, wo
 use Rattle.lists.proofs.Parts.{length-zeros, sum-snoc, part-more, length-part}
 use Rattle.words.proofs.Stores.{sets-join}
 
+-- a word that was read, by its number
+pub word-by : (bs : List ℕ) (k m r : ℕ) → r ≡ wordAt bs k → k ≡ m → r ≡ wordAt bs m
+word-by bs k m r e h = e ∙ ap (wordAt bs) h
+
 -- the bytes of two lists of words
 pub bytes-append : (l m : List ℕ) → bytesOf (l ++ m) ≡ bytesOf l ++ bytesOf m
 unfolding bytesOf flatMap

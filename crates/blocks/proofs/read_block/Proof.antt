@@ -1,7 +1,8 @@
 -- `blocks::read_block` meets its contract. Assumes nothing.
 use native.Mathlib.Omega.{arith}
-use Prim.Native.Nat.{_+_, _*_}
+use Prim.Native.Nat.{ℕ, _+_, _*_}
 use mathlib.Core.Path.{_≡_, sym, _∙_, ap}
+use mathlib.Core.List.{List}
 use lib.Seq.{sets}
 use Rattle.blocks.specs.Format.{blockWords, headerWords, roomWords, usedWords}
 use Rattle.lists.specs.Parts.{joined}
@@ -41,12 +42,16 @@ lose-requires c κs =
     let a = s .args in
     (omega (arith, product w, words-fit (a .kind) (a .total) (a .b) (s .pre .0), s .pre .1), w .record-words .ensures .1)
 
+-- words that were read, by their place
+got-by : (l u : List ℕ) (p : ℕ) (bs : List ℕ) (k m n : ℕ) → u ≡ sets l p (wordsAt bs k n) → k ≡ m → u ≡ sets l p (wordsAt bs m n)
+got-by l u p bs k m n e h = e ∙ ap (λ (j : ℕ). sets l p (wordsAt bs j n)) h
+
 returns : tie.Need-returns
 returns c =
     let g = c .before .before .before .before .before in
     let w = g .before in
     let a = w .before .before .before .before .args in
-    c .before .before .get-words .ensures
+    got-by _ _ _ _ _ (blockWords * a .b + headerWords) _ (c .before .before .get-words .ensures) (omega arith)
     ∙ ap (sets (a .answer .now) (roomWords * a .b)) (ap (wordsAt (a .card .now) (blockWords * a .b + headerWords)) (product w) ∙ sym (read-good (a .kind) (a .total) (a .b) (a .card .now) (sym (g .good2 .ensures) ∙ c .before .before .before .before .if1 .taken)))
 
 returns-2 : tie.Need-returns-2

@@ -2,12 +2,12 @@
 use Prim.Native.Nat.{_+_, _*_, _-_, _≤_}
 use native.Mathlib.Nat.{le-antisymm}
 use native.Mathlib.Omega.{arith}
-use mathlib.Core.Path.{_≡_, refl}
+use mathlib.Core.Path.{_≡_, refl, _∙_}
 use lib.ListN.{length, length-set}
 use borrow.Author.Needs.{needs}
 use Rattle.table.specs.Columns.{columns}
 use Rattle.table.specs.Table.{filledTo}
-use Rattle.table.proofs.Laws.{column-ends, fill-none, fill-more}
+use Rattle.table.proofs.Laws.{set-by, column-ends, fill-none, fill-more}
 use Rattle.table.proofs.clear.Statement.{statement}
 use Rattle.table.proofs.clear.Tie as tie
 
@@ -40,7 +40,7 @@ loop-again : tie.Need-loop-again Inv-loop μ-loop
 loop-again c =
     let l = c .before .loop in
     let a = c .before .before .args in
-    (omega arith, fill-more (a .rows) (a .column) (λ _. 0) (a .work .now) (l .work) (l .r) 0 (l .inv .1) refl, simp length-set (l .inv .2))
+    (omega arith, set-by (l .work) _ (a .column * a .rows + l .r) _ 0 (omega arith) (omega arith) ∙ fill-more (a .rows) (a .column) (λ _. 0) (a .work .now) (l .work) (l .r) 0 (l .inv .1) refl, simp length-set (l .inv .2))
 
 returns : tie.Need-returns Inv-loop μ-loop
 returns c = rw (le-antisymm (c .before .loop .inv .0) (c .loop-test .left)) at (c .before .loop .inv .1)

@@ -6,7 +6,7 @@ use mathlib.Core.Path.{_≡_, refl, sym, _∙_, ap}
 use mathlib.Core.List.{_++_}
 use lib.ListN.{length, drop, replicate, set, length-set}
 use borrow.Author.Needs.{needs}
-use Rattle.table.proofs.Laws.{zeros-more}
+use Rattle.table.proofs.Laws.{set-by, zeros-more}
 use Rattle.table.proofs.clear_first.Statement.{statement}
 use Rattle.table.proofs.clear_first.Tie as tie
 
@@ -23,7 +23,7 @@ loop-again : tie.Need-loop-again Inv-loop μ-loop
 loop-again c =
     let l = c .before .loop in
     let a = c .before .before .args in
-    (omega arith, ap (λ k. set k (l .i) 0) (l .inv .1) ∙ zeros-more (l .i) (a .words .now) (omega (arith, l .inv .2, c .before .before .pre)), simp length-set (l .inv .2))
+    (omega arith, set-by (l .words) _ (l .i) _ 0 (omega arith) (omega arith) ∙ (ap (λ k. set k (l .i) 0) (l .inv .1) ∙ zeros-more (l .i) (a .words .now) (omega (arith, l .inv .2, c .before .before .pre))), simp length-set (l .inv .2))
 
 returns : tie.Need-returns Inv-loop μ-loop
 returns c = rw (le-antisymm (c .before .loop .inv .0) (c .loop-test .left)) at (c .before .loop .inv .1)

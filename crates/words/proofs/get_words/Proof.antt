@@ -6,7 +6,7 @@ use mathlib.Core.Path.{_≡_, refl, _∙_, ap}
 use lib.ListN.{length, set, length-set}
 use lib.Seq.{sets}
 use Rattle.words.specs.Words.{wordsAt}
-use Rattle.words.proofs.Words.{get-none, get-more}
+use Rattle.words.proofs.Words.{word-by, get-none, get-more}
 use Rattle.words.proofs.get_words.Statement.{statement}
 use Rattle.words.proofs.get_words.Tie as tie
 use borrow.Author.Needs.{needs}
@@ -26,7 +26,7 @@ loop-again : tie.Need-loop-again Inv-loop μ-loop
 loop-again c =
     let l = c .before .before .loop in
     let a = c .before .before .before .before .before .args in
-    (omega arith, ap (set (l .words) (a .to + l .i)) (c .word-at .ensures) ∙ get-more (a .bytes .now) (a .from) (a .words .now) (l .words) (a .to) (l .i) (l .inv .1), simp length-set (l .inv .2))
+    (omega arith, ap (set (l .words) (a .to + l .i)) (word-by _ _ (a .from + l .i) _ (c .word-at .ensures) (omega arith)) ∙ get-more (a .bytes .now) (a .from) (a .words .now) (l .words) (a .to) (l .i) (l .inv .1), simp length-set (l .inv .2))
 
 returns : tie.Need-returns Inv-loop μ-loop
 returns c =

@@ -1,7 +1,10 @@
 -- `words::put_word` meets its contract. Assumes nothing.
 use native.Mathlib.Omega.{arith}
-use Prim.Native.Nat.{_*_, _/_, _%_}
-use lib.ListN.{length-set}
+use Prim.Native.Nat.{ℕ, _+_, _*_, _/_, _%_}
+use mathlib.Core.Path.{_≡_, _∙_}
+use mathlib.Core.List.{List, [], _∷_}
+use lib.ListN.{set, length-set}
+use lib.Seq.{sets}
 use Rattle.words.specs.Words.{wordBytes}
 use Rattle.words.proofs.Stores.{four-stores}
 use borrow.Author.Needs.{needs}
@@ -20,12 +23,13 @@ slice-write-bytes-4 c = simp length-set (omega arith)
 same-length : tie.Need-same-length
 same-length c = simp length-set (omega arith)
 
-returns : tie.Need-returns
+-- four bytes that are those of a word
+bytes-are : (l : List ℕ) (p w x y z u : ℕ) → x ≡ w % 256 → y ≡ w / 256 % 256 → z ≡ w / 65536 % 256 → u ≡ w / 16777216 % 256 → set (set (set (set l p x) (p + 1) y) (p + 2) z) (p + 3) u ≡ sets l p (wordBytes w)
 unfolding wordBytes
-returns c =
-    let a = c .args in
-    let w = a .w in
-    four-stores (a .bytes .now) (4 * a .i) (w % 256) (w / 256 % 256) (w / 65536 % 256) (w / 16777216 % 256)
+bytes-are l p w x y z u e f g h = four-stores l p x y z u ∙ (λ i. sets l p (e i ∷ f i ∷ g i ∷ h i ∷ []))
+
+returns : tie.Need-returns
+returns c = let a = c .args in bytes-are (a .bytes .now) (4 * a .i) (a .w) _ _ _ _ (omega arith) (omega arith) (omega arith) (omega arith)
 
 pub put-word-spec : {M : Type 1} → statement M
 put-word-spec =

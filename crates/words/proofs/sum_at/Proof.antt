@@ -5,7 +5,7 @@ use native.Mathlib.Nat.{le-antisymm}
 use mathlib.Core.Path.{_≡_, _∙_, ap}
 use Rattle.lists.specs.Parts.{sumOf}
 use Rattle.words.specs.Words.{wordValues, wordsAt}
-use Rattle.words.proofs.Words.{sums-none, sums-more}
+use Rattle.words.proofs.Words.{word-by, sums-none, sums-more}
 use Rattle.words.proofs.sum_at.Statement.{statement}
 use Rattle.words.proofs.sum_at.Tie as tie
 use borrow.Author.Needs.{needs}
@@ -25,7 +25,7 @@ loop-again : tie.Need-loop-again Inv-loop μ-loop
 loop-again c =
     let l = c .before .before .loop in
     let a = c .before .before .before .before .args in
-    (omega arith, ap (λ k. l .sum + k) (c .word-at .ensures) ∙ sums-more (a .bytes .now) (a .from) (l .sum) (l .i) (l .inv .1), omega arith)
+    (omega arith, ap (λ k. l .sum + k) (word-by _ _ (a .from + l .i) _ (c .word-at .ensures) (omega arith)) ∙ sums-more (a .bytes .now) (a .from) (l .sum) (l .i) (l .inv .1), omega arith)
 
 returns : tie.Need-returns Inv-loop μ-loop
 returns c =

@@ -1,4 +1,5 @@
 -- `words::word_at` meets its contract. Assumes nothing.
+use native.Mathlib.Omega.{arith}
 use Rattle.words.specs.Words.{wordAt}
 use borrow.Author.Needs.{needs}
 use Rattle.words.proofs.word_at.Statement.{statement}
@@ -6,7 +7,7 @@ use Rattle.words.proofs.word_at.Tie as tie
 
 returns : tie.Need-returns
 unfolding wordAt
-returns c = cc
+returns c = omega (arith, c .before .before .before .byte-at .ensures .0, c .before .before .byte-at2 .ensures .0, c .before .byte-at3 .ensures .0, c .byte-at4 .ensures .0)
 
 pub word-at-spec : {M : Type 1} → statement M
 word-at-spec =
