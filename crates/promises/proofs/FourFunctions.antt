@@ -163,6 +163,7 @@ module _ (x : Call) (ok : Accepted x) (c : MeshCounts) (l s u : List ℕ) (F : L
   of-columns : OfColumns rows n u f
   of-columns =
       record {
+        names = words .besides .range;
         back = λ r q h g e. to-rows (λ a b. cell rows linkColumn b u ≡ suc a) r q (words .links .back (r / 3) (q / 3) (third (r % 3)) (third (q % 3)) (tri-lt r n h) (tri-lt q n g) (of-rows (λ a b. cell rows linkColumn a u ≡ suc b) r q e));
         opposite = λ r q h g e.
             let T = words .links .across (r / 3) (q / 3) (third (r % 3)) (third (q % 3)) (tri-lt r n h) (tri-lt q n g) (of-rows (λ a b. cell rows linkColumn a u ≡ suc b) r q e) in

@@ -28,7 +28,8 @@ next r = 3 * (r / 3) + (r % 3 + 1) % 3
 
 -- Of n triangles. vertex: one number for corners that are welded. link: 0, or one more than the number of the side that a side is linked with. group: at each moment, 0, or the number of the group that a corner is in then. orientation: of each triangle at each moment. The moments are 0 to `last`; any: 0 of a triangle that isn't `group_with_any`.
 pub record E11 (n last : ℕ) (any vertex link : ℕ → ℕ) (group orientation : ℕ → ℕ → ℕ) : Type 0 where
-  -- 'mutual opposite links'
+  -- 'mutual opposite links', each with a side of these triangles
+  pub names : (r : ℕ) → r < 3 * n → link r ≤ 3 * n
   pub back : (r q : ℕ) → r < 3 * n → q < 3 * n → link r ≡ suc q → link q ≡ suc r
   pub opposite : (r q : ℕ) → r < 3 * n → q < 3 * n → link r ≡ suc q → (vertex r ≡ vertex (next q)) × (vertex (next r) ≡ vertex q)
   -- 'one welded corner and one final orientation per group'
