@@ -7,6 +7,8 @@ below, so the script reads those names from the files; add a sample here, never 
 import re
 import struct
 
+from plain import COMBINED, COPIED, FILLED, SINGLE, SLOT_WORDS
+
 CRATES = {
     "root": ["Root"],
     "angle": ["Table", "Angle"],
@@ -70,7 +72,7 @@ class Mesh:
 
     def call(self, answer=None, work=None):
         """The call of this mesh with lent lists of that many words (just enough, unless said), filled with 7 and 9."""
-        answer = 10 * self.slots() if answer is None else answer
+        answer = SLOT_WORDS * self.slots() if answer is None else answer
         work = 128 * len(self.sizes) if work is None else work
         return (
             f"Outcome′.outcome (call (handed {sizes(self.sizes)} {numbers(self.places)} {numbers(self.normals)} {numbers(self.texture)}) "
@@ -106,13 +108,30 @@ def square(x, width):
 TWO_QUADS = Mesh([square(0, 0.5), square(1, 0.5)])
 
 
-def frame(s, t, s_magnitude, t_magnitude, orientation):
-    """The ten words of a slot that is there."""
-    return [1] + [bits(x) for x in (*s, *t, s_magnitude, t_magnitude)] + [orientation]
+def frame(s, t, s_magnitude, t_magnitude, orientation, origin=SINGLE, behind=1):
+    """The words of a slot that is there."""
+    return [1] + [bits(x) for x in (*s, *t, s_magnitude, t_magnitude)] + [orientation, origin, behind]
 
 
-EAST_FRAME = frame((1, 0, 0), (0, 1, 0), 1, 1, 1)
-ABSENT = [0] * 10
+def from_origins(made, origins):
+    """Slots by what each came from: `made(origin, behind)` gives one's words."""
+    return [w for origin, behind in origins for w in made(origin, behind)]
+
+
+def east(origin, behind):
+    return frame((1, 0, 0), (0, 1, 0), 1, 1, 1, origin, behind)
+
+
+def wide(origin, behind):
+    """East, its texture half as wide."""
+    return frame((1, 0, 0), (0, 1, 0), 2, 1, 1, origin, behind)
+
+
+EAST_FRAME = east(SINGLE, 1)
+# of each quad two corners are in both triangles, so they are combined
+TWO_QUADS_ORIGINS = [(COMBINED, 4), (SINGLE, 3), (COMBINED, 6), (SINGLE, 1), (COMBINED, 6), (SINGLE, 1), (COMBINED, 4), (SINGLE, 3)]
+SQUARE_ORIGINS = [(COMBINED, 4), (SINGLE, 1), (COMBINED, 4), (SINGLE, 1)]
+ABSENT = [0] * SLOT_WORDS
 
 # sample 1 beside its mirror image, whose texture runs the other way: two orientations at one corner
 MIRROR = Mesh([[((0, 0, 0), UP, (0, 0)), ((1, 0, 0), UP, (1, 0)), ((0, 1, 0), UP, (0, 1))], [((0, 0, 0), UP, (0, 0)), ((0, -1, 0), UP, (0, 1)), ((1, 0, 0), UP, (1, 0))]])
@@ -122,13 +141,17 @@ CROSSED = Mesh([[((0, 0, 0), UP, (0, 0)), ((1, 0, 0), UP, (1, 0)), ((1, 1, 0), U
 POINT = [((0, 0, 0), UP, (0, 0))] * 3
 POINT_ALONE = Mesh([POINT])
 POINT_SHARED = Mesh([[((0, 0, 0), UP, (0, 0)), ((1, 0, 0), UP, (1, 0)), ((0, 1, 0), UP, (0, 1))], POINT])
+# behind sample 3, whose first corner is absent
+POINT_ABSENT = Mesh([[((0, 0, 0), UP, (0, 0)), ((1, 0, 0), UP, (0, 0)), ((0, 1, 0), UP, (0, 0))], POINT])
+# sample 1 as a quad whose last two corners are one: one of its triangles is degenerate, so both are marked
+MARKED = Mesh([[((0, 0, 0), UP, (0, 0)), ((1, 0, 0), UP, (1, 0)), ((0, 1, 0), UP, (0, 1)), ((0, 1, 0), UP, (0, 1))]])
 
 # three triangles round a hub, in an order that the walk does not keep
 HUB = ((0, 0, 0), UP, (0, 0))
 EAST, NORTH, WEST, SOUTH = (((1, 0, 0), UP, (1, 0)), ((0, 1, 0), UP, (0, 3)), ((-1, 0, 0), UP, (-1, 0)), ((0, -1, 0), UP, (0, -2)))
 FAN = Mesh([[HUB, EAST, NORTH], [HUB, SOUTH, EAST], [HUB, NORTH, WEST]])
 FAN_FIRST = Mesh([[HUB, EAST, NORTH]])
-FAN_FRAME = [1, ONE, 0, 0, 0, ONE, 0, ONE, 0x3EC7_1C72, 1]
+FAN_FRAME = frame((1, 0, 0), (0, 1, 0), 1, "3ec71c72", 1, SINGLE, 3)
 HALF_ROOT = "3f3504f3"
 
 # quads in the plane x = 0, bent by the least numbers and by signs of zero: threshold 2 leaves each triangle to its own face
@@ -148,8 +171,19 @@ EARLIER = standing([LEFT_BELOW, LEFT_ABOVE])
 SIDES = standing([LEFT_BELOW, RIGHT_BELOW, LEFT_ABOVE, RIGHT_ABOVE])
 
 
-def north(z):
-    return frame((0, 1, z), (0, 0, 1), 1, 1, 1)
+def north(z, origin=SINGLE, behind=1):
+    return frame((0, 1, z), (0, 0, 1), 1, 1, 1, origin, behind)
+
+
+EARLIER_FRAMES = [
+    north(MINUS_LEAST, COMBINED, 4), north(MINUS_LEAST), north(MINUS_LEAST, COMBINED, 4), north(0),
+    north(0, COMBINED, 4), ABSENT, north(0, COMBINED, 2), north(0),
+]
+CROSSED_FRAMES = [
+    frame(s, (HALF_ROOT, HALF_ROOT, 0), 1, "3fb504f3", 1, origin, behind)
+    for s, (origin, behind) in zip([(0, 0, 0), (1, 0, 0), (0, 0, 0), (-1, 0, 0)], SQUARE_ORIGINS)
+]
+
 
 # a triangle whose s has an infinite squared length, so that it has no direction (request E6)
 FAR = [((0, 0, 0), UP, (0, 0)), ((1e20, 0, 0), UP, (1, 0)), ((0, 1, 0), UP, (0, 1))]
@@ -160,26 +194,28 @@ FAR_TRIANGLE = "Triangles′.make 0 false 3 " + " ".join(f"(Triangles′.nook {i
 WHOLE = [
     ("sample-1", "sample 1", SAMPLE_1.call(), SAMPLE_1.taken(EAST_FRAME * 3)),
     ("sample-2", "sample 2", SAMPLE_2.call(), SAMPLE_2.taken(frame((-1, 0, 0), (0, 1, 0), 1, 1, 0) * 3)),
-    ("sample-3", "sample 3: 30 zero words", SAMPLE_3.call(), SAMPLE_3.taken(ABSENT * 3)),
-    ("past", "sample 1 with both lists two words longer: nothing past 10S and 128F is altered", f"behind ({SAMPLE_1.call(32, 130)})", words([7, 7, 9, 9])),
+    ("sample-3", "sample 3: 36 zero words", SAMPLE_3.call(), SAMPLE_3.taken(ABSENT * 3)),
+    ("past", "sample 1 with both lists two words longer: nothing past 12S and 128F is altered", f"untouched ({SAMPLE_1.call(38, 130)})", words([7, 7, 9, 9])),
     ("no-face", "'F = 0 by itself is no ground for refusal': nothing is altered", Mesh([]).call(3, 2), "record { number = 0; place = 0; slots = 0; answer = replicate 3 7; work = replicate 2 9 }"),
-    ("refused", "sample 1 with an answer list one word short: refusal 5 alters nothing", SAMPLE_1.call(29, 128), "record { number = 5; place = 0; slots = 0; answer = replicate 29 7; work = replicate 128 9 }"),
-    ("no-normal", "request E4: sample 1 without a normal at one corner: refusal 7 alters nothing", BARE.call(), "record { number = 7; place = 1; slots = 0; answer = replicate 30 7; work = replicate 128 9 }"),
-    ("two-quads", "two quads that share a side", TWO_QUADS.call(), TWO_QUADS.taken(frame((1, 0, 0), (0, 1, 0), 2, 1, 1) * 8)),
-    ("fan", "three triangles round a hub: the hub's frame is that of the sum in triangle order", f"take 10 ({FAN.call()} .answer)", words(FAN_FRAME)),
-    ("fan-first", "the first of them alone: another frame", FAN_FIRST.call(), FAN_FIRST.taken([x for m in (0x3EAA_AAAB, 0x3EAA_AAAC, 0x3EAA_AAAC) for x in [1, ONE, 0, 0, 0, ONE, 0, ONE, m, 1]])),
+    ("refused", "sample 1 with an answer list one word short: refusal 5 alters nothing", SAMPLE_1.call(35, 128), "record { number = 5; place = 0; slots = 0; answer = replicate 35 7; work = replicate 128 9 }"),
+    ("no-normal", "request E4: sample 1 without a normal at one corner: refusal 7 alters nothing", BARE.call(), "record { number = 7; place = 1; slots = 0; answer = replicate 36 7; work = replicate 128 9 }"),
+    ("two-quads", "two quads that share a side: equal numbers, but a corner in both triangles of its quad is combined", TWO_QUADS.call(), TWO_QUADS.taken(from_origins(wide, TWO_QUADS_ORIGINS))),
+    ("quad-filled", "request E7: the missing corner of a marked quad is copied within it: 4, and what stood behind is carried along", MARKED.call(), MARKED.taken(from_origins(east, [(SINGLE, 1)] * 3 + [(FILLED, 1)]))),
+    ("fan", "three triangles round a hub: the hub's frame is that of the sum in triangle order", f"take {SLOT_WORDS} ({FAN.call()} .answer)", words(FAN_FRAME)),
+    ("fan-first", "the first of them alone: another frame", FAN_FIRST.call(), FAN_FIRST.taken([x for m in ("3eaaaaab", "3eaaaaac", "3eaaaaac") for x in frame((1, 0, 0), (0, 1, 0), 1, m, 1)])),
     ("mirror", "sample 1 beside its mirror image: a triangle of the other orientation stops the walk", MIRROR.call(), MIRROR.taken(EAST_FRAME * 3 + frame((1, 0, 0), (0, -1, 0), 1, 1, 0) * 3)),
     (
         "crossed",
         "a square whose texture crosses itself: its triangles disagree, and the first's area is as large, so the orientation is the first's",
         CROSSED.call(),
-        CROSSED.taken([w for s in ((0, 0, 0), (1, 0, 0), (0, 0, 0), (-1, 0, 0)) for w in frame(s, (HALF_ROOT, HALF_ROOT, 0), 1, "3fb504f3", 1)]),
+        CROSSED.taken([w for f in CROSSED_FRAMES for w in f]),
     ),
-    ("earlier", "'if the two are equal by float comparison, the earlier stays as it is'", EARLIER.call(), EARLIER.taken(north(MINUS_LEAST) * 3 + north(0) * 2 + ABSENT + north(0) * 2)),
-    ("sides", "'the side before the corner first': the sign of a zero in slot 8 tells", f"take 10 (drop 80 ({SIDES.call()} .answer))", words(north(MINUS_0))),
+    ("earlier", "'if the two are equal by float comparison, the earlier stays as it is'; it is combined all the same", EARLIER.call(), EARLIER.taken([w for f in EARLIER_FRAMES for w in f])),
+    ("sides", "'the side before the corner first': the sign of a zero in slot 8 tells", f"take {SLOT_WORDS} (drop {8 * SLOT_WORDS} ({SIDES.call()} .answer))", words(north(MINUS_0, COMBINED, 5))),
     ("far", "request E6: a triangle whose s is none starts no group, so it is absent; before it was there, with a zero direction and an infinite magnitude", FAR_ALONE.call(), FAR_ALONE.taken(ABSENT * 3)),
     ("point-alone", "a face whose corners are all one: absent", POINT_ALONE.call(), POINT_ALONE.taken(ABSENT * 3)),
-    ("point-shared", "the same behind sample 1, whose first corner it shares: it copies that corner's frame. So demand 3 counts corners of degenerate faces too", POINT_SHARED.call(), POINT_SHARED.taken(EAST_FRAME * 6)),
+    ("point-shared", "the same behind sample 1, whose first corner it shares: it copies that corner's frame, which word 10 says. So demand 3 counts corners of degenerate faces too", POINT_SHARED.call(), POINT_SHARED.taken(EAST_FRAME * 3 + east(COPIED, 1) * 3)),
+    ("point-absent", "request E7: the same behind sample 3, whose first corner is absent: 'a copy of an absent slot stays 0'", POINT_ABSENT.call(), POINT_ABSENT.taken(ABSENT * 6)),
 ]
 
 ZERO = corner((0, 0, 0), (0, 0, 0), (0, 0))
@@ -197,7 +233,7 @@ FAN_TRIANGLES = [f"({fan_triangle(0, EAST, NORTH)})", f"({fan_triangle(1, SOUTH,
 
 def summed(order):
     """The words of the hub's frame, the fan's triangles summed in an order."""
-    return f"Slot′.present (Step7Sums′.evaluate {corner(*HUB)} (" + " ∷ ".join([FAN_TRIANGLES[i] for i in order] + ["[]"]) + ")) true"
+    return f"Slot′.present {SINGLE} (Step7Sums′.evaluate {corner(*HUB)} (" + " ∷ ".join([FAN_TRIANGLES[i] for i in order] + ["[]"]) + ")) true"
 
 
 def nan_mesh(ns):
@@ -278,7 +314,7 @@ STARRED = [
     ("slip '`>` for the position diagonals: the tie goes the wrong way': neither diagonal of the square is longer", is_false(f"lt (Step1Cut′.apart² {corner(*square(0, 1)[2])} {corner(*square(0, 1)[0])}) (Step1Cut′.apart² {corner(*square(0, 1)[3])} {corner(*square(0, 1)[1])})")),
     ("slip 'Summing a subgroup in walk order: last bits change': in triangle order the frame above, in walk order another", is_true(f"sameWords ({summed([0, 1, 2])}) {words(FAN_FRAME)}")),
     ("", is_false(f"sameWords ({summed([0, 2, 1])}) {words(FAN_FRAME)}")),
-    ("slip 'Storing zeros with word 0 = 1 for an absent corner': its words are ten zeros", is_true("sameWords (Slot′.words Absent) (replicate 10 0)")),
+    ("slip 'Storing zeros with word 0 = 1 for an absent corner': its words are twelve zeros", is_true(f"sameWords (Slot′.words Absent) (replicate {SLOT_WORDS} 0)")),
 ]
 
 HEAD = """-- Document 01's samples, computed from the definitions. Written by tools/samples.py. Assumes nothing.
@@ -332,9 +368,9 @@ sameWords [] (y ∷ m) = false
 sameWords (x ∷ l) [] = false
 sameWords (x ∷ l) (y ∷ m) = eqb x y && sameWords l m
 
--- what stands past 30 words of the answer list and 128 of the work list
-abbrev behind : Outcome′.Result → List ℕ
-behind r = drop 30 (r .answer) ++ drop 128 (r .work)
+-- what stands past 36 words of the answer list and 128 of the work list
+abbrev untouched : Outcome′.Result → List ℕ
+untouched r = drop 36 (r .answer) ++ drop 128 (r .work)
 
 -- the same whole number
 abbrev sameWhole : ℤ → ℤ → Bool

@@ -1,5 +1,5 @@
 #!/usr/bin/env python3
-"""Writes crates/definition/proofs/SamplesOld.antt anew: the meshes stay as they are, their words are those of the oracle's old edition.
+"""Writes crates/laws/proofs/SamplesOld.antt anew: the meshes stay as they are, their words are those of the oracle's old edition.
 
 `python3 tools/samples_old.py [ORACLE]` in the repository. ORACLE is the program `oracle` of ../shared/oracle; without it, cargo builds it in
 target/oracle. Groundwork of request E13: the oracle answers at the rules in force, edition 2.
@@ -11,7 +11,7 @@ from types import SimpleNamespace
 import samples
 from oracle import RULES, ask, build_oracle
 
-PATH = "crates/definition/proofs/SamplesOld.antt"
+PATH = "crates/laws/proofs/SamplesOld.antt"
 MODULES = ["Step5Sorted", "Step5Quick", "Step5Old", "Step4Old", "FramesOld"]
 CALL = re.compile(
     r"oldFrames \(number (0x[0-9a-f_]+)\) \(Handed′\.meshFrom \(numbers \(([^)]*)\[\]\)\) \(numbers \(([^)]*)\[\]\)\) \(numbers \(([^)]*)\[\]\)\) 0 \(([^)]*)\[\]\)\)\)"
@@ -26,7 +26,7 @@ def numbers(text):
 def answer(oracle, threshold, sizes, lists):
     """The answer words of a mesh by the old edition."""
     slots = sum(size for size in sizes if size in (3, 4))
-    mesh = SimpleNamespace(sizes=sizes, positions=lists[0], normals=lists[1], texture=lists[2], threshold=threshold, answer=10 * slots, work=128 * len(sizes))
+    mesh = SimpleNamespace(sizes=sizes, positions=lists[0], normals=lists[1], texture=lists[2], threshold=threshold, answer=samples.SLOT_WORDS * slots, work=128 * len(sizes))
     [(number, _, _, words, _)] = ask(oracle, [mesh], f"{RULES},e13", ("--edition", "2"))
     if number:
         sys.exit(f"a mesh is refused with {number}")
@@ -51,6 +51,7 @@ def main():
     samples.CRATES["definition"] = samples.CRATES["definition"] + MODULES
     uses, names = samples.unfolded()
     out = text[: text.index("use Prim.Native.Nat")] + samples.HEAD.split("\n", 1)[1] + uses
+    out = out.replace("Rattle.definition.specs.", "Rattle.definition.specs.")
     out += "\n-- numbers, by their bits\nabbrev numbers : List ℕ → List Float\nnumbers l = map number l\n"
     for note, name, call in re.findall(r"^-- (.*)\npub (old-\d+) : (.*?) ≡ ", text, re.M):
         threshold, *lists, sizes = CALL.search(call).groups()

@@ -53,7 +53,7 @@ frames-picked h q m c = shuffle-taken (shuffled h (split q 0 m) (apart q m c)) �
 
 -- ---- words
 
--- ten words for each slot of each face
+-- a slot's words for each slot of each face
 pub Even : List ℕ → List (List Reading) → Type 0
 Even sizes rs = (g : ℕ) → g < length sizes → length (flatMap slot.words (getD rs g [])) ≡ slotWords * slotsOf (getD sizes g 0)
 

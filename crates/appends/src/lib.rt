@@ -5,7 +5,7 @@ ghost use mathlib.Core.List.{_++_};
 ghost use Prim.Native.Nat.{_+_, _*_, _≤_, _<_};
 ghost use lib.ListN.{length, drop};
 ghost use Rattle.words.specs.Words.{wordValues};
-ghost use Rattle.blocks.specs.declared.Kind.the-variants.{Ten};
+ghost use Rattle.blocks.specs.declared.Kind.the-variants.{Twelve};
 ghost use Rattle.blocks.specs.Format.{recordsUsed, blocksFor};
 ghost use Rattle.cards.specs.Writer.{recordsOf, cardBytes};
 ghost use Rattle.appends.specs.Next as next;
@@ -65,11 +65,11 @@ pub fn next_block_as(kind: Kind, long: usize, total: u32) -> Next
     }
 }
 
-// What comes next on a card whose records have ten words.
+// What comes next on a card whose records are slots.
 pub fn next_block(long: usize, total: u32) -> Next
-    ensures { λ r. ⌜ Follows Ten long total r ⌝ }
+    ensures { λ r. ⌜ Follows Twelve long total r ⌝ }
 {
-    next_block_as(Kind::Ten, long, total)
+    next_block_as(Kind::Twelve, long, total)
 }
 
 // Whether so many records are those of block b and of the blocks after it: full ones, or all that is left.
@@ -122,11 +122,11 @@ pub fn append_as(kind: Kind, long: usize, total: u32, records: &[u32], lent: &mu
     }
 }
 
-// The blocks of these records of ten words.
+// The blocks of these records, which are slots.
 pub fn append(long: usize, total: u32, records: &[u32], lent: &mut [u8]) -> Appended
-    ensures { λ r. ⌜ Appends Ten long total (now (records .entry)) (now (lent .entry)) r (now (lent .exit)) ⌝ }
+    ensures { λ r. ⌜ Appends Twelve long total (now (records .entry)) (now (lent .entry)) r (now (lent .exit)) ⌝ }
 {
-    append_as(Kind::Ten, long, total, records, lent)
+    append_as(Kind::Twelve, long, total, records, lent)
 }
 
 // A refusal.

@@ -49,7 +49,7 @@ spare = 0 ∷ 0 ∷ 0 ∷ []
 unfoldable pub blocksFor : Kind → ℕ → ℕ
 blocksFor kind n = (n + (recordsHeld kind - 1)) / recordsHeld kind
 
--- 'records used (1 to 12)': how many of n records are in block b
+-- 'records used (1 to 12)', 1 to 10 in E7's kind: how many of n records are in block b
 unfoldable pub recordsUsed : Kind → ℕ → ℕ → ℕ
 recordsUsed kind n b = min (recordsHeld kind) (n - recordsHeld kind * b)
 
@@ -61,11 +61,11 @@ usedWords kind n b = recordWords kind * recordsUsed kind n b
 unfoldable pub recordsIn : Kind → ℕ → ℕ → List ℕ → List ℕ
 recordsIn kind n b l = part (roomWords * b) (usedWords kind n b) l
 
--- 'block number from 0, records used (1 to 12), total records, four zero words', the first of which is the kind's word
+-- 'block number from 0, records used .., total records, four zero words', the first of which is the kind's word
 unfoldable pub header : Kind → ℕ → ℕ → List ℕ
 header kind n b = b ∷ recordsUsed kind n b ∷ n ∷ kindWord kind ∷ spare
 
--- all words but the last: '.. 12 records of ten words (unused ones zero)'
+-- all words but the last: '.. 12 records of ten words (unused ones zero)', or ten of twelve
 unfoldable pub body : Kind → ℕ → ℕ → List ℕ → List ℕ
 body kind n b rs = header kind n b ++ rs ++ replicate (roomWords - usedWords kind n b) 0
 

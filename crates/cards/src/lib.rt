@@ -5,7 +5,7 @@ ghost use lib.ListN.{length, getD, drop};
 ghost use mathlib.Core.List.{_++_};
 ghost use lib.Dec.{leb};
 ghost use Rattle.lists.specs.Parts.{everyBelow};
-ghost use Rattle.blocks.specs.declared.Kind.the-variants.{Ten};
+ghost use Rattle.blocks.specs.declared.Kind.the-variants.{Twelve};
 ghost use Rattle.blocks.specs.Format.{recordWords, blocksFor};
 ghost use Rattle.cards.specs.Writer as writer;
 ghost use Rattle.cards.specs.Reader as reader;
@@ -96,11 +96,11 @@ pub fn write_as(kind: Kind, answer: &[u32], card: &mut [u8]) -> Written
     }
 }
 
-// Answer words of ten a record to a card.
+// Slots to a card, of the kind that holds them whole.
 pub fn write(answer: &[u32], card: &mut [u8]) -> Written
-    ensures { λ r. ⌜ Writes Ten (now (answer .entry)) (now (card .entry)) r (now (card .exit)) ⌝ }
+    ensures { λ r. ⌜ Writes Twelve (now (answer .entry)) (now (card .entry)) r (now (card .exit)) ⌝ }
 {
-    write_as(Kind::Ten, answer, card)
+    write_as(Kind::Twelve, answer, card)
 }
 
 // All records of a card.
@@ -139,9 +139,9 @@ pub fn read_as(kind: Kind, card: &[u8], total: u32, answer: &mut [u32]) -> CardF
     }
 }
 
-// The records of ten words of a card.
+// The slots of a card.
 pub fn read(card: &[u8], total: u32, answer: &mut [u32]) -> CardFound
-    ensures { λ r. ⌜ Reads Ten (now (card .entry)) total (now (answer .entry)) r (now (answer .exit)) ⌝ }
+    ensures { λ r. ⌜ Reads Twelve (now (card .entry)) total (now (answer .entry)) r (now (answer .exit)) ⌝ }
 {
-    read_as(Kind::Ten, card, total, answer)
+    read_as(Kind::Twelve, card, total, answer)
 }

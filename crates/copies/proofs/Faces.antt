@@ -61,7 +61,7 @@ by-triangle P (x ∷ l) h = every-cons (here (x .degenerate) h) (by-triangle P l
 
 -- the reading at the first corner of t at c's position
 abbrev pub equalCorner : List Brought → Triangle → Corner → Reading
-equalCorner bs t c = copied bs (first (λ s. equals (cornerOf s .place) (c .place)) (spots (t ∷ [])))
+equalCorner bs t c = copied true bs (first (λ s. equals (cornerOf s .place) (c .place)) (spots (t ∷ [])))
 
 module _ (bs : List Brought) (ss : List Triangle) (f : ℕ) where
   -- of a triangle x among the triangles ts of the face: what is final where it is degenerate and not marked, and where it is sound and marked

@@ -14,6 +14,8 @@ use Rattle.math.specs.Vector.{equals}
 use Rattle.tangent.specs.declared.Reading.{Reading}
 use Rattle.tangent.specs.declared.Reading.the-variants.{Absent}
 use Rattle.tangent.specs.Slot.{flag}
+use Rattle.tangent.specs.Space.{copyOf}
+use Rattle.tangent.specs.Held.{HeldReading}
 use Rattle.lists.specs.Loops.{upTo}
 use Rattle.table.specs.Table.{cell}
 use Rattle.table.specs.Columns.{cornerColumn, slotColumn, vertexColumn}
@@ -180,7 +182,7 @@ module _ (rows : ℕ) (ps : List Float) (w sizes : List ℕ) (ns ts : List Float
     missed = λ t h m. last-or-before (λ u. at u .marked ≡ true → Filled R u) q t h e (λ g n. F .missed t g n) m;
   }
 
-  module _ (T : Tells rows (handed sizes ps ns ts) ys d w) (W : Vertices rows ys d w) where
+  module _ (T : Tells rows (handed sizes ps ns ts) ys d w) (W : Vertices rows ys d w) (H : (f i : ℕ) → HeldReading (reading bs f i)) where
     -- ---- what is final, by the number of a triangle
 
     -- its corners have slots
@@ -218,23 +220,24 @@ module _ (rows : ℕ) (ps : List Float) (w sizes : List ℕ) (ns ts : List Float
       v = cell rows vertexColumn (row t i) w
 
       -- copied from the first sound one
-      from-sound : v < 3 * length ss → Goes sizes a₀ Fin R (λ Q. Ended Q t i) (copiedAt (cell rows slotColumn v w) (cell rows slotColumn (row t i) w) a)
+      from-sound : v < 3 * length ss → Goes sizes a₀ Fin R (λ Q. Ended Q t i) (copiedAt false (cell rows slotColumn v w) (cell rows slotColumn (row t i) w) a)
       unfolding fromSound copied slotOf cornerOf
       from-sound b =
           let u = v / 3 in
           let j = third (v % 3) in
           let k = tri-lt v (length ss) b in
-          one-final sizes a₀ Fin R (at t .face) (kept (at t) i .which) (R (at u .face) (kept (at u) j .which)) _
-          (own u j k ∙ own-final u j k ∙ sym (broken-final t i l h m ∙ ap (copied bs) (first-sound (sound xs) (broken xs) d (kept (at t) i .corner) v (W t i h) b)))
-          ((λ z. copiedAt ((ap (λ (r : ℕ). cell rows slotColumn r w) (sym (row-is v)) ∙ T u (fewer u k) .slot j) z) (T t h .slot i z) a)
-          ∙ copy-shows sizes a₀ R a (at u .face) (kept (at u) j .which) (at t .face) (kept (at t) i .which) (slotted u (fewer u k) .has j) (slotted t h .has i) S)
+          let brought = own u j k ∙ own-final u j k in
+          one-final sizes a₀ Fin R (at t .face) (kept (at t) i .which) (copyOf false (R (at u .face) (kept (at u) j .which))) _
+          (ap (copyOf false) brought ∙ sym (broken-final t i l h m ∙ ap (copied false bs) (first-sound (sound xs) (broken xs) d (kept (at t) i .corner) v (W t i h) b)))
+          ((λ z. copiedAt false ((ap (λ (r : ℕ). cell rows slotColumn r w) (sym (row-is v)) ∙ T u (fewer u k) .slot j) z) (T t h .slot i z) a)
+          ∙ copy-shows sizes a₀ R a false (at u .face) (kept (at u) j .which) (at t .face) (kept (at t) i .which) (slotted u (fewer u k) .has j) (slotted t h .has i) (subst HeldReading (sym brought) (H (at u .face) (kept (at u) j .which))) S)
 
       -- absent where there is none
       from-none : 3 * length ss ≤ v → Goes sizes a₀ Fin R (λ Q. Ended Q t i) (clearedAt (cell rows slotColumn (row t i) w) a)
       unfolding fromSound copied slotOf cornerOf
       from-none b =
           one-final sizes a₀ Fin R (at t .face) (kept (at t) i .which) Absent _
-          (sym (broken-final t i l h m ∙ ap (copied bs) (no-sound (sound xs) (broken xs) d (kept (at t) i .corner) v (W t i h) b)))
+          (sym (broken-final t i l h m ∙ ap (copied false bs) (no-sound (sound xs) (broken xs) d (kept (at t) i .corner) v (W t i h) b)))
           (ap (λ (n : ℕ). clearedAt n a) (T t h .slot i) ∙ clear-shows sizes a₀ R a (at t .face) (kept (at t) i .which) (slotted t h .has i) S)
 
       -- either way the slot is final
@@ -242,7 +245,7 @@ module _ (rows : ℕ) (ps : List Float) (w sizes : List ℕ) (ns ts : List Float
       unfolding cornerCopied
       corner-turn = go (ltb v (3 * length ss)) refl
         where
-          go : (b : Bool) → ltb v (3 * length ss) ≡ b → Goes sizes a₀ Fin R (λ Q. Ended Q t i) (cond b (copiedAt (cell rows slotColumn v w) (cell rows slotColumn (row t i) w) a) (clearedAt (cell rows slotColumn (row t i) w) a))
+          go : (b : Bool) → ltb v (3 * length ss) ≡ b → Goes sizes a₀ Fin R (λ Q. Ended Q t i) (cond b (copiedAt false (cell rows slotColumn v w) (cell rows slotColumn (row t i) w) a) (clearedAt (cell rows slotColumn (row t i) w) a))
           go true e = from-sound (ltb-true v (3 * length ss) e)
           go false e = from-none (ltb-false v (3 * length ss) e)
 
@@ -349,15 +352,16 @@ module _ (rows : ℕ) (ps : List Float) (w sizes : List ℕ) (ns ts : List Float
 
       -- so the copy is final
       gone-turn : (R : ℕ → ℕ → Reading) (a : List ℕ) → Shows sizes R a₀ a → ((i : Third) → Ended R t i)
-          → Goes sizes a₀ Fin R (λ Q. Filled Q t) (copiedAt (cell rows slotColumn (equalAt rows ps w t) w) (missedAt rows slotColumn w t) a)
+          → Goes sizes a₀ Fin R (λ Q. Filled Q t) (copiedAt true (cell rows slotColumn (equalAt rows ps w t) w) (missedAt rows slotColumn w t) a)
       unfolding copied slotOf
       gone-turn R a S own =
           let E = equal-row here gone t gone-found in
           let j = E .spot in
-          one-final sizes a₀ Fin R (here .face) (here .missing) (R (here .face) (kept here j .which)) _
-          (own j ∙ own-final t j h ∙ sym (gone-final ∙ ap (copied bs) (E .spot-is)))
-          ((λ z. copiedAt ((ap (λ (r : ℕ). cell rows slotColumn r w) (gone-row ∙ E .row-at) ∙ told .slot j) z) (gone-word slotColumn (slotCount (take (here .face) sizes)) (told .slot one) z) a)
-          ∙ copy-shows sizes a₀ R a (here .face) (kept here j .which) (here .face) (here .missing) (slotted t (fewer t h) .has j) gone-slot S)
+          let brought = own j ∙ own-final t j h in
+          one-final sizes a₀ Fin R (here .face) (here .missing) (copyOf true (R (here .face) (kept here j .which))) _
+          (ap (copyOf true) brought ∙ sym (gone-final ∙ ap (copied true bs) (E .spot-is)))
+          ((λ z. copiedAt true ((ap (λ (r : ℕ). cell rows slotColumn r w) (gone-row ∙ E .row-at) ∙ told .slot j) z) (gone-word slotColumn (slotCount (take (here .face) sizes)) (told .slot one) z) a)
+          ∙ copy-shows sizes a₀ R a true (here .face) (kept here j .which) (here .face) (here .missing) (slotted t (fewer t h) .has j) gone-slot (subst HeldReading (sym brought) (H (here .face) (kept here j .which))) S)
 
     -- and nothing where it is not marked
     missing-turn : (p t : ℕ) (a : List ℕ) → t < length ss → Showing p t a → Showing p (suc t) (missingCopied rows ps w t a)
@@ -365,7 +369,7 @@ module _ (rows : ℕ) (ps : List Float) (w sizes : List ℕ) (ns ts : List Float
     missing-turn p t a h S = subst (λ (b : Bool). Showing p (suc t) (cond b after a)) (sym (marked-is t (fewer t h))) (go (at t .marked) refl)
       where
         after : List ℕ
-        after = copiedAt (cell rows slotColumn (equalAt rows ps w t) w) (missedAt rows slotColumn w t) a
+        after = copiedAt true (cell rows slotColumn (equalAt rows ps w t) w) (missedAt rows slotColumn w t) a
 
         go : (b : Bool) → at t .marked ≡ b → Showing p (suc t) (cond b after a)
         go true e =
@@ -443,5 +447,5 @@ module _ (rows : ℕ) (ps : List Float) (w sizes : List ℕ) (ns ts : List Float
 -- the same as the contract says it
 pub copied-frames : (rows n all : ℕ) (ps : List Float) (w a u : List ℕ) → u ≡ framesCopied rows n all ps w a → Copied rows n all ps w a u
 copied-frames rows n all ps w a u e = record {
-  final = λ sizes ns ts bs d a₀ en ea T W S. e ∙ (λ z. framesCopied rows (sym en z) (sym ea z) ps w a) ∙ shown rows ps w sizes ns ts bs d a₀ T W a S;
+  final = λ sizes ns ts bs d a₀ en ea T W H S. e ∙ (λ z. framesCopied rows (sym en z) (sym ea z) ps w a) ∙ shown rows ps w sizes ns ts bs d a₀ T W H a S;
 }

@@ -42,13 +42,13 @@ missing-same r first missing missing′ e f = e ∙ ap (missed first) f
 
 module _ (rows n : ℕ) (w : List ℕ) (r : ℕ) (a : List ℕ) (v to : ℕ) (H : v ≡ cell rows vertexColumn r w) (S : to ≡ cell rows slotColumn r w) where
   -- by whether the first corner welded to it is sound
-  by-limit : (b : Bool) → ltb v (3 * n) ≡ b → cornerCopied rows n w r a ≡ cond b (copiedAt (cell rows slotColumn v w) to a) (clearedAt to a)
+  by-limit : (b : Bool) → ltb v (3 * n) ≡ b → cornerCopied rows n w r a ≡ cond b (copiedAt false (cell rows slotColumn v w) to a) (clearedAt to a)
   unfolding cornerCopied
-  by-limit b e = (λ z. cond (ltb (sym H z) (3 * n)) (copiedAt (cell rows slotColumn (sym H z) w) (sym S z) a) (clearedAt (sym S z) a)) ∙ ap (λ (b : Bool). cond b (copiedAt (cell rows slotColumn v w) to a) (clearedAt to a)) e
+  by-limit b e = (λ z. cond (ltb (sym H z) (3 * n)) (copiedAt false (cell rows slotColumn (sym H z) w) (sym S z) a) (clearedAt (sym S z) a)) ∙ ap (λ (b : Bool). cond b (copiedAt false (cell rows slotColumn v w) to a) (clearedAt to a)) e
 
   -- it is
-  pub corner-copied : (from : ℕ) (u : List ℕ) → v < 3 * n → from ≡ cell rows slotColumn v w → u ≡ copiedAt from to a → u ≡ cornerCopied rows n w r a
-  corner-copied from u l f e = e ∙ ap (λ (k : ℕ). copiedAt k to a) f ∙ sym (by-limit true (lt-ltb v (3 * n) l))
+  pub corner-copied : (from : ℕ) (u : List ℕ) → v < 3 * n → from ≡ cell rows slotColumn v w → u ≡ copiedAt false from to a → u ≡ cornerCopied rows n w r a
+  corner-copied from u l f e = e ∙ ap (λ (k : ℕ). copiedAt false k to a) f ∙ sym (by-limit true (lt-ltb v (3 * n) l))
 
   -- it is not
   pub corner-cleared : (u : List ℕ) → 3 * n ≤ v → u ≡ clearedAt to a → u ≡ cornerCopied rows n w r a
@@ -105,11 +105,11 @@ module _ (rows : ℕ) (ps : List Float) (w : List ℕ) (t : ℕ) (a : List ℕ) 
   -- not marked: nothing is copied
   pub missing-unmarked : b ≡ false → a ≡ missingCopied rows ps w t a
   unfolding missingCopied
-  missing-unmarked e = sym (ap (λ (b : Bool). cond b (copiedAt (cell rows slotColumn (equalAt rows ps w t) w) (missedAt rows slotColumn w t) a) a) (sym M ∙ e))
+  missing-unmarked e = sym (ap (λ (b : Bool). cond b (copiedAt true (cell rows slotColumn (equalAt rows ps w t) w) (missedAt rows slotColumn w t) a) a) (sym M ∙ e))
 
   -- marked: the slot of the corner at row k is
-  pub missing-copied : (k from to : ℕ) (u : List ℕ) → b ≡ true → k ≡ equalAt rows ps w t → u ≡ copiedAt from to a → from ≡ cell rows slotColumn k w → to ≡ missedAt rows slotColumn w t → u ≡ missingCopied rows ps w t a
+  pub missing-copied : (k from to : ℕ) (u : List ℕ) → b ≡ true → k ≡ equalAt rows ps w t → u ≡ copiedAt true from to a → from ≡ cell rows slotColumn k w → to ≡ missedAt rows slotColumn w t → u ≡ missingCopied rows ps w t a
   unfolding missingCopied
   missing-copied k from to u e K U F T =
-      U ∙ (λ z. copiedAt ((F ∙ ap (λ (r : ℕ). cell rows slotColumn r w) K) z) (T z) a)
-      ∙ sym (ap (λ (b : Bool). cond b (copiedAt (cell rows slotColumn (equalAt rows ps w t) w) (missedAt rows slotColumn w t) a) a) (sym M ∙ e))
+      U ∙ (λ z. copiedAt true ((F ∙ ap (λ (r : ℕ). cell rows slotColumn r w) K) z) (T z) a)
+      ∙ sym (ap (λ (b : Bool). cond b (copiedAt true (cell rows slotColumn (equalAt rows ps w t) w) (missedAt rows slotColumn w t) a) a) (sym M ∙ e))

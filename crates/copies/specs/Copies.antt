@@ -1,13 +1,14 @@
 -- Step 9 by the words of the work list and the answer list, and what it stands for. Definitions only.
 use Prim.Native.Nat.{ℕ, _+_, _*_, _-_}
 use mathlib.Core.Path.{_≡_}
-use mathlib.Core.Bool.{cond}
+use mathlib.Core.Bool.{true, false, cond}
 use mathlib.Core.List.{List, _++_}
 use lib.Dec.{eqb, ltb}
 use lib.ListN.{length}
 use lib.Ieee.{Float}
 use Rattle.math.specs.declared.Vec3.{Vec3}
 use Rattle.math.specs.Vector.{equals}
+use Rattle.tangent.specs.Held.{HeldReading}
 use Rattle.lists.specs.Loops.{upTo}
 use Rattle.table.specs.Table.{cell}
 use Rattle.table.specs.Columns.{cornerColumn, slotColumn, nameColumn, vertexColumn}
@@ -30,7 +31,7 @@ unfoldable pub cornerCopied : ℕ → ℕ → List ℕ → ℕ → List ℕ → 
 cornerCopied rows n w r a =
     let v = cell rows vertexColumn r w in
     let to = cell rows slotColumn r w in
-    cond (ltb v (3 * n)) (copiedAt (cell rows slotColumn v w) to a) (clearedAt to a)
+    cond (ltb v (3 * n)) (copiedAt false (cell rows slotColumn v w) to a) (clearedAt to a)
 
 -- the three corners of triangle t have, unless it is marked
 unfoldable pub triangleCopied : ℕ → ℕ → List ℕ → ℕ → List ℕ → List ℕ
@@ -66,7 +67,7 @@ equalAt rows ps w t = keptAt rows ps w t (vectorAt ps (missedAt rows cornerColum
 -- the missing corner of the quad of triangle t has copied that corner, if the quad is marked
 unfoldable pub missingCopied : ℕ → List Float → List ℕ → ℕ → List ℕ → List ℕ
 missingCopied rows ps w t a =
-    let u = copiedAt (cell rows slotColumn (equalAt rows ps w t) w) (missedAt rows slotColumn w t) a in
+    let u = copiedAt true (cell rows slotColumn (equalAt rows ps w t) w) (missedAt rows slotColumn w t) a in
     cond (markedAt rows w t) u a
 
 -- those of the triangles before number t have
@@ -79,7 +80,7 @@ missingsCopied rows ps w t a = upTo t (missingCopied rows ps w) a
 unfoldable pub framesCopied : ℕ → ℕ → ℕ → List Float → List ℕ → List ℕ → List ℕ
 framesCopied rows n all ps w a = missingsCopied rows ps w n (brokenCopied rows n w all a)
 
--- What is left in the answer list, where the columns hold the triangles of a mesh, the n sound ones first, and the answer list shows what was brought to each slot: it shows the final readings.
+-- What is left in the answer list, where the columns hold the triangles of a mesh, the n sound ones first, and the answer list shows what was brought to each slot, in numbers of single precision: it shows the final readings.
 pub record Copied (rows n all : ℕ) (ps : List Float) (w a u : List ℕ) : Type 0 where
   pub final : (sizes : List ℕ) (ns ts : List Float) (bs : List Brought) (d : Triangle) (a₀ : List ℕ)
       → let mesh = handed sizes ps ns ts in
@@ -88,5 +89,6 @@ pub record Copied (rows n all : ℕ) (ps : List Float) (w a u : List ℕ) : Type
       → length (sound xs ++ broken xs) ≡ all
       → Tells rows mesh (sound xs ++ broken xs) d w
       → Vertices rows (sound xs ++ broken xs) d w
+      → ((f i : ℕ) → HeldReading (reading bs f i))
       → Shows sizes (reading bs) a₀ a
       → Shows sizes (finalAt bs (sound xs) (meshOf mesh)) a₀ u

@@ -20,7 +20,7 @@ fn copy_corner(work: &[u32], rows: usize, sound: usize, r: usize, answer: &mut [
     let to = records::slot_at(work, rows, r) as usize;
     if first < 3 * sound {
         let from = records::slot_at(work, rows, first) as usize;
-        slots::copy(answer, from, to);
+        slots::copy(answer, from, to, false);
         return;
     }
     slots::clear(answer, to);
@@ -130,7 +130,7 @@ fn copy_missing(work: &[u32], rows: usize, positions: &[f32], t: usize, answer: 
     let row = equal_at(work, rows, positions, t);
     let kept = records::slot_at(work, rows, row) as usize;
     let gone = missed_of(work, rows, t, records::slot_at(work, rows, 3 * t));
-    slots::copy(answer, kept, gone);
+    slots::copy(answer, kept, gone, true);
 }
 
 // Of all sound triangles.

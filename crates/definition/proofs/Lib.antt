@@ -1,4 +1,3 @@
 pub mod Samples
-pub mod SamplesOld
 pub mod Lengths
 pub mod Order

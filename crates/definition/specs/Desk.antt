@@ -1,4 +1,4 @@
--- Document 01, 'When the desk says no', as request E4 amends it: the table of refusals. Definitions only.
+-- Document 01, 'When the desk says no', as requests E4, E7 and E8 amend it: the table of refusals. Definitions only.
 use Prim.Native.Nat.{ℕ, suc, _+_, _*_}
 use mathlib.Core.Bool.{Bool, true, false, cond, not, _&&_, _||_}
 use mathlib.Core.List.{List, [], _∷_}
@@ -93,7 +93,7 @@ shown mesh h answer work = record { mesh = mesh; threshold = h; answer = answer;
 abbrev pub atDesk : Call → Shown
 atDesk x = shown (x .mesh) (x .threshold) (length (x .answer)) (length (x .work))
 
--- the rows in the table's order; 7 is 'checked right after 4'
+-- the rows in the table's order; 7 is 'checked right after 4', and by E7 'refusal 5 .. speak[s] of 12S'
 unfoldable pub table : Shown → List Row
 table x =
     record { number = 1; applies = tooMany (x .mesh .sizes); place = 0 }

@@ -11,7 +11,7 @@ use Rattle.definition.specs.Handed.{Call, meshOf, slotCount}
 use Rattle.definition.specs.Frames.{frames}
 use Rattle.definition.specs.Desk.{Row, atDesk, verdict}
 
--- the words of all slots: 'Slots run by face, then by corner', each of them ten words
+-- the words of all slots: 'Slots run by face, then by corner', each of them as many words as a slot has
 unfoldable pub answerWords : List (List Reading) → List ℕ
 answerWords rs = flatMap (flatMap slot.words) rs
 
@@ -23,7 +23,7 @@ pub record Result : Type 0 where
   pub answer : List ℕ
   pub work : List ℕ
 
--- 'Acceptance returns 0, 0 and S, writes the first 10S answer words, sets the first 128F work words to zero and alters nothing past them'
+-- 'Acceptance returns 0, 0 and S, writes the first 10S answer words' (12S by request E7), 'sets the first 128F work words to zero and alters nothing past them'
 unfoldable pub accepted : Call → Result
 accepted x =
     record {

@@ -11,7 +11,8 @@ use Rattle.angle.specs.Angle.{angle}
 use Rattle.math.specs.declared.Vec3.{Vec3}
 use Rattle.math.specs.Vector.{added, subtracted, scaledBy, dot, unitOf}
 use Rattle.tangent.specs.declared.RawTangentSpace.{RawTangentSpace}
-use Rattle.tangent.specs.Space.{zeroTangent}
+use Rattle.tangent.specs.declared.Evaluated.{Evaluated}
+use Rattle.tangent.specs.Space.{zeroTangent, counted}
 use Rattle.definition.specs.declared.Corner.{Corner}
 use Rattle.definition.specs.declared.Triangle.{Triangle}
 use Rattle.definition.specs.declared.Sum.{Sum}
@@ -37,9 +38,9 @@ subgroup h ss ms m =
     let g = members ms m in
     keep (λ t. has (λ k. sameTriangle (k .spot .tri) t) g && joins h (cornerOf (m .spot) .normal) (m .spot .tri) t) ss
 
--- no contribution yet. (A sum is the struct of src/lib.rt: of the angles, and of the tangents weighted by them.)
+-- no contribution yet. (A sum is the struct of src/lib.rt: of the angles, and of the tangents weighted by them, and how many there were.)
 abbrev pub emptySum : Sum
-emptySum = record { angles = zeroᶠ; weighted = zeroTangent }
+emptySum = record { angles = zeroᶠ; weighted = zeroTangent; behind = 0 }
 
 -- the angle at a corner, between its two sides, each projected
 unfoldable pub opening : Spot → Float
@@ -62,6 +63,7 @@ weighed z w n t =
             «s_magnitude» = z .weighted .«s_magnitude» +ᶠ w *ᶠ t .«s_magnitude»;
             «t_magnitude» = z .weighted .«t_magnitude» +ᶠ w *ᶠ t .«t_magnitude»;
           };
+      behind = counted (z .behind) 1;
     }
 
 -- the contribution of the corner that was found
@@ -73,26 +75,30 @@ addSpot z (some s) = weighed z (opening s) (cornerOf s .normal) (s .tri .tangent
 unfoldable pub contribute : Corner → Sum → Triangle → Sum
 contribute c z t = let r = addSpot z (cornerIn c t) in cond (t .any) z r
 
--- the sum made a tangent space: directions to unit length, magnitudes over the sum of the angles where that is above zero
-unfoldable pub finish : Sum → RawTangentSpace
+-- the sum made a tangent space: directions to unit length, magnitudes over the sum of the angles where that is above zero; request E7: and how many triangles stood behind it, which are those that add
+unfoldable pub finish : Sum → Evaluated
 finish z =
     let k = Ieee.lt zeroᶠ (z .angles) in
     record {
-      s = unitOf (z .weighted .s);
-      t = unitOf (z .weighted .t);
-      «s_magnitude» = cond k (z .weighted .«s_magnitude» /ᶠ z .angles) (z .weighted .«s_magnitude»);
-      «t_magnitude» = cond k (z .weighted .«t_magnitude» /ᶠ z .angles) (z .weighted .«t_magnitude»);
+      space =
+          record {
+            s = unitOf (z .weighted .s);
+            t = unitOf (z .weighted .t);
+            «s_magnitude» = cond k (z .weighted .«s_magnitude» /ᶠ z .angles) (z .weighted .«s_magnitude»);
+            «t_magnitude» = cond k (z .weighted .«t_magnitude» /ᶠ z .angles) (z .weighted .«t_magnitude»);
+          };
+      behind = z .behind;
     }
 
 -- 'as in `evaluate_tangent_space`': triangles in order, at the corner c
-unfoldable pub evaluate : Corner → List Triangle → RawTangentSpace
+unfoldable pub evaluate : Corner → List Triangle → Evaluated
 evaluate c ts = finish (run (contribute c) emptySum ts)
 
--- what a member brings to its slot: the slot's face and corner, the tangent space, its group's orientation
+-- what a member brings to its slot: the slot's face and corner, what its subgroup gave, its group's orientation
 pub record Brought : Type 0 where
   pub face : ℕ
   pub slot : ℕ
-  pub value : RawTangentSpace
+  pub value : Evaluated
   pub orientation : Bool
 
 -- what one member brings

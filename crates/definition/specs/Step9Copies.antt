@@ -1,12 +1,13 @@
 -- Step 9: corners of degenerate triangles copy. Definitions only.
 use Prim.Native.Nat.{ℕ, suc}
-use mathlib.Core.Bool.{cond}
+use mathlib.Core.Bool.{Bool, true, false, cond}
 use mathlib.Core.List.{List, [], _∷_, map}
 use mathlib.Core.Option.{Option, none, some}
 use lib.Dec.{eqb}
 use Rattle.math.specs.Vector.{equals}
 use Rattle.tangent.specs.declared.Reading.{Reading}
 use Rattle.tangent.specs.declared.Reading.the-variants.{Absent}
+use Rattle.tangent.specs.Space.{copyOf}
 use Rattle.definition.specs.declared.Corner.{Corner}
 use Rattle.definition.specs.declared.Kept.{Kept}
 use Rattle.definition.specs.declared.Triangle.{Triangle}
@@ -17,19 +18,19 @@ use Rattle.definition.specs.Step4Order.{isSound, spots, welded}
 use Rattle.definition.specs.Step7Sums.{Brought}
 use Rattle.definition.specs.Step8Slots.{reading}
 
--- the reading of a corner's slot; 'where there is none it stays absent'
-unfoldable pub copied : List Brought → Option Spot → Reading
-copied bs none = Absent
-copied bs (some s) = reading bs (s .tri .face) (slotOf s)
+-- a copy of the reading of a corner's slot, within a quad or not; 'where there is none it stays absent'
+unfoldable pub copied : Bool → List Brought → Option Spot → Reading
+copied quad bs none = Absent
+copied quad bs (some s) = copyOf quad (reading bs (s .tri .face) (slotOf s))
 
 -- 'Each corner of a degenerate triangle whose face isn't a marked quad copies the first sound corner welded to it, absent or not'
 unfoldable pub fromSound : List Brought → List Triangle → Corner → Reading
-fromSound bs ss c = copied bs (first (λ s. welded c (cornerOf s)) (spots ss))
+fromSound bs ss c = copied false bs (first (λ s. welded c (cornerOf s)) (spots ss))
 
 -- 'Then in each marked quad the missing corner copies the first kept corner of equal position': slot number i of a marked quad whose sound triangle is t
 unfoldable pub fromKept : List Brought → Triangle → ℕ → Corner → Reading
 fromKept bs t i c =
-    let r = copied bs (first (λ s. equals (cornerOf s .place) (c .place)) (spots (t ∷ []))) in
+    let r = copied true bs (first (λ s. equals (cornerOf s .place) (c .place)) (spots (t ∷ []))) in
     cond (eqb i (t .missing)) r (reading bs (t .face) i)
 
 -- the same, where the sound triangle of the quad was found

@@ -42,8 +42,9 @@ pub struct Triangle {
     pub tangent: RawTangentSpace,
 }
 
-// A sum of contributions (step 7): of the angles, and of the tangents weighted by them.
+// A sum of contributions (step 7): of the angles, and of the tangents weighted by them; and how many there were (request E7).
 pub struct Sum {
     pub angles: f32,
     pub weighted: RawTangentSpace,
+    pub behind: u32,
 }

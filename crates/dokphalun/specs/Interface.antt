@@ -3,4 +3,4 @@ use Prim.Native.Nat.{ℕ}
 
 -- the edition of the interface: one more whenever a call, a list or a number of it no longer means what it meant
 abbrev pub interfaceEdition : ℕ
-interfaceEdition = 2
+interfaceEdition = 3

@@ -7,7 +7,7 @@ ghost use Rattle.mesh.specs.Parts.{spanOf};
 ghost use Rattle.labels.specs.Labels.{Labels};
 ghost use Rattle.apart.specs.Call.{lists, Contract as Islands};
 ghost use Rattle.appends.specs.Contract.{Follows, Appends};
-ghost use Rattle.blocks.specs.declared.Kind.the-variants.{Ten};
+ghost use Rattle.blocks.specs.declared.Kind.the-variants.{Ten, Twelve};
 ghost use Rattle.cards.specs.Contract.{Writes, Reads};
 ghost use Rattle.packed.specs.Contract.{Packs, Unpacks};
 ghost use Rattle.examine.specs.Contract.{Examines, Hands};
@@ -15,6 +15,7 @@ ghost use Rattle.tangent.specs.Slot.{slotWords};
 ghost use Rattle.dokphalun.specs.Interface.{interfaceEdition};
 use appends::Appended;
 use appends::Next;
+use blocks::Kind;
 use cards::CardFound;
 use cards::Written;
 use examine::Examined;
@@ -29,7 +30,7 @@ use packed::Unpacked;
 const SLOT_WORDS: u32 = tangent::SLOT_WORDS as u32;
 
 // The edition of the interface.
-const INTERFACE: u32 = 2;
+const INTERFACE: u32 = 3;
 
 // How many words a slot has.
 #[no_mangle]
@@ -130,7 +131,7 @@ pub extern "C" fn dokphalun_frames_by_islands(
 // See cards::write.
 #[no_mangle]
 pub extern "C" fn dokphalun_card_write(answer: &[u32], card: &mut [u8]) -> Written
-    ensures { λ r. ⌜ Writes Ten (now (answer .entry)) (now (card .entry)) r (now (card .exit)) ⌝ }
+    ensures { λ r. ⌜ Writes Twelve (now (answer .entry)) (now (card .entry)) r (now (card .exit)) ⌝ }
 {
     cards::write(answer, card)
 }
@@ -138,7 +139,7 @@ pub extern "C" fn dokphalun_card_write(answer: &[u32], card: &mut [u8]) -> Writt
 // See cards::read.
 #[no_mangle]
 pub extern "C" fn dokphalun_card_read(card: &[u8], total: u32, answer: &mut [u32]) -> CardFound
-    ensures { λ r. ⌜ Reads Ten (now (card .entry)) total (now (answer .entry)) r (now (answer .exit)) ⌝ }
+    ensures { λ r. ⌜ Reads Twelve (now (card .entry)) total (now (answer .entry)) r (now (answer .exit)) ⌝ }
 {
     cards::read(card, total, answer)
 }
@@ -146,7 +147,7 @@ pub extern "C" fn dokphalun_card_read(card: &[u8], total: u32, answer: &mut [u32
 // See appends::next_block.
 #[no_mangle]
 pub extern "C" fn dokphalun_card_next(long: usize, total: u32) -> Next
-    ensures { λ r. ⌜ Follows Ten long total r ⌝ }
+    ensures { λ r. ⌜ Follows Twelve long total r ⌝ }
 {
     appends::next_block(long, total)
 }
@@ -159,9 +160,46 @@ pub extern "C" fn dokphalun_card_append(
     records: &[u32],
     lent: &mut [u8],
 ) -> Appended
-    ensures { λ r. ⌜ Appends Ten long total (now (records .entry)) (now (lent .entry)) r (now (lent .exit)) ⌝ }
+    ensures { λ r. ⌜ Appends Twelve long total (now (records .entry)) (now (lent .entry)) r (now (lent .exit)) ⌝ }
 {
     appends::append(long, total, records, lent)
+}
+
+// The four calls for a card of the old kind, of ten words a record: see cards::write_as.
+#[no_mangle]
+pub extern "C" fn dokphalun_old_card_write(records: &[u32], card: &mut [u8]) -> Written
+    ensures { λ r. ⌜ Writes Ten (now (records .entry)) (now (card .entry)) r (now (card .exit)) ⌝ }
+{
+    cards::write_as(Kind::Ten, records, card)
+}
+
+// See cards::read_as.
+#[no_mangle]
+pub extern "C" fn dokphalun_old_card_read(card: &[u8], total: u32, records: &mut [u32]) -> CardFound
+    ensures { λ r. ⌜ Reads Ten (now (card .entry)) total (now (records .entry)) r (now (records .exit)) ⌝ }
+{
+    cards::read_as(Kind::Ten, card, total, records)
+}
+
+// See appends::next_block_as.
+#[no_mangle]
+pub extern "C" fn dokphalun_old_card_next(long: usize, total: u32) -> Next
+    ensures { λ r. ⌜ Follows Ten long total r ⌝ }
+{
+    appends::next_block_as(Kind::Ten, long, total)
+}
+
+// See appends::append_as.
+#[no_mangle]
+pub extern "C" fn dokphalun_old_card_append(
+    long: usize,
+    total: u32,
+    records: &[u32],
+    lent: &mut [u8],
+) -> Appended
+    ensures { λ r. ⌜ Appends Ten long total (now (records .entry)) (now (lent .entry)) r (now (lent .exit)) ⌝ }
+{
+    appends::append_as(Kind::Ten, long, total, records, lent)
 }
 
 // See packed::pack.

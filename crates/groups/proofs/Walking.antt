@@ -1,22 +1,21 @@
 -- The walk over the columns is the definition's walk, at every depth. Assumes nothing.
-use Prim.Native.Nat.{ℕ, zero, suc, _+_, _*_, _-_, _/_, _%_, _≤_, _<_}
+use Prim.Native.Nat.{ℕ, zero, suc, _+_, _*_, _-_, _%_, _≤_, _<_}
 use native.Mathlib.Nat.{add-zero, add-suc}
 use native.Mathlib.Omega.{arith}
 use mathlib.Core.Path.{_≡_, refl, sym, _∙_, ap, subst}
-use mathlib.Core.Bool.{Bool, true, false, cond}
+use mathlib.Core.Bool.{Bool}
 use mathlib.Core.List.{List, [], _∷_, _++_}
 use mathlib.Core.Option.{Option, none, some}
 use lib.Dec.{eqb}
 use lib.ListN.{length, getD}
 use Rattle.tangent.specs.Slot.{flag}
 use Rattle.table.specs.Table.{cell}
-use Rattle.table.specs.Columns.{vertexColumn, linkColumn}
+use Rattle.table.specs.Columns.{vertexColumn}
 use Rattle.definition.specs.declared.Corner.{Corner}
 use Rattle.definition.specs.declared.Triangle.{Triangle}
-use Rattle.lists.specs.Lists.{keep}
 use Rattle.definition.specs.Mesh.{Third, one, two, three, Spot, before, prior, cornerOf}
 use Rattle.definition.specs.Step4Order.{spots, welded}
-use Rattle.definition.specs.Step5Links.{Link, beyond}
+use Rattle.definition.specs.Step5Links.{Link}
 use Rattle.definition.specs.Step6Groups.{Mark, cornerIn, overTo, over, going, walk, fan}
 use Rattle.laws.proofs.World.{welded-sym}
 use Rattle.laws.proofs.Enough.{Near, enough, open-fan}
@@ -27,10 +26,9 @@ use Rattle.neighbors.specs.Links.{linkOf}
 use Rattle.view.specs.Rows.{num, row, spotAt}
 use Rattle.view.specs.Links.{LinkWord, nowhere, towards}
 use Rattle.view.proofs.Rows.{row-div, spots-length}
-use Rattle.groups.specs.declared.Entry.{Entry}
-use Rattle.groups.specs.declared.Entry.the-variants.{At, Stop}
-use Rattle.groups.specs.Walk.{Entered, enter, Walk, walk as walkOf, follow, side, goOn, corner}
-use Rattle.groups.proofs.Entering.{Going, W, Enters, halts, goes, enters}
+use Rattle.groups.specs.Walk.{Entered, Walk, walk as walkOf, follow, side, goOn, corner}
+use Rattle.groups.proofs.Entering.{Going, Enters, halts, goes, enters}
+use Rattle.laws.proofs.Part.{keep-length}
 
 -- the number of the corner before
 num-before : (i : Third) → (num i + 2) % 3 ≡ num (before i)
@@ -105,15 +103,6 @@ module _ (rows : ℕ) (ss : List Triangle) (d : Triangle) (ls : List Link) (B : 
   in-step (suc m) ms s t h R = by-enters m (in-step m) ms (s .count) t h (enters rows ss d ls B N fits w₀ gs tg ig hg q G v last Ge ge n₀ N₀ B₀ m ms (s .work) (s .count) R t h (vertices ms s R t h))
 
 -- ---- more steps than there are corners change nothing
-
-keep-length : {X : Type 0} (p : X → Bool) (l : List X) → length (keep p l) ≤ length l
-unfolding keep
-keep-length p [] = omega arith
-keep-length p (x ∷ l) = step (p x) (keep-length p l)
-  where
-    step : (b : Bool) → length (keep p l) ≤ length l → length (cond b (x ∷ keep p l) (keep p l)) ≤ suc (length l)
-    step true h = omega arith
-    step false h = omega arith
 
 pub fan-le : (ss : List Triangle) (c : Corner) → fan ss c ≤ 3 * length ss
 unfolding fan

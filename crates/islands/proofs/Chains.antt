@@ -1,43 +1,18 @@
 -- Chains of faces, and when numbers given to faces are the lowest of their islands. Assumes nothing.
 use Prim.Native.Nat.{ℕ, zero, suc, _≤_, _<_}
-use native.Mathlib.Decide.{decLt}
 use native.Mathlib.Omega.{arith}
-use mathlib.Core.Path.{_≡_, refl, sym, _∙_, ap, subst}
-use mathlib.Core.Bool.{Bool, true, false, _||_, true≢false, false≢true}
-use mathlib.Core.List.{List, [], _∷_, List·Memᴰ, List·Memᴰ·head, List·Memᴰ·tail}
-use lib.ListN.{length, getD}
+use mathlib.Core.Path.{_≡_, refl, sym, _∙_}
+use mathlib.Core.Bool.{Bool, true, false, true≢false, false≢true}
+use mathlib.Core.List.{List, [], _∷_, List·Memᴰ}
+use lib.ListN.{length}
 use Rattle.definition.specs.declared.Corner.{Corner}
 use Rattle.definition.specs.Handed.{used}
 use Rattle.lists.specs.Lists.{has}
 use Rattle.definition.specs.Triangles.{usable}
 use Rattle.definition.specs.Step4Order.{welded}
 use Rattle.laws.proofs.World.{welded-sym}
-use Rattle.islands.specs.Islands.{faceAt, touch, touches, Chain, alone, onward, Lowest, counted, noIsland, Given, lowest, other}
-
--- ---- one that passes
-
--- x is in the list and passes
-pub record Passing {X : Type 0} (p : X → Bool) (l : List X) (x : X) : Type 0 where
-  pub among : List·Memᴰ x l
-  pub passes : p x ≡ true
-
-some-of : {X : Type 0} (p : X → Bool) (x : X) (l : List X) → (has p l ≡ true → (y : X) × Passing p l y) → (b : Bool) → p x ≡ b → (b || has p l) ≡ true → (y : X) × Passing p (x ∷ l) y
-some-of p x l r true q f = (x, record { among = List·Memᴰ·head refl; passes = q })
-some-of p x l r false q f = let s = r f in (s .0, record { among = List·Memᴰ·tail (s .1 .among); passes = s .1 .passes })
-
-pub has-some : {X : Type 0} (p : X → Bool) (l : List X) → has p l ≡ true → (x : X) × Passing p l x
-unfolding has
-has-some p [] e = absurd (false≢true e)
-has-some p (x ∷ l) e = some-of p x l (λ f. has-some p l f) (p x) refl e
-
-or-true : (a : Bool) → (a || true) ≡ true
-or-true true = refl
-or-true false = refl
-
-pub has-one : {X : Type 0} (p : X → Bool) (x : X) {l : List X} → List·Memᴰ x l → p x ≡ true → has p l ≡ true
-unfolding has
-has-one p x (List·Memᴰ·head {x = y} {xs = l} q) e = rw (sym (ap p q) ∙ e)
-has-one p x (List·Memᴰ·tail {x = y} {xs = l} m) e = rw (has-one p x m e) (or-true (p y))
+use Rattle.islands.specs.Islands.{faceAt, touch, touches, Chain, alone, onward, Lowest, counted, Given, lowest, other}
+use Rattle.laws.proofs.Part.{has-some, has-one}
 
 -- ---- touching
 

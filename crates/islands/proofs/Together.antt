@@ -26,8 +26,8 @@ use Rattle.lists.specs.Loops.{listOf}
 use Rattle.lists.proofs.Loops.{length-listOf, getD-listOf}
 use Rattle.islands.specs.Islands.{faceAt, touch, touches, counted, islandOf}
 use Rattle.islands.specs.Together.{picked, rank, Closed, inIsland, island, apartFrames, together}
-use Rattle.islands.proofs.Chains.{Passing, has-some, has-one}
 use Rattle.islands.proofs.Agree.{touching}
+use Rattle.laws.proofs.Part.{has-some, has-one}
 
 -- ---- those that pass, and the others, are a shuffle
 

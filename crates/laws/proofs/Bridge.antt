@@ -33,7 +33,7 @@ use Rattle.laws.proofs.Enough.{Near, walked, walked-eq}
 use Rattle.laws.proofs.Closed.{over-near, links-sound}
 use Rattle.definition.specs.Names.{Names, names-nil, names-cons}
 
--- ---- ten words a slot
+-- ---- the words of a slot
 
 pub all-words : (l : List Reading) → length (flatMap slot.words l) ≡ slotWords * length l
 unfolding flatMap
@@ -81,7 +81,7 @@ module _ (ps ns ts : List Float) where
       let d = all-length bs ss (suc k) (i + n) sizes in
       length-append (flatMap slot.words (faceReadings bs ss f)) _ ∙ omega arith
 
-  -- the answer has ten words for each of S slots
+  -- the answer has the words of S slots
   pub answer-length : (h : Float) (sizes : List ℕ) → length (answerWords (frames h (meshFrom ps ns ts 0 sizes))) ≡ slotWords * slotCount sizes
   unfolding frames framesOf
   answer-length h sizes = all-length _ _ 0 0 sizes

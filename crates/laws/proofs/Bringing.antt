@@ -9,7 +9,7 @@ use lib.Ieee.{Float}
 use Rattle.math.specs.declared.Vec3.{Vec3}
 use Rattle.tangent.specs.declared.RawTangentSpace.{RawTangentSpace}
 use Rattle.tangent.specs.declared.Reading.{Reading}
-use Rattle.tangent.specs.declared.Reading.the-variants.{Absent, Single, Combined}
+use Rattle.tangent.specs.declared.Reading.the-variants.{Absent, Single, Combined, Copied, Filled}
 use Rattle.bits.specs.Single.{zeroᶠ}
 use Rattle.tangent.specs.Space.{zeroTangent}
 use Rattle.definition.specs.declared.Corner.{Corner}
@@ -107,6 +107,8 @@ module _ (w : World) where
   put-moved Absent b o = refl
   put-moved (Single t v) b o = refl
   put-moved (Combined t v) b o = refl
+  put-moved (Copied t v) b o = refl
+  put-moved (Filled t v) b o = refl
 
   -- step 8
   pub reading-moved : {l k : List Brought} → Broughts l k → (f i : ℕ) → reading k (w .rho f) i ≡ reading l f i

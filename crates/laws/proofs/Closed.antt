@@ -2,7 +2,7 @@
 use Prim.Native.Nat.{ℕ, zero, suc}
 use mathlib.Core.Path.{_≡_, refl, sym, _∙_, ap}
 use mathlib.Core.Bool.{Bool, true, false, cond, not, _&&_, _||_}
-use mathlib.Core.List.{List, [], _∷_, _++_, List·Memᴰ, List·Memᴰ·head, List·Memᴰ·tail}
+use mathlib.Core.List.{List, [], _∷_, _++_, List·Memᴰ, List·Memᴰ·head, List·Memᴰ·tail, List·Memᴰ·not-nil}
 use mathlib.Core.Option.{Option, none, some}
 use Rattle.bits.proofs.Bools.{and-left}
 use Rattle.definition.specs.declared.Corner.{Corner}
@@ -110,3 +110,12 @@ module _ (ss : List Triangle) where
   pub over-near : (ls : List Link) → Between ls → (c : Corner) (s : Spot) → Each (Near ss c) (over ls c s)
   unfolding over
   over-near ls B c s = overTo-near c (beyond ls s) (beyond-known (λ t. Whole ss (t .tri)) B s)
+
+-- the corners of a triangle of the list are corners of the list
+pub corners-in : (l : List Triangle) (t : Triangle) (i : Third) → List·Memᴰ t l → List·Memᴰ (record { tri = t; at = i }) (spots l)
+unfolding spots
+corners-in [] t i h = absurd (List·Memᴰ·not-nil h)
+corners-in (x ∷ l) t one (List·Memᴰ·head e) = List·Memᴰ·head (λ z. record { tri = e z; at = one })
+corners-in (x ∷ l) t two (List·Memᴰ·head e) = List·Memᴰ·tail (List·Memᴰ·head (λ z. record { tri = e z; at = two }))
+corners-in (x ∷ l) t three (List·Memᴰ·head e) = List·Memᴰ·tail (List·Memᴰ·tail (List·Memᴰ·head (λ z. record { tri = e z; at = three })))
+corners-in (x ∷ l) t i (List·Memᴰ·tail h) = List·Memᴰ·tail (List·Memᴰ·tail (List·Memᴰ·tail (corners-in l t i h)))

@@ -6,7 +6,8 @@ use mathlib.Core.List.{List, [], _∷_, _++_, map}
 use mathlib.Core.Option.{Option, none, some}
 use lib.Dec.{eqb}
 use Rattle.tangent.specs.declared.Reading.{Reading}
-use Rattle.tangent.specs.declared.Reading.the-variants.{Absent, Single, Combined}
+use Rattle.tangent.specs.declared.Reading.the-variants.{Absent}
+use Rattle.tangent.specs.Space.{copyOf}
 use Rattle.math.specs.Vector.{equals}
 use Rattle.definition.specs.declared.Corner.{Corner}
 use Rattle.definition.specs.declared.Kept.{Kept}
@@ -28,17 +29,17 @@ use Rattle.laws.proofs.Bringing.{Broughts, reading-moved}
 
 module _ (w : World) where
   module _ {bs cs : List Brought} (q : Broughts w bs cs) where
-    copied-moved : (o : Option Spot) → copied cs (mapped (movedSpot w) o) ≡ copied bs o
+    copied-moved : (quad : Bool) (o : Option Spot) → copied quad cs (mapped (movedSpot w) o) ≡ copied quad bs o
     unfolding copied mapped movedSpot moved
-    copied-moved none = refl
-    copied-moved (some s) = rw (slot-moved w s) (reading-moved w q (s .tri .face) (slotOf s))
+    copied-moved quad none = refl
+    copied-moved quad (some s) = rw (slot-moved w s) (ap (copyOf quad) (reading-moved w q (s .tri .face) (slotOf s)))
 
     fromSound-moved : {ss ts : List Triangle} → Triangles w ss ts → (c : Corner) → w .OursC c → fromSound cs ts c ≡ fromSound bs ss c
     unfolding fromSound
     fromSound-moved {ss} {ts} r c h =
         let e : first (λ s. welded c (cornerOf s)) (spots ts) ≡ mapped (movedSpot w) (first (λ s. welded c (cornerOf s)) (spots ss)) =
         part-first _ _ (λ x g. ap (welded c) (corner-moved w x)) (λ y g. weld-theirs w c y h g) (spots-part w r) in
-        rw e (copied-moved (first (λ s. welded c (cornerOf s)) (spots ss)))
+        rw e (copied-moved false (first (λ s. welded c (cornerOf s)) (spots ss)))
 
     spots-one : (t : Triangle) → spots (moved w t ∷ []) ≡ map (movedSpot w) (spots (t ∷ []))
     unfolding spots movedSpot
@@ -49,7 +50,7 @@ module _ (w : World) where
     fromKept-moved t i c =
         let e : first (λ s. equals (cornerOf s .place) (c .place)) (spots (moved w t ∷ [])) ≡ mapped (movedSpot w) (first (λ s. equals (cornerOf s .place) (c .place)) (spots (t ∷ []))) =
         rw (spots-one t) (first-map (movedSpot w) (λ s. equals (cornerOf s .place) (c .place)) (λ s. equals (cornerOf s .place) (c .place)) (λ x. ap (λ d. equals (d .place) (c .place)) (corner-moved w x)) (spots (t ∷ []))) in
-        rw (e, copied-moved, reading-moved w q (t .face) i)
+        rw (e, copied-moved true, reading-moved w q (t .face) i)
 
     fromMarked-moved : (o : Option Triangle) (i : ℕ) (c : Corner) → fromMarked cs (mapped (moved w) o) i c ≡ fromMarked bs o i c
     unfolding fromMarked mapped

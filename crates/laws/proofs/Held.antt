@@ -54,7 +54,7 @@ unfolding run contribute
 run-held c [] z h = h
 run-held c (t ∷ l) z h = run-held c l (cond (t .any) z (addSpot z (cornerIn c t))) (either-held (t .any) z (addSpot z (cornerIn c t)) h (spot-held z (cornerIn c t) h))
 
-finish-held : (z : Sum) → HeldSpace (z .weighted) → HeldSpace (finish z)
+finish-held : (z : Sum) → HeldSpace (z .weighted) → HeldSpace (finish z .space)
 unfolding finish
 finish-held z h =
     record {
@@ -64,14 +64,14 @@ finish-held z h =
       t-magnitude-held = cond-fits binary32 (Ieee.lt zeroᶠ (z .angles)) (z .weighted .«t_magnitude» /ᶠ z .angles) (z .weighted .«t_magnitude») (div-fits binary32 (z .weighted .«t_magnitude») (z .angles)) (h .t-magnitude-held);
     }
 
-pub evaluate-held : (c : Corner) (l : List Triangle) → HeldSpace (evaluate c l)
+pub evaluate-held : (c : Corner) (l : List Triangle) → HeldSpace (evaluate c l .space)
 unfolding evaluate
 evaluate-held c l = finish-held (run (contribute c) emptySum l) (run-held c l emptySum zero-held)
 
 -- ---- what is brought, and readings
 
 abbrev HeldBrought : Brought → Type 0
-HeldBrought b = HeldSpace (b .value)
+HeldBrought b = HeldSpace (b .value .space)
 
 brought-held : (h : Float) (ss : List Triangle) (ms l : List Mark) → Every HeldBrought (map (bring h ss ms) l)
 unfolding bring
@@ -87,6 +87,11 @@ puts-held : (r : Reading) {l : List Brought} → HeldReading r → Every HeldBro
 unfolding run put
 puts-held r h every-nil = h
 puts-held r h (every-cons {x} p q) = puts-held _ (reached-held r (x .value) (x .orientation) h p) q
+
+-- the reading of a slot when all were brought
+pub readings-held : (h : Float) (ss : List Triangle) (ms : List Mark) (f i : ℕ) → HeldReading (reading (broughtAll h ss ms) f i)
+unfolding reading broughtAll
+readings-held h ss ms f i = puts-held Absent absent (every-keep (λ b. eqb (b .face) f && eqb (b .slot) i) (brought-held h ss ms ms))
 
 -- the reading of a slot when the first n of all were brought
 pub reading-held : (h : Float) (ss : List Triangle) (ms : List Mark) (n f i : ℕ) → HeldReading (reading (take n (broughtAll h ss ms)) f i)

@@ -16,7 +16,7 @@ use Rattle.lists.specs.Every.{Each, each-none, each-some, Every, every-nil, eve
 use Rattle.laws.proofs.World.{eqb-sym}
 use Rattle.laws.proofs.Enough.{spot-refl}
 use Rattle.bits.proofs.Bools.{and-left, and-right, beq-sym}
-use Rattle.laws.proofs.Closed.{first-found, Sound, all-sound, beyond-known, each-map}
+use Rattle.laws.proofs.Closed.{first-found, Sound, all-sound, beyond-known, each-map, spots-every, corners-in}
 use Rattle.laws.proofs.Shuffled.{every-mem}
 
 -- ---- names
@@ -69,6 +69,16 @@ apart-inj (apart-cons h r) s t (List·Memᴰ·head a) (List·Memᴰ·head b) e =
 apart-inj (apart-cons {s = x} h r) s t (List·Memᴰ·head a) (List·Memᴰ·tail n) e = absurd (true≢false (sym e ∙ (ap (λ y. sameSpot y t) a ∙ every-at h n)))
 apart-inj (apart-cons {s = x} h r) s t (List·Memᴰ·tail m) (List·Memᴰ·head b) e = absurd (true≢false (sym e ∙ (spot-sym s t ∙ (ap (λ y. sameSpot y s) b ∙ every-at h m))))
 apart-inj (apart-cons h r) s t (List·Memᴰ·tail m) (List·Memᴰ·tail n) e = apart-inj r s t m n e
+
+-- a corner of the list is a corner of a triangle of the list
+pub corner-tri : (l : List Triangle) (s : Spot) → List·Memᴰ s (spots l) → List·Memᴰ (s .tri) l
+corner-tri l s h = every-at (spots-every (every-mem (λ t. List·Memᴰ t l) l (λ t k. k))) h
+
+-- one name, one triangle
+pub one-name : {ss : List Triangle} → Names ss → (s t : Triangle) → List·Memᴰ s ss → List·Memᴰ t ss → sameTriangle s t ≡ true → s ≡ t
+unfolding sameSpot sameThird
+one-name {ss} N s t h k e =
+    ap (λ (x : Spot). x .tri) (apart-inj (spots-apart N) (record { tri = s; at = one }) (record { tri = t; at = one }) (corners-in ss s one h) (corners-in ss t one k) (λ i. e i && true))
 
 -- ---- no side is linked twice
 

@@ -1,9 +1,11 @@
 -- Steps 1 to 4 in a shuffle: the triangles of a mesh are a part of the triangles of the larger one. Assumes nothing.
-use Prim.Native.Nat.{ℕ, zero, suc}
+use Prim.Native.Nat.{ℕ, zero, suc, _*_, _≤_}
+use native.Mathlib.Omega.{arith}
 use mathlib.Core.Path.{_≡_, refl, sym, _∙_, ap}
 use mathlib.Core.Bool.{Bool, true, false, cond}
 use mathlib.Core.List.{List, [], _∷_, _++_, map}
 use lib.Dec.{eqb}
+use lib.ListN.{length, length-append}
 use Rattle.definition.specs.declared.Corner.{Corner}
 use Rattle.definition.specs.declared.Kept.{Kept}
 use Rattle.definition.specs.declared.Triangle.{Triangle}
@@ -12,6 +14,7 @@ use Rattle.definition.specs.Step1Cut.{cut02}
 use Rattle.definition.specs.Step3Tangents.{quadWay, area}
 use Rattle.definition.specs.Step4Order.{isSound, sound, broken, spots}
 use Rattle.definition.specs.Triangles.{make, settled, agree, pair, nook, quad, usable, pieces, triangles}
+use Rattle.definition.specs.Frames.{numbered}
 use Rattle.lists.specs.Every.{Every, every-nil, every-cons}
 use Rattle.laws.proofs.Part.{Part, nothing, mine, other, all-mine, all-other, part-append, part-keep, every-map, every-append, every-cond}
 use Rattle.laws.proofs.World.{World, OursT, TheirsT, moved, movedSpot, OursS, TheirsS}
@@ -122,3 +125,27 @@ module _ (w : World) where
   spots-part nothing = nothing
   spots-part (mine o r) = mine o (mine o (mine o (spots-part r)))
   spots-part (other o r) = other o (other o (other o (spots-part r)))
+
+-- ---- a face has two triangles at most
+
+pub few-cond : (b : Bool) (l k : List Triangle) → length l ≤ 2 → length k ≤ 2 → length (cond b l k) ≤ 2
+few-cond true l k p q = p
+few-cond false l k p q = q
+
+pub pieces-few : (f : ℕ) (cs : List Corner) → length (pieces f cs) ≤ 2
+unfolding pieces quad pair
+pieces-few f [] = omega arith
+pieces-few f (c0 ∷ []) = omega arith
+pieces-few f (c0 ∷ c1 ∷ []) = omega arith
+pieces-few f (c0 ∷ c1 ∷ c2 ∷ []) = omega arith
+pieces-few f (c0 ∷ c1 ∷ c2 ∷ c3 ∷ []) = few-cond (cut02 c0 c1 c2 c3) _ _ (omega arith) (omega arith)
+pieces-few f (c0 ∷ c1 ∷ c2 ∷ c3 ∷ c4 ∷ l) = omega arith
+
+pub triangles-few : (n : ℕ) (m : List (List Corner)) → length (triangles (numbered n m)) ≤ 2 * length m
+unfolding triangles numbered
+triangles-few n [] = omega arith
+triangles-few n (c ∷ m) =
+    let a = pieces-few n c in
+    let b = triangles-few (suc n) m in
+    let e = length-append (pieces n c) (triangles (numbered (suc n) m)) in
+    omega (arith, a, b, e)

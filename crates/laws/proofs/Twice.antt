@@ -22,14 +22,12 @@ use Rattle.definition.specs.Frames.{numbered}
 use Rattle.lists.specs.Every.{Every, every-nil, every-cons}
 use Rattle.laws.proofs.Part.{every-append, every-map, every-keep, every-pair, keep-passes, keep-map}
 use Rattle.bits.proofs.Bools.{and-left, and-right, beq-refl}
-use Rattle.laws.proofs.Closed.{Whole}
 use Rattle.definition.specs.Names.{Names}
-use Rattle.laws.proofs.Mutual.{spots-apart, apart-inj, every-at}
+use Rattle.laws.proofs.Mutual.{every-at, one-name, corner-tri}
 use Rattle.laws.proofs.Closed.{Between, links-sound}
 use Rattle.laws.proofs.Laws.{Once, once-nil, once-cons, at-most-one, marks-inside}
 use Rattle.laws.proofs.Numbers.{names-keep, triangles-names}
-use Rattle.laws.proofs.Enough.{third-refl}
-use Rattle.laws.proofs.Closed.{spots-every, spots-whole}
+use Rattle.laws.proofs.Closed.{spots-every}
 
 -- ---- a triangle's three corners are three of its face
 pub record Plain (t : Triangle) : Type 0 where
@@ -98,17 +96,6 @@ module _ (ss : List Triangle) (ls : List Link) (B : Between ss ls) (names : Name
     pub of-face : m .spot .tri .face ≡ f
     pub of-slot : slotOf (m .spot) ≡ i
 
-  whole : (s : Spot) → List·Memᴰ s (spots ss) → Whole ss (s .tri)
-  whole s h = every-at (spots-whole ss ss (λ x m. m)) h
-
-  -- one name, one triangle
-  same-triangle : (s t : Spot) → List·Memᴰ s (spots ss) → List·Memᴰ t (spots ss) → sameTriangle (s .tri) (t .tri) ≡ true → s .tri ≡ t .tri
-  unfolding sameSpot
-  same-triangle s t h k e =
-      ap (λ (x : Spot). x .tri)
-      (apart-inj (spots-apart names) (record { tri = s .tri; at = one }) (record { tri = t .tri; at = one }) (whole s h .at one) (whole t k .at one)
-      (rw (e, third-refl one)))
-
   plain-at : (s : Spot) → List·Memᴰ s (spots ss) → Plain (s .tri)
   plain-at s h = every-at (spots-every plain) h
 
@@ -119,7 +106,7 @@ module _ (ss : List Triangle) (ls : List Link) (B : Between ss ls) (names : Name
       let s = m .spot in
       let t = k .spot in
       let name : sameTriangle (s .tri) (t .tri) ≡ true = ap (λ (x : Bool). x && Bool·beq (s .tri .second) (t .tri .second)) (eq-eqb (s .tri .face) (t .tri .face) (a .of-face ∙ sym (b .of-face))) ∙ (ap (λ (x : Bool). Bool·beq x (t .tri .second)) e ∙ beq-refl (t .tri .second)) in
-      let same = same-triangle s t (a .inside) (b .inside) name in
+      let same = one-name names (s .tri) (t .tri) (corner-tri ss s (a .inside)) (corner-tri ss t (b .inside)) name in
       let place : sameThird (s .at) (t .at) ≡ true =
       sym (plain-at t (b .inside) .slots (s .at) (t .at))
       ∙ eq-eqb (kept (t .tri) (s .at) .which) (kept (t .tri) (t .at) .which) (ap (λ (x : Triangle). kept x (s .at) .which) (sym same) ∙ (a .of-slot ∙ sym (b .of-slot))) in

@@ -17,7 +17,8 @@ use Rattle.definition.specs.Triangles.{pair, quad, pieces, triangles}
 use Rattle.definition.specs.Frames.{numbered}
 use Rattle.listing.specs.Listing.{Added, pick, restFrom, piecesOf, pieceCount}
 use Rattle.listing.proofs.Laws.{added-none}
-use Rattle.listing.proofs.Whole.{split-length, few-cond}
+use Rattle.listing.proofs.Whole.{split-length}
+use Rattle.laws.proofs.Pieces.{few-cond}
 
 more : (l : List ℕ) (i : ℕ) → i < length l → pieceCount (take (suc i) l) ≡ pieceCount (take i l) + piecesOf (getD l i 0)
 unfolding pieceCount

@@ -1,24 +1,23 @@
 -- The two passes together. Assumes nothing.
-use Prim.Native.Nat.{ℕ, zero, suc, _+_, _*_, _≤_, _<_}
+use Prim.Native.Nat.{ℕ, suc, _+_, _*_, _≤_}
 use native.Mathlib.Omega.{arith}
-use mathlib.Core.Path.{_≡_, refl, sym, _∙_, ap, subst}
+use mathlib.Core.Path.{_≡_, refl, _∙_, ap, subst}
 use mathlib.Core.Bool.{Bool, true, false, cond, not, Bool·beq}
 use mathlib.Core.List.{List, [], _∷_, _++_}
 use lib.ListN.{length, length-append}
 use lib.Ieee.{Float}
 use Rattle.table.specs.Columns.{rowsOf}
-use Rattle.definition.specs.declared.Corner.{Corner}
 use Rattle.definition.specs.declared.Triangle.{Triangle}
 use Rattle.lists.specs.Lists.{keep}
 use Rattle.definition.specs.Handed.{Handed, meshFrom, cornersFrom}
-use Rattle.definition.specs.Step1Cut.{cut02}
-use Rattle.definition.specs.Triangles.{pair, quad, pieces, triangles}
+use Rattle.definition.specs.Triangles.{pieces, triangles}
 use Rattle.definition.specs.Step4Order.{isSound, sound, broken}
 use Rattle.definition.specs.Frames.{numbered}
 use Rattle.laws.proofs.Part.{keep-same}
 use Rattle.laws.proofs.Shuffled.{every-mem}
 use Rattle.listing.specs.Listing.{Added, Listed, pick, restFrom}
 use Rattle.listing.proofs.Laws.{added-trans}
+use Rattle.laws.proofs.Pieces.{pieces-few}
 
 beq-false : (b : Bool) → Bool·beq b false ≡ not b
 beq-false true = refl
@@ -50,19 +49,6 @@ split-length (x ∷ xs) = go (x .degenerate) (split-length xs)
     go : (b : Bool) → length no′ + length yes′ ≡ length xs → length (cond (Bool·beq b false) (x ∷ no′) no′) + length (cond (Bool·beq b true) (x ∷ yes′) yes′) ≡ suc (length xs)
     go true e = omega arith
     go false e = omega arith
-
-pub few-cond : (b : Bool) (l k : List Triangle) → length l ≤ 2 → length k ≤ 2 → length (cond b l k) ≤ 2
-few-cond true l k p q = p
-few-cond false l k p q = q
-
-pieces-few : (f : ℕ) (cs : List Corner) → length (pieces f cs) ≤ 2
-unfolding pieces quad pair
-pieces-few f [] = omega arith
-pieces-few f (c0 ∷ []) = omega arith
-pieces-few f (c0 ∷ c1 ∷ []) = omega arith
-pieces-few f (c0 ∷ c1 ∷ c2 ∷ []) = omega arith
-pieces-few f (c0 ∷ c1 ∷ c2 ∷ c3 ∷ []) = few-cond (cut02 c0 c1 c2 c3) _ _ (omega arith) (omega arith)
-pieces-few f (c0 ∷ c1 ∷ c2 ∷ c3 ∷ c4 ∷ l) = omega arith
 
 rest-few : (ps ns ts : List Float) (f i : ℕ) (sizes : List ℕ) → length (restFrom ps ns ts f i sizes) ≤ 2 * length sizes
 unfolding restFrom triangles numbered meshFrom

@@ -23,6 +23,7 @@ use Rattle.definition.specs.Step8Slots.{reading}
 use Rattle.definition.specs.Frames.{trianglesOf, framesOf, frames}
 use Rattle.definition.specs.Outcome.{answerWords}
 use Rattle.laws.proofs.Closed.{links-sound}
+use Rattle.laws.proofs.Held.{readings-held}
 use Rattle.laws.proofs.Laws.{mark, some-triangle}
 use Rattle.view.specs.Frame.{Only}
 use Rattle.view.specs.Rows.{spotAt}
@@ -130,7 +131,7 @@ module _ (mesh : Handed) (c : MeshCounts) (w u v : List ℕ) where
 
       pub answered : a₃ ≡ answerWords (frames h (meshOf mesh)) ++ drop (slotWords * slotCount (mesh .sizes)) a
       unfolding frames framesOf
-      answered = frames-shown (mesh .positions) (mesh .normals) (mesh .texture) ss bs (mesh .sizes) a a₃ (C .final (mesh .sizes) (mesh .normals) (mesh .texture) bs d a (sym (L .sound-count)) (sym (L .count)) tells-end vertices-end reached)
+      answered = frames-shown (mesh .positions) (mesh .normals) (mesh .texture) ss bs (mesh .sizes) a a₃ (C .final (mesh .sizes) (mesh .normals) (mesh .texture) bs d a (sym (L .sound-count)) (sym (L .count)) tells-end vertices-end (readings-held h ss ms) reached)
 
       -- the work list is as it was past what is cleared
       pub cleared : (y : List ℕ) → y ≡ replicate (workWords * length (mesh .sizes)) 0 ++ drop (workWords * length (mesh .sizes)) z → y ≡ replicate (workWords * length (mesh .sizes)) 0 ++ drop (workWords * length (mesh .sizes)) w

@@ -67,7 +67,7 @@ fn make_frames(
     slots as u32
 }
 
-// Tangent frames of a mesh: faces of these sizes, their corners' positions, normals and texture coordinates, at a threshold for the cosine of an angle. Ten words for each slot are written to the answer list; the work list is lent, and WORK_WORDS words a face of it are cleared.
+// Tangent frames of a mesh: faces of these sizes, their corners' positions, normals and texture coordinates, at a threshold for the cosine of an angle. SLOT_WORDS words for each slot are written to the answer list; the work list is lent, and WORK_WORDS words a face of it are cleared.
 // A refusal (a number from 1 to 7) alters neither list.
 pub fn generate_tangent_space(
     sizes: &[u8],

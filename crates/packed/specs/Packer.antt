@@ -9,7 +9,7 @@ use Rattle.lists.specs.Parts.{everyBelow, joined, part}
 use Rattle.tangent.specs.Slot.{slotWords}
 use Rattle.packed.specs.Component.{nothing, shortMinusOne, within, component}
 
--- a slot's ten words are seven numbers packed
+-- a slot is seven numbers packed; words 7, 8, 10 and 11 are not packed
 abbrev pub packedWords : ℕ
 packedWords = 7
 
@@ -33,7 +33,7 @@ framePacked there slot = cond there (frame slot) (replicate packedWords nothing)
 unfoldable pub packedSlot : List ℕ → List ℕ
 packedSlot slot = framePacked (hasFrame slot) slot
 
--- the ten words of slot s of an answer list
+-- the words of slot s of an answer list
 unfoldable pub slotAt : List ℕ → ℕ → List ℕ
 slotAt l s = part (slotWords * s) slotWords l
 

@@ -180,7 +180,7 @@ fn pack_slots(answer: &[u32], packed: &mut [u16], count: usize)
     }
 }
 
-// An answer list packed, seven numbers a slot: refused with 1 where it is not in whole records of ten, with 2 where the lent list is too short.
+// An answer list packed, seven numbers a slot: refused with 1 where it is not in whole slots, with 2 where the lent list is too short.
 pub fn pack(answer: &[u32], packed: &mut [u16]) -> Packed
     ensures { λ r. ⌜ Packs (now (answer .entry)) (now (packed .entry)) r (now (packed .exit)) ⌝ }
 {

@@ -5,6 +5,8 @@ use Rattle.promises.proofs.Demand1 as Demand1
 use Rattle.promises.proofs.Determined as Determined
 use Rattle.promises.proofs.Demand3 as Demand3
 use Rattle.promises.proofs.Directions as Directions
+use Rattle.promises.proofs.Origins as Origins
+use Rattle.promises.proofs.BeforeE7 as BeforeE7
 use Rattle.promises.proofs.Impostors as Impostors
 use Rattle.promises.proofs.Faithful as Faithful
 use Rattle.promises.proofs.FaceParts as FaceParts
@@ -33,6 +35,8 @@ all-promised =
       determined = Determined.determined;
       demand-3 = Demand3.demand3;
       directions = Directions.directions;
+      origins = Origins.origins;
+      before-e7 = BeforeE7.before-e7;
       impostors = Impostors.impostors;
       faithful = Faithful.faithful;
       face-parts = FaceParts.face-parts;

@@ -276,7 +276,7 @@ sample-twelve : blockOf Twelve 14 1 (1 ∷ replicate 47 0) ≡ twelveBytes
 unfolding blockOf block body header checkWord complement sumOf recordsUsed usedWords recordWords recordsHeld kindWord bytesOf wordBytes flatMap
 sample-twelve = refl
 
-width : recordWords Ten ≡ slotWords
+width : recordWords Twelve ≡ slotWords
 unfolding recordWords
 width = refl
 

@@ -39,7 +39,7 @@ unfolding answerWords join flatMap
 joined [] = refl
 joined (r ∷ rs) = ap (λ l. flatMap slot.words r ++ l) (joined rs)
 
--- each face has ten words for each of its slots
+-- each face has a slot's words for each of its slots
 data Faces : List ℕ → List (List ℕ) → Type 0 where
   no-face : Faces [] []
   one-face : {k : ℕ} {ks : List ℕ} {w : List ℕ} {ws : List (List ℕ)} → length w ≡ slotWords * slotsOf k → Faces ks ws → Faces (k ∷ ks) (w ∷ ws)

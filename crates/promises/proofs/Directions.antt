@@ -1,13 +1,12 @@
 -- Every direction word of every answer is the word of a finite number. Assumes nothing.
 use Prim.Native.Nat.{ℕ, zero, suc, _+_, _<_}
 use native.Mathlib.Omega.{arith}
-use mathlib.Core.Path.{_≡_, refl, sym, ap, subst}
+use mathlib.Core.Path.{_≡_, sym, subst}
 use mathlib.Core.Logic.{_⊎_, inl, inr}
-use mathlib.Core.List.{List, [], _∷_}
+use mathlib.Core.List.{List, []}
 use lib.Dec.{T}
 use lib.ListN.{getD}
 use Rattle.bits.specs.Word.{number, isFinite}
-use Rattle.tangent.specs.declared.Reading.{Reading}
 use Rattle.tangent.specs.declared.Reading.the-variants.{Absent}
 use Rattle.tangent.specs.Slot.{words}
 use Rattle.tangent.specs.Finite.{FiniteReading, absent}
@@ -22,21 +21,16 @@ use Rattle.promises.specs.Demand1.{Refused, Taken, Promised as Demand1}
 use Rattle.promises.specs.Directions.{slotIn, FiniteWords, Promised}
 use Rattle.promises.proofs.Demand1.{demand1}
 
-slot-at : (i : ℕ) {l : List Reading} → Every FiniteReading l → FiniteReading (getD l i Absent)
-slot-at zero every-nil = absent
-slot-at zero (every-cons p q) = p
-slot-at (suc i) every-nil = absent
-slot-at (suc i) (every-cons p q) = slot-at i q
-
-face-at : (f : ℕ) {l : List (List Reading)} → Every (Every FiniteReading) l → Every FiniteReading (getD l f [])
-face-at zero every-nil = every-nil
-face-at zero (every-cons p q) = p
-face-at (suc f) every-nil = every-nil
-face-at (suc f) (every-cons p q) = face-at f q
+-- what holds of every element, and of what stands where there is none, holds at every number
+pub every-or : {X : Type 0} (P : X → Type 0) (d : X) → P d → (i : ℕ) {l : List X} → Every P l → P (getD l i d)
+every-or P d h zero every-nil = h
+every-or P d h zero (every-cons p q) = p
+every-or P d h (suc i) every-nil = h
+every-or P d h (suc i) (every-cons p q) = every-or P d h i q
 
 reading-finite : (x : Call) (f i : ℕ) → FiniteReading (readingAt x f i)
 unfolding readingAt
-reading-finite x f i = slot-at i (face-at f (frames-finite (x .threshold) (meshOf (x .mesh))))
+reading-finite x f i = every-or FiniteReading Absent absent i (every-or (Every FiniteReading) [] every-nil f (frames-finite (x .threshold) (meshOf (x .mesh))))
 
 -- no call is both refused and accepted
 not-refused : {x : Call} {z : Result} → z .number ≡ 0 → Refused x z → ⊥

@@ -16,23 +16,23 @@ use Rattle.promises.proofs.Acceptance.{accepted-where, accepted-only}
 use Rattle.promises.proofs.Demand1.{demand1}
 
 -- ---- the five calls, as the definition's samples give them
-sample-1 : leaves sample1 ≡ takenWith (3 ∷ []) (thrice (there one one one 1))
+sample-1 : leaves sample1 ≡ takenWith (3 ∷ []) (thrice (there one one one 1 1))
 unfolding leaves sample1 triangle lying up there thrice takenWith cornerCount slotCount slotsOf used
 sample-1 = samples.sample-1
 
-sample-2 : leaves sample2 ≡ takenWith (3 ∷ []) (thrice (there minusOne one one 0))
+sample-2 : leaves sample2 ≡ takenWith (3 ∷ []) (thrice (there minusOne one one 0 1))
 unfolding leaves sample2 triangle lying up there thrice takenWith cornerCount slotCount slotsOf used
 sample-2 = samples.sample-2
 
-grouped : take slotWords (leaves fan .answer) ≡ there one one 0x3ec7_1c72 1
+grouped : take slotWords (leaves fan .answer) ≡ there one one 0x3ec7_1c72 1 3
 unfolding leaves fan lying up there cornerCount slotCount slotsOf used
 grouped = samples.fan
 
-alone : leaves fanFirst ≡ takenWith (3 ∷ []) (there one one 0x3eaa_aaab 1 ++ there one one 0x3eaa_aaac 1 ++ there one one 0x3eaa_aaac 1)
+alone : leaves fanFirst ≡ takenWith (3 ∷ []) (there one one 0x3eaa_aaab 1 1 ++ there one one 0x3eaa_aaac 1 1 ++ there one one 0x3eaa_aaac 1 1)
 unfolding leaves fanFirst triangle lying up there thrice takenWith cornerCount slotCount slotsOf used
 alone = samples.fan-first
 
-mirrored : leaves mirror ≡ takenWith (3 ∷ 3 ∷ []) (thrice (there one one one 1) ++ thrice (there one minusOne one 0))
+mirrored : leaves mirror ≡ takenWith (3 ∷ 3 ∷ []) (thrice (there one one one 1 1) ++ thrice (there one minusOne one 0 1))
 unfolding leaves mirror lying up there thrice takenWith cornerCount slotCount slotsOf used
 mirrored = samples.mirror
 

@@ -22,6 +22,7 @@ pub mod PackedWritten
 pub mod PackedAnswers
 pub mod Packed
 pub mod Directions
+pub mod BeforeE7
 pub mod ClosedFaces
 pub mod Islands
 pub mod Labels
@@ -30,4 +31,5 @@ pub mod OwnGiven
 pub mod ThreeSides
 pub mod FaceParts
 pub mod Faithful
+pub mod Origins
 pub mod All

@@ -2,7 +2,7 @@
 use Prim.Native.Nat.{ℕ, zero, suc, _<_}
 use native.Mathlib.Omega.{arith}
 use mathlib.Core.Path.{_≡_, refl, sym, ap, _∙_, subst}
-use mathlib.Core.Bool.{Bool, true, false, cond, _&&_}
+use mathlib.Core.Bool.{Bool, true, false, cond}
 use mathlib.Core.List.{List, [], _∷_, _++_, append-assoc, List·Memᴰ, List·Memᴰ·head, List·Memᴰ·tail, List·Memᴰ·not-nil, Memᴰ·append-left, Memᴰ·append-right}
 use mathlib.Core.Option.{Option, none, some, Option·none-ne-some}
 use lib.ListN.{length, length-append}
@@ -10,7 +10,7 @@ use Rattle.lists.specs.Lists.{first, run}
 use Rattle.definition.specs.Desk.{atDesk}
 use Rattle.definition.specs.declared.Corner.{Corner}
 use Rattle.definition.specs.declared.Triangle.{Triangle}
-use Rattle.definition.specs.Mesh.{one, Spot, next, cornerOf, sameThird, sameTriangle, sameSpot}
+use Rattle.definition.specs.Mesh.{one, Spot, next, cornerOf, sameTriangle}
 use Rattle.definition.specs.Frames.{numbered, trianglesOf}
 use Rattle.definition.specs.Handed.{meshOf}
 use Rattle.definition.specs.Triangles.{triangles}
@@ -20,7 +20,7 @@ use Rattle.definition.specs.Step6Groups.{Mark, facing, wayOf, touched, marks}
 use Rattle.laws.proofs.Closed.{links-sound, spots-every}
 use Rattle.lists.specs.Every.{Every, every-nil, every-cons}
 use Rattle.definition.specs.Names.{Names}
-use Rattle.laws.proofs.Mutual.{every-at, apart-inj, spots-apart, mutual′}
+use Rattle.laws.proofs.Mutual.{every-at, mutual′, one-name, corner-tri}
 use Rattle.laws.proofs.Shuffled.{every-mem}
 use Rattle.laws.proofs.Numbers.{names-keep, triangles-names}
 use Rattle.laws.proofs.Sharp.{Sharp, sharp-ends, mesh-sharp, accepted-real}
@@ -31,7 +31,6 @@ use Rattle.laws.proofs.OneGroup as group
 use Rattle.laws.proofs.Verdict.{fine}
 use Rattle.promises.specs.OwnLinks.{Of, OfLinks, Joined, MetFrom, wayAfter, OfGroups, soundOf, Promised, after, before, start, member}
 use Rattle.promises.proofs.Acceptance.{no-row}
-use Rattle.promises.proofs.StepNine.{corners-in, corner-tri}
 
 -- ---- the orientation that the last mark on a triangle gave it
 
@@ -135,12 +134,6 @@ module _ (ss : List Triangle) (N : Names ss) (S : Every Sharp ss) where
 
   -- ---- the moments
 
-  -- two triangles of one name are one
-  one-name : (s t : Triangle) → List·Memᴰ s ss → List·Memᴰ t ss → sameTriangle s t ≡ true → s ≡ t
-  unfolding sameSpot sameThird
-  one-name s t h k e =
-      ap (λ (x : Spot). x .tri) (apart-inj (spots-apart N) (record { tri = s; at = one }) (record { tri = t; at = one }) (corners-in ss s one h) (corners-in ss t one k) (λ i. e i && true))
-
   module _ (earlier later : List Mark) (e : ms ≡ earlier ++ later) (t : Triangle) (h : List·Memᴰ t ss) where
     abbrev way : Bool
     way = facing earlier t (t .orientation)
@@ -149,7 +142,7 @@ module _ (ss : List Triangle) (N : Names ss) (S : Every Sharp ss) where
     level : (k : Mark) → touched earlier t ≡ some k → (m : Mark) → List·Memᴰ m earlier → sameTriangle (m .spot .tri) t ≡ true → m .orientation ≡ way
     level k q m i s =
         let j : List·Memᴰ m ms = subst (List·Memᴰ m) (sym e) (Memᴰ·append-left later i) in
-        let own = one-name (m .spot .tri) t (corner-tri ss (m .spot) (every-at (laws.marks-inside ss (links ss) (links-sound ss)) j)) h s in
+        let own = one-name N (m .spot .tri) t (corner-tri ss (m .spot) (every-at (laws.marks-inside ss (links ss) (links-sound ss)) j)) h s in
         sym (every-at (laws.final-way ss (links ss) (links-sound ss)) j (t .orientation))
         ∙ (ap (λ x. facing ms x (t .orientation)) own ∙ (ap (λ l. facing l t (t .orientation)) e ∙ laws.stays earlier later t k (t .orientation) (t .orientation) q))
 

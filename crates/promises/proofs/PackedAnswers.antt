@@ -10,8 +10,8 @@ use lib.ListN.{getD, replicate}
 use lib.Ieee.{Float, nan, inf, binary32, ofFields}
 use Rattle.bits.specs.Word.{number, isFinite}
 use Rattle.tangent.specs.declared.Reading.{Reading}
-use Rattle.tangent.specs.declared.Reading.the-variants.{Absent, Single, Combined}
-use Rattle.tangent.specs.Slot.{slotWords, flag, present, words}
+use Rattle.tangent.specs.declared.Reading.the-variants.{Absent, Single, Combined, Copied, Filled}
+use Rattle.tangent.specs.Slot.{slotWords, flag, tenWords, present, words}
 use Rattle.view.specs.Answer.{HasSlot}
 use Rattle.packed.specs.Component.{nothing, furthest, leading, size, negative}
 use Rattle.packed.specs.Packer.{packedWords, packedSlot}
@@ -54,10 +54,12 @@ flag-low true = omega arith
 flag-low false = omega arith
 
 marked-or-not : (r : Reading) → (words r ≡ replicate slotWords 0) ⊎ Marked (words r)
-unfolding words present
+unfolding words present tenWords
 marked-or-not Absent = inl refl
 marked-or-not (Single u o) = inr (record { first = refl; last = flag-low o })
 marked-or-not (Combined u o) = inr (record { first = refl; last = flag-low o })
+marked-or-not (Copied u o) = inr (record { first = refl; last = flag-low o })
+marked-or-not (Filled u o) = inr (record { first = refl; last = flag-low o })
 
 -- such a slot, packed
 packed-there : (slot : List ℕ) → Marked slot → FiniteWords slot → PackedAnswer slot

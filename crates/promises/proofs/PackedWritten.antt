@@ -38,13 +38,13 @@ zeros : (n : ℕ) → Words (replicate n 0)
 zeros zero = none
 zeros (suc n) = more (lit< tt) (zeros n)
 
--- seven times -32,768 is written for a slot of ten zeros
+-- seven times -32,768 is written for a slot of zeros
 nothing-written : (ns : List ℕ) → Seven ns → allNothing ns ≡ true → WrittenFor ns
 unfolding allNothing packedSlot framePacked hasFrame listOf
 nothing-written ns S h =
     record {
       slot = replicate slotWords 0;
-      is-slot = record { ten = refl; words = word-lt (replicate slotWords 0) (zeros slotWords) };
+      is-slot = record { whole = refl; words = word-lt (replicate slotWords 0) (zeros slotWords) };
       packs = sym (seven-is ns (S .seven) ∙ (λ z. each 0 (lit< tt) z ∷ each 1 (lit< tt) z ∷ each 2 (lit< tt) z ∷ each 3 (lit< tt) z ∷ each 4 (lit< tt) z ∷ each 5 (lit< tt) z ∷ each 6 (lit< tt) z ∷ []));
     }
   where
@@ -55,7 +55,7 @@ nothing-written ns S h =
 module _ (ns : List ℕ) (S : Seven ns) (P : (i : ℕ) → i < 6 → Packed (getD ns i 0)) (o : ℕ) (turn : packedFacing o ≡ getD ns 6 0) (least : o ≤ 1) where
   slot : List ℕ
   slot =
-      1 ∷ P 0 (lit< tt) .word ∷ P 1 (lit< tt) .word ∷ P 2 (lit< tt) .word ∷ P 3 (lit< tt) .word ∷ P 4 (lit< tt) .word ∷ P 5 (lit< tt) .word ∷ 0 ∷ 0 ∷ o ∷ []
+      1 ∷ P 0 (lit< tt) .word ∷ P 1 (lit< tt) .word ∷ P 2 (lit< tt) .word ∷ P 3 (lit< tt) .word ∷ P 4 (lit< tt) .word ∷ P 5 (lit< tt) .word ∷ 0 ∷ 0 ∷ o ∷ 0 ∷ 0 ∷ []
 
   there : hasFrame slot ≡ true
   unfolding hasFrame everyBelow slot
@@ -71,18 +71,18 @@ module _ (ns : List ℕ) (S : Seven ns) (P : (i : ℕ) → i < 6 → Packed (get
   fits =
       word-lt slot
       (more (lit< tt) (more (P 0 (lit< tt) .fits) (more (P 1 (lit< tt) .fits) (more (P 2 (lit< tt) .fits) (more (P 3 (lit< tt) .fits) (more (P 4 (lit< tt) .fits) (more (P 5 (lit< tt) .fits)
-      (more (lit< tt) (more (lit< tt) (more (omega arith) none))))))))))
+      (more (lit< tt) (more (lit< tt) (more (omega arith) (more (lit< tt) (more (lit< tt) none))))))))))))
 
-  ten-words : length slot ≡ slotWords
+  whole : length slot ≡ slotWords
   unfolding slot
-  ten-words = refl
+  whole = refl
 
   frame-written : WrittenFor ns
   unfolding packedSlot framePacked
   frame-written =
       record {
         slot = slot;
-        is-slot = record { ten = ten-words; words = fits };
+        is-slot = record { whole = whole; words = fits };
         packs = ap (λ (t : Bool). framePacked t slot) there ∙ (numbers ∙ sym (seven-is ns (S .seven)));
       }
 

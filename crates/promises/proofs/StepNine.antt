@@ -14,6 +14,7 @@ use Rattle.math.specs.Vector.{equals}
 use Rattle.tangent.specs.Space as Space′
 use Rattle.tangent.specs.declared.Reading.{Reading}
 use Rattle.tangent.specs.declared.Reading.the-variants.{Absent}
+use Rattle.tangent.specs.Space.{copyOf}
 use Rattle.lists.specs.Lists as Lists′
 use Rattle.lists.specs.Lists.{keep, first}
 use Rattle.lists.specs.Every.{Every, every-nil, every-cons}
@@ -37,22 +38,22 @@ use Rattle.definition.specs.Step7Sums.{Brought, broughtAll}
 use Rattle.definition.specs.Step9Copies.{copied, fromSound, finalOf, nooks, faceReadings}
 use Rattle.definition.specs.Frames as Frames′
 use Rattle.definition.specs.Frames.{numbered, framesFrom, framesOf, frames}
-use Rattle.laws.proofs.Part.{every-map, every-append, every-cond, every-both, every-keep, keep-passes}
+use Rattle.laws.proofs.Part.{every-map, every-append, every-cond, every-both, every-keep, keep-passes, mem-keep}
 use Rattle.laws.proofs.Shuffled.{every-mem}
-use Rattle.laws.proofs.Mutual.{every-at}
+use Rattle.laws.proofs.Mutual.{every-at, corner-tri}
 use Rattle.laws.proofs.Numbers.{pieces-face}
-use Rattle.laws.proofs.Closed.{spots-every, first-found, each-map}
+use Rattle.laws.proofs.Closed.{first-found, each-map, corners-in}
 use Rattle.laws.proofs.Weld.{found-at}
 use Rattle.laws.proofs.Laws.{some-triangle}
 use Rattle.laws.proofs.Targets.{missedBy, takesCopy, sources-stay}
 use Rattle.laws.proofs.Marked.{keepsAt, marked-keeps}
 use Rattle.groups.proofs.Facing.{first-some}
 use Rattle.copies.proofs.Faces as faces
-use Rattle.promises.specs.Faithful.{allTriangles, soundTriangles, slotsAt, finalReading, broughtReading, Broken, Missing, firstWelded, firstKept, Copies, from-welded, from-kept, There, SlotEnds, own, copy, none-welded, KeepsEqual, flatCorner, twoCopies, CopiedTo}
+use Rattle.promises.specs.Faithful.{allTriangles, soundTriangles, slotsAt, finalReading, broughtReading, Broken, Missing, firstWelded, firstKept, Copies, from-welded, from-kept, inQuad, There, SlotEnds, own, copy, none-welded, KeepsEqual, flatCorner, twoCopies, CopiedTo}
 
 -- ---- slots by their numbers
 
-slots-length : (n : ℕ) (cs : List Corner) → length (nooks n cs) ≡ length cs
+pub slots-length : (n : ℕ) (cs : List Corner) → length (nooks n cs) ≡ length cs
 unfolding nooks
 slots-length n [] = refl
 slots-length n (c ∷ cs) = ap suc (slots-length (suc n) cs)
@@ -156,31 +157,8 @@ sound-is ts t h = (every-at (every-keep isSound (every-mem (λ x. List·Memᴰ x
     not-true false e = refl
 
 is-sound : (ts : List Triangle) (t : Triangle) → t .degenerate ≡ false → List·Memᴰ t ts → List·Memᴰ t (sound ts)
-unfolding sound keep isSound
-is-sound [] t e h = absurd (List·Memᴰ·not-nil h)
-is-sound (x ∷ ts) t e (List·Memᴰ·head q) = step (x .degenerate) (ap (λ (y : Triangle). y .degenerate) (sym q) ∙ e)
-  where
-    step : (b : Bool) → b ≡ false → List·Memᴰ t (cond (not b) (x ∷ keep isSound ts) (keep isSound ts))
-    step true k = absurd (true≢false k)
-    step false k = List·Memᴰ·head q
-is-sound (x ∷ ts) t e (List·Memᴰ·tail q) = step (x .degenerate) (is-sound ts t e q)
-  where
-    step : (b : Bool) → List·Memᴰ t (keep isSound ts) → List·Memᴰ t (cond (not b) (x ∷ keep isSound ts) (keep isSound ts))
-    step true k = k
-    step false k = List·Memᴰ·tail k
-
--- the corners of a triangle of the list are corners of the list
-pub corners-in : (l : List Triangle) (t : Triangle) (i : Third) → List·Memᴰ t l → List·Memᴰ (record { tri = t; at = i }) (spots l)
-unfolding spots
-corners-in [] t i h = absurd (List·Memᴰ·not-nil h)
-corners-in (x ∷ l) t one (List·Memᴰ·head e) = List·Memᴰ·head (λ z. record { tri = e z; at = one })
-corners-in (x ∷ l) t two (List·Memᴰ·head e) = List·Memᴰ·tail (List·Memᴰ·head (λ z. record { tri = e z; at = two }))
-corners-in (x ∷ l) t three (List·Memᴰ·head e) = List·Memᴰ·tail (List·Memᴰ·tail (List·Memᴰ·head (λ z. record { tri = e z; at = three })))
-corners-in (x ∷ l) t i (List·Memᴰ·tail h) = List·Memᴰ·tail (List·Memᴰ·tail (List·Memᴰ·tail (corners-in l t i h)))
-
--- and the triangle of a corner of the list is one of the list
-pub corner-tri : (l : List Triangle) (s : Spot) → List·Memᴰ s (spots l) → List·Memᴰ (s .tri) l
-corner-tri l s h = every-at (spots-every (every-mem (λ t. List·Memᴰ t l) l (λ t k. k))) h
+unfolding sound isSound
+is-sound ts t e h = mem-keep isSound t h (ap not e)
 
 -- an element is in its list
 pub getD-mem : {X : Type 0} (l : List X) (d : X) (i : ℕ) → i < length l → List·Memᴰ (getD l i d) l
@@ -314,28 +292,28 @@ module _ (m : List (List Corner)) where
         final-is f (kept (s .tri) (s .at)) (T .slot) ∙ every-at (faces.own bs (soundTriangles m) f (getD m f [])) (placed m (s .tri) (q .0)) (q .1) (s .at)
 
     -- the reading of a slot that is copied to, by what is found
-    broken-reading : (f : ℕ) (k : Kept) → Broken m f k → finalReading h m f (k .which) ≡ copied bs (firstWelded m (k .corner))
+    broken-reading : (f : ℕ) (k : Kept) → Broken m f k → finalReading h m f (k .which) ≡ copied false bs (firstWelded m (k .corner))
     unfolding fromSound
     broken-reading f k B =
         let t = B .tri in
         let p = subst (λ (g : ℕ). List·Memᴰ t (pieces g (getD m g []))) (B .face) (placed m t (B .inside)) in
         final-is f k (broken-slot f k B) ∙ every-at (faces.ends bs (soundTriangles m) f (getD m f [])) p .broken (B .degenerate) (B .plain) k
 
-    missing-reading : (f : ℕ) (t : Triangle) (k : Kept) → Missing m f t k → finalReading h m f (k .which) ≡ copied bs (firstKept t (k .corner))
+    missing-reading : (f : ℕ) (t : Triangle) (k : Kept) → Missing m f t k → finalReading h m f (k .which) ≡ copied true bs (firstKept t (k .corner))
     missing-reading f t k M =
         let q = sound-is (allTriangles m) t (M .inside) in
         let p = subst (λ (g : ℕ). List·Memᴰ t (pieces g (getD m g []))) (M .face) (placed m t (q .0)) in
         final-is f k (M .slot)
         ∙ (ap (λ (i : ℕ). finalOf bs (soundTriangles m) f (pieces f (getD m f [])) (nook i (k .corner))) (M .which) ∙ every-at (faces.ends bs (soundTriangles m) f (getD m f [])) p .missed (q .1) (M .marked) (k .corner))
 
-    -- a copy is the source's own reading
-    copy-reading : (f : ℕ) (k : Kept) (s : Spot) → Copies m f k s → finalReading h m f (k .which) ≡ broughtReading h m (s .tri .face) (slotOf s)
-    unfolding copied
-    copy-reading f k s (from-welded B e) = broken-reading f k B ∙ ap (copied bs) e
-    copy-reading f k s (from-kept t M e) = missing-reading f t k M ∙ ap (copied bs) e
+    -- a copy is a copy of the source's own reading
+    copy-reading : (f : ℕ) (k : Kept) (s : Spot) (c : Copies m f k s) → finalReading h m f (k .which) ≡ copyOf (inQuad c) (broughtReading h m (s .tri .face) (slotOf s))
+    unfolding copied inQuad
+    copy-reading f k s (from-welded B e) = broken-reading f k B ∙ ap (copied false bs) e
+    copy-reading f k s (from-kept t M e) = missing-reading f t k M ∙ ap (copied true bs) e
 
-    pub copies : (f : ℕ) (k : Kept) (s : Spot) → Copies m f k s → finalReading h m f (k .which) ≡ finalReading h m (s .tri .face) (slotOf s)
-    copies f k s c = copy-reading f k s c ∙ sym (own-reading s (there s (source-in f k s c)))
+    pub copies : (f : ℕ) (k : Kept) (s : Spot) (c : Copies m f k s) → finalReading h m f (k .which) ≡ copyOf (inQuad c) (finalReading h m (s .tri .face) (slotOf s))
+    copies f k s c = copy-reading f k s c ∙ ap (copyOf (inQuad c)) (sym (own-reading s (there s (source-in f k s c))))
 
     pub sources : (f : ℕ) (k : Kept) (s : Spot) → Copies m f k s → There m s × (finalReading h m (s .tri .face) (slotOf s) ≡ broughtReading h m (s .tri .face) (slotOf s))
     sources f k s c = let T = there s (source-in f k s c) in (T, own-reading s T)
@@ -409,7 +387,7 @@ module _ (m : List (List Corner)) where
         }
       where
         by-found : (k : Kept) → Broken m f k → (o : Option Spot) → firstWelded m (k .corner) ≡ o → SlotEnds h m f (k .which)
-        by-found k B none e = none-welded k refl B e (broken-reading h f k B ∙ ap (copied (bs h)) e)
+        by-found k B none e = none-welded k refl B e (broken-reading h f k B ∙ ap (copied false (bs h)) e)
         by-found k B (some s) e = copy k s refl (from-welded B e)
 
     pub all-slots : (i : ℕ) → i < length (slotsAt m f) → SlotEnds h m f i

@@ -4,6 +4,8 @@ use Rattle.promises.specs.Demand1 as Demand1
 use Rattle.promises.specs.Determined as Determined
 use Rattle.promises.specs.Demand3 as Demand3
 use Rattle.promises.specs.Directions as Directions
+use Rattle.promises.specs.Origins as Origins
+use Rattle.promises.specs.BeforeE7 as BeforeE7
 use Rattle.promises.specs.Impostors as Impostors
 use Rattle.promises.specs.Faithful as Faithful
 use Rattle.promises.specs.FaceParts as FaceParts
@@ -30,6 +32,9 @@ pub record AllPromised : Type 1 where
   pub determined : Determined.Promised
   pub demand-3 : Demand3.Promised
   pub directions : Directions.Promised
+  -- where a frame came from, and how many stood behind it (E7); the first ten words of every slot are those of before
+  pub origins : Origins.Promised
+  pub before-e7 : BeforeE7.Promised
   -- what tells the definition from its impostors
   pub impostors : Impostors.Promised
   -- what joins the definition to document 01's own words

@@ -30,6 +30,6 @@ Accepted x = leaves x .number ≡ 0
 unfoldable pub slotsBefore : List ℕ → ℕ → ℕ
 slotsBefore sizes n = slotCount (take n sizes)
 
--- the words for face number n of an answer list: 'Slots run by face, then by corner', ten words each
+-- the words for face number n of an answer list: 'Slots run by face, then by corner'
 unfoldable pub faceAnswer : List ℕ → List ℕ → ℕ → List ℕ
 faceAnswer sizes answer n = take (slotWords * slotsOf (getD sizes n 0)) (drop (slotWords * slotsBefore sizes n) answer)

@@ -94,8 +94,8 @@ twelveBytes = 1 ∷ 0 ∷ 0 ∷ 0 ∷ 4 ∷ 0 ∷ 0 ∷ 0 ∷ 14 ∷ 0 ∷ 0 ∷
 
 -- (That each call ends, whatever it is handed, is part of what its contract says.)
 pub record CardsPromised : Type 0 where
-  -- a record of E1's kind is a slot of the answer
-  pub width : recordWords Ten ≡ slotWords
+  -- a record of E7's kind is a slot of the answer
+  pub width : recordWords Twelve ≡ slotWords
   -- block 1 of 14 records, the first of its two present: words 1, 2, 14, four zeros, 1, 119 zeros, FFFFFFED
   pub sample : blockOf Ten 14 1 (1 ∷ replicate 19 0) ≡ sampleBytes
   -- and of the other kind, the first of its four present: words 1, 4, 14, 2, three zeros, 1, 119 zeros, FFFFFFE9

@@ -26,13 +26,13 @@ pub record Refused (x : Call) (z : Result) : Type 0 where
   pub same-answer : z .answer ≡ x .answer
   pub same-work : z .work ≡ x .work
 
--- ten words are those of a reading, and ten zeros only where it is absent: no number, of whatever bits, reads like an absent one
+-- a slot's words are those of a reading, and all zeros only where it is absent: no number, of whatever bits, reads like an absent one
 pub record SlotTells (ws : List ℕ) (r : Reading) : Type 0 where
   pub words-are : ws ≡ words r
   pub absent-is : r ≡ Absent → ws ≡ replicate slotWords 0
   pub absent-alone : ws ≡ replicate slotWords 0 → r ≡ Absent
 
--- the call is accepted: 0, 0 and S; each slot tells the definition's reading; past 10S words the answer list is as it was; the first 128F words of the work list are zero, and past them it is as it was; neither list changes its length
+-- the call is accepted: 0, 0 and S; each slot tells the definition's reading; past S slots the answer list is as it was; the first 128F words of the work list are zero, and past them it is as it was; neither list changes its length
 pub record Taken (x : Call) (z : Result) : Type 0 where
   pub number-0 : z .number ≡ 0
   pub place-0 : z .place ≡ 0

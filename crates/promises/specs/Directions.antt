@@ -11,7 +11,7 @@ use Rattle.view.specs.Answer.{slotNumber, HasSlot}
 use Rattle.definition.specs.Handed.{Call}
 use Rattle.promises.specs.Calls.{Answers}
 
--- the ten words of slot i of face f in an answer list
+-- the words of slot i of face f in an answer list
 abbrev pub slotIn : List ℕ → ℕ → ℕ → List ℕ → List ℕ
 slotIn sizes f i answer = take slotWords (drop (slotWords * slotNumber sizes f i) answer)
 

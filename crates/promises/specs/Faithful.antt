@@ -11,6 +11,7 @@ use Rattle.bits.specs.Word.{number}
 use Rattle.math.specs.Vector.{vec, equals}
 use Rattle.tangent.specs.declared.Reading.{Reading}
 use Rattle.tangent.specs.declared.Reading.the-variants.{Absent}
+use Rattle.tangent.specs.Space.{copyOf}
 use Rattle.lists.specs.Lists.{keep, first}
 use Rattle.definition.specs.declared.Corner.{Corner}
 use Rattle.definition.specs.declared.Kept.{Kept}
@@ -95,6 +96,11 @@ pub data Copies (m : List (List Corner)) (f : ℕ) (k : Kept) (s : Spot) : Type 
   -- 'Then in each marked quad the missing corner copies the first kept corner of equal position'
   from-kept : (t : Triangle) → Missing m f t k → firstKept t (k .corner) ≡ some s → Copies m f k s
 
+-- whether it copies within a quad
+unfoldable pub inQuad : {m : List (List Corner)} {f : ℕ} {k : Kept} {s : Spot} → Copies m f k s → Bool
+inQuad (from-welded b e) = false
+inQuad (from-kept t b e) = true
+
 -- the slot of the corner s is there: s is a corner of a sound triangle of the mesh, and as such one of the corners that take slots
 pub record There (m : List (List Corner)) (s : Spot) : Type 0 where
   pub sound : List·Memᴰ s (spots (soundTriangles m))
@@ -138,8 +144,8 @@ pub record Promised : Type 0 where
   pub twice : (h : Float) (m : List (List Corner)) (f i : ℕ) → timesReached h m f i ≤ 2
   -- 'other faces take no slot and no frame depends on their numbers': put faces that take no slot between those of a mesh, and each face of the mesh keeps its frames
   pub other-faces : (h : Float) (p : List Bool) (a b m : List (List Corner)) → Shuffle p a b m → cornersOf b ≡ [] → (n : ℕ) → n < length a → getD (frames h m) (leftAt p n) [] ≡ getD (frames h a) n []
-  -- step 9: 'copies .., absent or not': the slot copied to ends with the reading that the slot copied from ends with
-  pub copies : (h : Float) (m : List (List Corner)) (f : ℕ) (k : Kept) (s : Spot) → Copies m f k s → finalReading h m f (k .which) ≡ finalReading h m (s .tri .face) (slotOf s)
+  -- step 9: 'copies .., absent or not': the slot copied to ends with a copy of the reading that the slot copied from ends with
+  pub copies : (h : Float) (m : List (List Corner)) (f : ℕ) (k : Kept) (s : Spot) (c : Copies m f k s) → finalReading h m f (k .which) ≡ copyOf (inQuad c) (finalReading h m (s .tri .face) (slotOf s))
   -- the sources of step 9 are there, and end with what was brought to them
   pub sources : (h : Float) (m : List (List Corner)) (f : ℕ) (k : Kept) (s : Spot) → Copies m f k s → There m s × (finalReading h m (s .tri .face) (slotOf s) ≡ broughtReading h m (s .tri .face) (slotOf s))
   -- and are never its targets: no slot that is copied from is copied to, so that the order of the copies does not matter

@@ -15,6 +15,7 @@ pub mod Cards
 pub mod Appends
 pub mod Packed
 pub mod Directions
+pub mod BeforeE7
 pub mod ClosedFaces
 pub mod Islands
 pub mod Labels
@@ -22,4 +23,5 @@ pub mod Examiner
 pub mod ThreeSides
 pub mod FaceParts
 pub mod Faithful
+pub mod Origins
 pub mod All

@@ -59,9 +59,9 @@ pub record ReadsBack (slot ws : List ℕ) : Type 0 where
   pub numbers : (i : ℕ) → i < 6 → getD ws (1 + i) 0 ≡ wide (component (getD slot (1 + i) 0))
   pub orientation : getD ws 7 0 ≡ getD slot 9 0
 
--- ten words of 32 bits
+-- a slot: so many words, each of 32 bits
 pub record Slot (slot : List ℕ) : Type 0 where
-  pub ten : length slot ≡ slotWords
+  pub whole : length slot ≡ slotWords
   pub words : (i : ℕ) → getD slot i 0 < 2 ^ 32
 
 -- seven words of 16 bits

@@ -60,9 +60,9 @@ mirror =
     lying (3 ∷ 3 ∷ []) (0 ∷ 0 ∷ 0 ∷ one ∷ 0 ∷ 0 ∷ 0 ∷ one ∷ 0 ∷ 0 ∷ 0 ∷ 0 ∷ 0 ∷ minusOne ∷ 0 ∷ one ∷ 0 ∷ 0 ∷ [])
     (0 ∷ 0 ∷ one ∷ 0 ∷ 0 ∷ one ∷ 0 ∷ 0 ∷ 0 ∷ one ∷ one ∷ 0 ∷ [])
 
--- the ten words of a slot that is there: s, t, the magnitude along t and the orientation; the magnitude along s is 1
-unfoldable pub there : ℕ → ℕ → ℕ → ℕ → List ℕ
-there s t magnitude orientation = 1 ∷ s ∷ 0 ∷ 0 ∷ 0 ∷ t ∷ 0 ∷ one ∷ magnitude ∷ orientation ∷ []
+-- the words of a slot that is there: s, t, the magnitude along t, the orientation, and how many stood behind it; the magnitude along s is 1, and it was reached once
+unfoldable pub there : ℕ → ℕ → ℕ → ℕ → ℕ → List ℕ
+there s t magnitude orientation behind = 1 ∷ s ∷ 0 ∷ 0 ∷ 0 ∷ t ∷ 0 ∷ one ∷ magnitude ∷ orientation ∷ 1 ∷ behind ∷ []
 
 -- the same words for each corner of a triangle
 unfoldable pub thrice : List ℕ → List ℕ

@@ -4,6 +4,9 @@ ghost use Prim.Native.Nat.{_+_, _<_, _≤_};
 ghost use lib.ListN.{length};
 use definition::FACE_LIMIT;
 use definition::WORK_WORDS;
+use tangent::COMBINED;
+use tangent::COPIED;
+use tangent::SINGLE;
 use tangent::SLOT_WORDS;
 
 // The faces of document 01's sample 10, which request E8 made 65,536. As many as that need a work list of 32 MiB, more than a program has on its stack: bindings/rust/tests/limit.rs sees them accepted.
@@ -174,6 +177,17 @@ fn words(so_far: Tally, got: &[u32], expected: &[u32; SLOT_WORDS]) -> Tally {
     t
 }
 
+// The words of one slot of an answer.
+fn slot(so_far: Tally, answer: &[u32], number: usize, expected: &[u32; SLOT_WORDS]) -> Tally {
+    let mut t = so_far;
+    for i in 0..answer.len() {
+        if i / SLOT_WORDS == number {
+            t = t.with(answer[i], expected[i % SLOT_WORDS]);
+        }
+    }
+    t
+}
+
 // Words of a work list, each of which is to be cleared.
 fn cleared(so_far: Tally, work: &[u32]) -> Tally {
     let zeros: [u32; SLOT_WORDS] = [0; SLOT_WORDS];
@@ -199,20 +213,27 @@ fn triangle(texture: &[f32; 6], slot: &[u32; SLOT_WORDS]) -> Tally {
     cleared(words(Tally::NONE.said(r, 0, 0, 3), &answer, slot), &work)
 }
 
+// Sample 1's frame, come from there, with so many triangles behind it (request E7).
+fn east(origin: u32, behind: u32) -> [u32; SLOT_WORDS] {
+    [
+        1,
+        0x3f800000,
+        0,
+        0,
+        0,
+        0x3f800000,
+        0,
+        0x3f800000,
+        0x3f800000,
+        1,
+        origin,
+        behind,
+    ]
+}
+
 fn sample_1() -> Tally {
     let texture: [f32; 6] = [0.0, 0.0, 1.0, 0.0, 0.0, 1.0];
-    let slot: [u32; SLOT_WORDS] = [
-        1,
-        0x3f800000,
-        0,
-        0,
-        0,
-        0x3f800000,
-        0,
-        0x3f800000,
-        0x3f800000,
-        1,
-    ];
+    let slot = east(SINGLE, 1);
     triangle(&texture, &slot)
 }
 
@@ -229,6 +250,8 @@ fn sample_2() -> Tally {
         0x3f800000,
         0x3f800000,
         0,
+        SINGLE,
+        1,
     ];
     triangle(&texture, &slot)
 }
@@ -239,42 +262,15 @@ fn sample_3() -> Tally {
     triangle(&texture, &slot)
 }
 
-// Words of slots that all have one frame, but for one that is absent.
-fn all_but(so_far: Tally, got: &[u32], frame: &[u32; SLOT_WORDS], absent: usize) -> Tally {
-    let mut t = so_far;
-    for i in 0..got.len() {
-        let expected = if i / SLOT_WORDS == absent {
-            0
-        } else {
-            frame[i % SLOT_WORDS]
-        };
-        t = t.with(got[i], expected);
-    }
-    t
-}
-
-// A mesh all of whose frames are sample 1's: the outcome with so many slots, the whole answer with one slot absent, and that the work list is cleared.
-fn all_alike(
+// Two faces: the outcome with so many slots, and that the work list is cleared.
+fn two_faces(
     sizes: &[u8; 2],
     positions: &[f32],
     normals: &[f32],
     texture: &[f32],
     answer: &mut [u32],
     slots: u32,
-    absent: usize,
 ) -> Tally {
-    let frame: [u32; SLOT_WORDS] = [
-        1,
-        0x3f800000,
-        0,
-        0,
-        0,
-        0x3f800000,
-        0,
-        0x3f800000,
-        0x3f800000,
-        1,
-    ];
     let mut work = [7u32; 2 * WORK_WORDS];
     let r = mikktspace::generate_tangent_space(
         sizes,
@@ -285,8 +281,20 @@ fn all_alike(
         answer,
         &mut work,
     );
-    let said = Tally::NONE.said(r, 0, 0, slots);
-    cleared(all_but(said, answer, &frame, absent), &work)
+    cleared(Tally::NONE.said(r, 0, 0, slots), &work)
+}
+
+// The answer of sample 4: three frames of one triangle, and copies of them but for one.
+fn answer_4(said: Tally, answer: &[u32]) -> Tally {
+    let single = east(SINGLE, 1);
+    let copied = east(COPIED, 1);
+    let absent: [u32; SLOT_WORDS] = [0; SLOT_WORDS];
+    let one = slot(said, answer, 0, &single);
+    let two = slot(one, answer, 1, &single);
+    let three = slot(two, answer, 2, &single);
+    let four = slot(three, answer, 3, &copied);
+    let five = slot(four, answer, 4, &absent);
+    slot(five, answer, 5, &copied)
 }
 
 // Behind sample 1's triangle one with the corners (0,0,0) and (-0,0,0): it is degenerate, and all of it copies but the second corner, which is welded to none.
@@ -333,7 +341,22 @@ fn sample_4() -> Tally {
     ];
     let texture: [f32; 12] = [0.0, 0.0, 1.0, 0.0, 0.0, 1.0, 0.0, 0.0, 0.0, 0.0, 0.0, 1.0];
     let mut answer = [7u32; 6 * SLOT_WORDS];
-    all_alike(&[3, 3], &positions, &normals, &texture, &mut answer, 6, 4)
+    let said = two_faces(&[3, 3], &positions, &normals, &texture, &mut answer, 6);
+    answer_4(said, &answer)
+}
+
+// The answer of sample 5: two corners of the square are in both of its triangles, each of which brings a frame with itself alone behind it.
+fn answer_5(said: Tally, answer: &[u32]) -> Tally {
+    let single = east(SINGLE, 1);
+    let combined = east(COMBINED, 2);
+    let absent: [u32; SLOT_WORDS] = [0; SLOT_WORDS];
+    let one = slot(said, answer, 0, &single);
+    let two = slot(one, answer, 1, &single);
+    let three = slot(two, answer, 2, &absent);
+    let four = slot(three, answer, 3, &combined);
+    let five = slot(four, answer, 4, &single);
+    let six = slot(five, answer, 5, &combined);
+    slot(six, answer, 6, &single)
 }
 
 // A unit square, and before it a triangle on its corners 0 and 2 that is `group_with_any`: cut 02 has a side there, so that two corners of the triangle get a frame. The third is absent.
@@ -401,7 +424,8 @@ fn sample_5() -> Tally {
         1.0,
     ];
     let mut answer = [7u32; 7 * SLOT_WORDS];
-    all_alike(&[3, 4], &positions, &normals, &texture, &mut answer, 7, 2)
+    let said = two_faces(&[3, 4], &positions, &normals, &texture, &mut answer, 7);
+    answer_5(said, &answer)
 }
 
 // A call with these sizes, numbers and threshold, and no word lent.

@@ -10,7 +10,7 @@ use borrow.Author.Tests.{lt-ltb, le-ltb}
 use Rattle.tangent.specs.Slot.{slotWords}
 use Rattle.lists.specs.Loops.{listOf}
 use Rattle.lists.proofs.Loops.{length-listOf, getD-listOf}
-use Rattle.slots.specs.Slots.{wordsAt, writtenAt, copiedAt}
+use Rattle.slots.specs.Slots.{wordsAt, writtenAt, copyAt, copiedAt}
 
 -- n words from place p on
 pub run-read : (n p : ℕ) (a : List ℕ) → p + n ≤ length a → listOf n (λ i. getD a (p + i) 0) ≡ take n (drop p a)
@@ -33,11 +33,11 @@ unfolding writtenAt
 written-not slot ws a h = ap (λ (b : Bool). cond b (sets a (slotWords * slot) ws) a) (le-ltb slot (length a / slotWords) h)
 
 -- a slot that the list has, copied
-pub copied-there : (from to : ℕ) (a : List ℕ) → from < length a / slotWords → copiedAt from to a ≡ writtenAt to (wordsAt from a) a
+pub copied-there : (quad : Bool) (from to : ℕ) (a : List ℕ) → from < length a / slotWords → copiedAt quad from to a ≡ writtenAt to (copyAt quad from a) a
 unfolding copiedAt
-copied-there from to a h = ap (λ (b : Bool). cond b (writtenAt to (wordsAt from a) a) a) (lt-ltb from (length a / slotWords) h)
+copied-there quad from to a h = ap (λ (b : Bool). cond b (writtenAt to (copyAt quad from a) a) a) (lt-ltb from (length a / slotWords) h)
 
 -- and one that it has not
-pub copied-not : (from to : ℕ) (a : List ℕ) → length a / slotWords ≤ from → copiedAt from to a ≡ a
+pub copied-not : (quad : Bool) (from to : ℕ) (a : List ℕ) → length a / slotWords ≤ from → copiedAt quad from to a ≡ a
 unfolding copiedAt
-copied-not from to a h = ap (λ (b : Bool). cond b (writtenAt to (wordsAt from a) a) a) (le-ltb from (length a / slotWords) h)
+copied-not quad from to a h = ap (λ (b : Bool). cond b (writtenAt to (copyAt quad from a) a) a) (le-ltb from (length a / slotWords) h)

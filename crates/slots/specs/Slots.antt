@@ -5,9 +5,9 @@ use mathlib.Core.List.{List}
 use lib.Dec.{ltb}
 use lib.ListN.{length, take, drop, replicate}
 use lib.Seq.{sets}
-use Rattle.tangent.specs.declared.RawTangentSpace.{RawTangentSpace}
+use Rattle.tangent.specs.declared.Evaluated.{Evaluated}
 use Rattle.tangent.specs.Slot.{slotWords, words, readingOf}
-use Rattle.tangent.specs.Space.{reached}
+use Rattle.tangent.specs.Space.{reached, copyOf}
 
 -- the words of a slot
 unfoldable pub wordsAt : ℕ → List ℕ → List ℕ
@@ -17,13 +17,17 @@ wordsAt slot a = take slotWords (drop (slotWords * slot) a)
 unfoldable pub writtenAt : ℕ → List ℕ → List ℕ → List ℕ
 writtenAt slot ws a = cond (ltb slot (length a / slotWords)) (sets a (slotWords * slot) ws) a
 
--- a slot reached by a tangent space
-unfoldable pub reachedAt : ℕ → RawTangentSpace → Bool → List ℕ → List ℕ
+-- a slot reached by what a subgroup gave
+unfoldable pub reachedAt : ℕ → Evaluated → Bool → List ℕ → List ℕ
 reachedAt slot v o a = writtenAt slot (words (reached (readingOf (wordsAt slot a)) v o)) a
 
--- one slot's words in another, where the list has both
-unfoldable pub copiedAt : ℕ → ℕ → List ℕ → List ℕ
-copiedAt from to a = cond (ltb from (length a / slotWords)) (writtenAt to (wordsAt from a) a) a
+-- the words of a copy of a slot's reading, within a quad or not
+unfoldable pub copyAt : Bool → ℕ → List ℕ → List ℕ
+copyAt quad slot a = words (copyOf quad (readingOf (wordsAt slot a)))
+
+-- such a copy in another slot, where the list has both
+unfoldable pub copiedAt : Bool → ℕ → ℕ → List ℕ → List ℕ
+copiedAt quad from to a = cond (ltb from (length a / slotWords)) (writtenAt to (copyAt quad from a) a) a
 
 -- a slot made absent
 unfoldable pub clearedAt : ℕ → List ℕ → List ℕ

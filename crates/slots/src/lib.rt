@@ -1,4 +1,4 @@
-// Step 8, and what step 9 does to one slot: the answer list by slots of ten words.
+// Step 8, and what step 9 does to one slot: the answer list by slots.
 // Carried over from mikktspace.rs (generate_tangent_spaces) of the Rust crate bevy_mikktspace and ALTERED: written anew in Rattle, over the lent list. See NOTICE.
 // Every function does nothing where the list is too short for the slot.
 ghost use mathlib.Core.Path.{_≡_};
@@ -7,9 +7,9 @@ ghost use lib.ListN.{length};
 ghost use lib.Seq.{sets};
 ghost use Rattle.tangent.specs.Slot.{slotWords};
 ghost use Rattle.slots.specs.Slots as spec;
-use tangent::RawTangentSpace;
+use tangent::Evaluated;
 
-// The ten words of a slot.
+// The words of a slot.
 fn words_at(answer: &[u32], slot: usize) -> [u32; tangent::SLOT_WORDS]
     requires { ⌜ slotWords * slot + slotWords ≤ length (now answer) ⌝ }
     ensures { λ r. ⌜ r ≡ spec.wordsAt slot (now (answer .entry)) ⌝ }
@@ -26,10 +26,12 @@ fn words_at(answer: &[u32], slot: usize) -> [u32; tangent::SLOT_WORDS]
         answer[at + 7],
         answer[at + 8],
         answer[at + 9],
+        answer[at + 10],
+        answer[at + 11],
     ]
 }
 
-// Ten words into a slot.
+// Words into a slot.
 fn put(answer: &mut [u32], slot: usize, words: [u32; tangent::SLOT_WORDS])
     requires { ⌜ slotWords * slot + slotWords ≤ length (now answer) ⌝ }
     ensures { λ _. ⌜ now (answer .exit) ≡ sets (now (answer .entry)) (slotWords * slot) words ⌝ }
@@ -39,8 +41,8 @@ fn put(answer: &mut [u32], slot: usize, words: [u32; tangent::SLOT_WORDS])
     }
 }
 
-// A slot reached by a tangent space: combined where it was reached before.
-pub fn reach(answer: &mut [u32], slot: usize, v: RawTangentSpace, orientation: bool)
+// A slot reached by what a subgroup gave: combined where it was reached before.
+pub fn reach(answer: &mut [u32], slot: usize, v: Evaluated, orientation: bool)
     ensures { λ _. ⌜ now (answer .exit) ≡ spec.reachedAt slot v orientation (now (answer .entry)) ⌝ }
 {
     if answer.len() / tangent::SLOT_WORDS <= slot {
@@ -51,9 +53,9 @@ pub fn reach(answer: &mut [u32], slot: usize, v: RawTangentSpace, orientation: b
     put(answer, slot, words);
 }
 
-// One slot's words into another.
-pub fn copy(answer: &mut [u32], from: usize, to: usize)
-    ensures { λ _. ⌜ now (answer .exit) ≡ spec.copiedAt from to (now (answer .entry)) ⌝ }
+// A copy of one slot's reading in another, within a quad or not.
+pub fn copy(answer: &mut [u32], from: usize, to: usize, quad: bool)
+    ensures { λ _. ⌜ now (answer .exit) ≡ spec.copiedAt quad from to (now (answer .entry)) ⌝ }
 {
     if answer.len() / tangent::SLOT_WORDS <= from {
         return;
@@ -61,7 +63,8 @@ pub fn copy(answer: &mut [u32], from: usize, to: usize)
     if answer.len() / tangent::SLOT_WORDS <= to {
         return;
     }
-    let words = words_at(answer, from);
+    let before = tangent::reading_of(words_at(answer, from));
+    let words = tangent::words(tangent::copy_of(before, quad));
     put(answer, to, words);
 }
 

@@ -14,7 +14,7 @@ use Rattle.table.specs.Columns.{slotColumn, orientationColumn, metColumn, order
 use Rattle.lists.proofs.Loops.{upTo-same}
 use Rattle.view.specs.Frame.{Only}
 use Rattle.view.proofs.Frame.{cell-kept}
-use Rattle.tangent.specs.declared.RawTangentSpace.{RawTangentSpace}
+use Rattle.tangent.specs.declared.Evaluated.{Evaluated}
 use Rattle.slots.specs.Slots.{reachedAt}
 use Rattle.members.specs.Members.{beginOf}
 use Rattle.members.proofs.Ordering.{begin-kept}
@@ -30,7 +30,7 @@ unfolding reachGroup upTo
 reach-none rows h from to w a l = let z : 0 ≡ to - from = omega arith in ap (λ n. upTo n (λ k. reachRow rows h from (to - from) w (cell rows metColumn (from + k) w)) a) z
 
 module _ (rows : ℕ) (w u : List ℕ) (O : Only (joinedColumn ∷ []) rows w u) where
-  pub with-kept : (g : RawTangentSpace) (r : ℕ) (a : List ℕ) → r < rows → reachWith rows u g r a ≡ reachWith rows w g r a
+  pub with-kept : (g : Evaluated) (r : ℕ) (a : List ℕ) → r < rows → reachWith rows u g r a ≡ reachWith rows w g r a
   unfolding reachWith
   with-kept g r a l =
       let k : r / 3 < rows = omega (arith, div-add-mod r 3) in

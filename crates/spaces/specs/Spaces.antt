@@ -8,7 +8,7 @@ use Rattle.table.specs.Table.{cell}
 use Rattle.table.specs.Columns.{slotColumn, orientationColumn, metColumn}
 use Rattle.slots.specs.Slots.{reachedAt}
 use Rattle.members.specs.Members.{beginOf}
-use Rattle.tangent.specs.declared.RawTangentSpace.{RawTangentSpace}
+use Rattle.tangent.specs.declared.Evaluated.{Evaluated}
 use Rattle.subgroups.specs.Subgroups.{valueOf}
 use Rattle.subgroups.specs.Spans.{summed}
 
@@ -25,7 +25,7 @@ unfoldable pub reachAll : ℕ → Float → ℕ → ℕ → List ℕ → List �
 reachAll rows h groups count w a = upTo groups (λ q. reachGroup rows h (beginOf rows groups count w q) (beginOf rows groups count w (suc q)) w) a
 
 -- the slot of the corner at row r is reached by g
-unfoldable pub reachWith : ℕ → List ℕ → RawTangentSpace → ℕ → List ℕ → List ℕ
+unfoldable pub reachWith : ℕ → List ℕ → Evaluated → ℕ → List ℕ → List ℕ
 reachWith rows w g r a = reachedAt (cell rows slotColumn r w) g (eqb (cell rows orientationColumn (r / 3) w) 1) a
 
 -- the members of a group as they were met, all with its one sum

@@ -10,10 +10,10 @@ ghost use Rattle.members.specs.Members.{beginOf};
 ghost use Rattle.subgroups.specs.Subgroups.{Ranged, evaluated};
 ghost use Rattle.spaces.specs.Spaces as spec;
 use groups::GroupCounts;
-use tangent::RawTangentSpace;
+use tangent::Evaluated;
 
 // The slot of the member at row r is reached by g.
-fn reach_one(work: &[u32], rows: usize, answer: &mut [u32], r: usize, g: RawTangentSpace)
+fn reach_one(work: &[u32], rows: usize, answer: &mut [u32], r: usize, g: Evaluated)
     requires { ⌜ (r < rows) × (columns * rows ≤ length (now work)) ⌝ }
     ensures { λ _. ⌜ now (answer .exit) ≡ spec.reachWith rows (now (work .entry)) g r (now (answer .entry)) ⌝ }
 {
@@ -31,8 +31,8 @@ fn reach_member(
     r: usize,
     from: usize,
     to: usize,
-    before: RawTangentSpace,
-) -> RawTangentSpace
+    before: Evaluated,
+) -> Evaluated
     requires { ⌜ (r < rows) × (from ≤ to) × (to ≤ rows) × (columns * rows ≤ length (now work)) × Ranged rows to (now work) × (before ≡ evaluated rows from (to - from) (now work)) ⌝ }
     ensures { λ g. ⌜ (now (answer .exit) ≡ spec.reachRow rows threshold from (to - from) (now (work .entry)) r (now (answer .entry))) × (g ≡ evaluated rows from (to - from) (now (work .exit))) × Only (joinedColumn ∷ []) rows (now (work .entry)) (now (work .exit)) ⌝ }
 {

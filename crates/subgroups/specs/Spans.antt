@@ -5,7 +5,7 @@ use mathlib.Core.Bool.{Bool, true, cond}
 use mathlib.Core.List.{List}
 use lib.Dec.{eqb}
 use lib.Ieee.{Float}
-use Rattle.tangent.specs.declared.RawTangentSpace.{RawTangentSpace}
+use Rattle.tangent.specs.declared.Evaluated.{Evaluated}
 use Rattle.lists.specs.Loops.{upTo}
 use Rattle.table.specs.Table.{cell}
 use Rattle.table.specs.Columns.{anyColumn, metColumn, orderColumn}
@@ -31,6 +31,6 @@ spanOf rows from n w = upTo n (λ k. absorbedAt rows w (from + k)) (record { s =
 abbrev pub Whole : ℕ → Float → ℕ → ℕ → List ℕ → Type 0
 Whole rows h from n w = (j k : ℕ) → j < n → k < n → joinsBy h (peerAt rows (cell rows metColumn (from + j) w) w) (peerAt rows (cell rows orderColumn (from + k) w) w) ≡ true
 
--- the sum of all n, made a tangent space
-unfoldable pub summed : ℕ → ℕ → ℕ → List ℕ → RawTangentSpace
+-- the sum of all n, made a tangent space, and how many added to it
+unfoldable pub summed : ℕ → ℕ → ℕ → List ℕ → Evaluated
 summed rows from n w = finish (upTo n (λ k. addRow rows w (cell rows orderColumn (from + k) w)) emptySum)

@@ -10,6 +10,7 @@ use lib.Ieee.{Float}
 use Rattle.bits.specs.Word.{number}
 use Rattle.math.specs.Vector.{dot}
 use Rattle.tangent.specs.declared.RawTangentSpace.{RawTangentSpace}
+use Rattle.tangent.specs.declared.Evaluated.{Evaluated}
 use Rattle.tangent.specs.Slot.{flag}
 use Rattle.lists.specs.Loops.{upTo, listOf}
 use Rattle.table.specs.Table.{cell}
@@ -65,12 +66,12 @@ takenAt rows all w p = all || eqb (cell rows joinedColumn p w) 1
 unfoldable pub addTaken : ℕ → Bool → List ℕ → ℕ → Sum → Sum
 addTaken rows all w p z = cond (takenAt rows all w p) (addRow rows w (cell rows orderColumn p w) z) z
 
--- the sum of all n from a place on, or of the marked ones, made a tangent space
-unfoldable pub takenSum : ℕ → Bool → ℕ → ℕ → List ℕ → RawTangentSpace
+-- the sum of all n from a place on, or of the marked ones, made a tangent space, and how many added to it
+unfoldable pub takenSum : ℕ → Bool → ℕ → ℕ → List ℕ → Evaluated
 takenSum rows all from n w = finish (upTo n (λ k. addTaken rows all w (from + k)) emptySum)
 
--- the sum of the marked ones among n from a place on, made a tangent space
-unfoldable pub evaluated : ℕ → ℕ → ℕ → List ℕ → RawTangentSpace
+-- the sum of the marked ones among n from a place on, made a tangent space, and how many added to it
+unfoldable pub evaluated : ℕ → ℕ → ℕ → List ℕ → Evaluated
 evaluated rows from n w = finish (upTo n (λ k. addMarked rows w (from + k)) emptySum)
 
 -- the contribution of the p-th in triangle order, if it joins the member m
@@ -78,5 +79,5 @@ unfoldable pub addJoined : ℕ → Float → Peer → List ℕ → ℕ → Sum �
 addJoined rows h m w p z = cond (joinsAt rows h m p w) (addRow rows w (cell rows orderColumn p w) z) z
 
 -- what the member at row r brings: the sum of those among n from a place on that join it
-unfoldable pub valueOf : ℕ → Float → ℕ → ℕ → ℕ → List ℕ → RawTangentSpace
+unfoldable pub valueOf : ℕ → Float → ℕ → ℕ → ℕ → List ℕ → Evaluated
 valueOf rows h r from n w = finish (upTo n (λ k. addJoined rows h (peerAt rows r w) w (from + k)) emptySum)

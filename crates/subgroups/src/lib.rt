@@ -14,6 +14,7 @@ ghost use Rattle.subgroups.specs.Spans as spans;
 use definition::Sum;
 use hulls::Hull;
 use math::Vec3;
+use tangent::Evaluated;
 use tangent::RawTangentSpace;
 
 // ---- the subgroup
@@ -136,8 +137,8 @@ fn add_taken(work: &[u32], rows: usize, all: bool, p: usize, z: Sum) -> Sum
     z
 }
 
-// The sum of all members, or of the marked ones, made a tangent space.
-fn sum_taken(work: &[u32], rows: usize, all: bool, from: usize, to: usize) -> RawTangentSpace
+// The sum of all members, or of the marked ones, made a tangent space, and how many added to it.
+fn sum_taken(work: &[u32], rows: usize, all: bool, from: usize, to: usize) -> Evaluated
     requires { ⌜ (from ≤ to) × (to ≤ rows) × (columns * rows ≤ length (now work)) × spec.Ranged rows to (now work) ⌝ }
     ensures { λ g. ⌜ g ≡ spec.takenSum rows all from (to - from) (now (work .entry)) ⌝ }
 {
@@ -148,8 +149,8 @@ fn sum_taken(work: &[u32], rows: usize, all: bool, from: usize, to: usize) -> Ra
     sums::finish(z)
 }
 
-// The sum of all that are marked, made a tangent space.
-pub fn evaluate_tangent_space(work: &[u32], rows: usize, from: usize, to: usize) -> RawTangentSpace
+// The sum of all that are marked, made a tangent space, and how many added to it.
+pub fn evaluate_tangent_space(work: &[u32], rows: usize, from: usize, to: usize) -> Evaluated
     requires { ⌜ (from ≤ to) × (to ≤ rows) × (columns * rows ≤ length (now work)) × spec.Ranged rows to (now work) ⌝ }
     ensures { λ g. ⌜ g ≡ spec.evaluated rows from (to - from) (now (work .entry)) ⌝ }
 {
@@ -213,8 +214,8 @@ pub fn whole(work: &[u32], rows: usize, threshold: f32, from: usize, to: usize) 
     hulls::above(s, threshold) & hulls::above(t, threshold)
 }
 
-// The sum of the whole group, made a tangent space.
-pub fn sum_of_all(work: &[u32], rows: usize, from: usize, to: usize) -> RawTangentSpace
+// The sum of the whole group, made a tangent space, and how many added to it.
+pub fn sum_of_all(work: &[u32], rows: usize, from: usize, to: usize) -> Evaluated
     requires { ⌜ (from ≤ to) × (to ≤ rows) × (columns * rows ≤ length (now work)) × spec.Ranged rows to (now work) ⌝ }
     ensures { λ g. ⌜ g ≡ spans.summed rows from (to - from) (now (work .entry)) ⌝ }
 {
@@ -231,8 +232,8 @@ pub fn space_of(
     r: usize,
     from: usize,
     to: usize,
-    before: RawTangentSpace,
-) -> RawTangentSpace
+    before: Evaluated,
+) -> Evaluated
     requires { ⌜ (from ≤ to) × (to ≤ rows) × (columns * rows ≤ length (now work)) × spec.Ranged rows to (now work) × (r < rows) × (before ≡ spec.evaluated rows from (to - from) (now work)) ⌝ }
     ensures { λ g. ⌜ (g ≡ spec.valueOf rows threshold r from (to - from) (now (work .entry))) × (g ≡ spec.evaluated rows from (to - from) (now (work .exit))) × Only (joinedColumn ∷ []) rows (now (work .entry)) (now (work .exit)) ⌝ }
 {

@@ -7,6 +7,7 @@ use Rattle.angle.specs.Angle.{angle}
 use Rattle.math.specs.declared.Vec3.{Vec3}
 use Rattle.math.specs.Vector.{added, subtracted, scaledBy, dot}
 use Rattle.tangent.specs.declared.RawTangentSpace.{RawTangentSpace}
+use Rattle.tangent.specs.Space.{counted}
 use Rattle.definition.specs.declared.Sum.{Sum}
 use Rattle.definition.specs.Step7Sums.{projected}
 
@@ -26,6 +27,7 @@ weighedBy z w g =
             «s_magnitude» = z .weighted .«s_magnitude» +ᶠ w *ᶠ g .«s_magnitude»;
             «t_magnitude» = z .weighted .«t_magnitude» +ᶠ w *ᶠ g .«t_magnitude»;
           };
+      behind = counted (z .behind) 1;
     }
 
 -- a magnitude over the sum of the angles, where that is above zero

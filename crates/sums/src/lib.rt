@@ -6,6 +6,7 @@ ghost use Rattle.definition.specs.Step7Sums as step7;
 ghost use Rattle.sums.specs.Sums as spec;
 use definition::Sum;
 use math::Vec3;
+use tangent::Evaluated;
 use tangent::RawTangentSpace;
 
 // v less n times their dot product, brought to unit length.
@@ -33,6 +34,7 @@ pub fn nothing() -> Sum
     Sum {
         angles: 0.0,
         weighted,
+        behind: 0,
     }
 }
 
@@ -51,6 +53,7 @@ pub fn weigh(z: Sum, w: f32, g: RawTangentSpace) -> Sum
             s_magnitude: sum.s_magnitude + w * g.s_magnitude,
             t_magnitude: sum.t_magnitude + w * g.t_magnitude,
         },
+        behind: tangent::counted(z.behind, 1),
     }
 }
 
@@ -64,8 +67,8 @@ fn per_angle(magnitude: f32, angles: f32) -> f32
     magnitude
 }
 
-// The sum made a tangent space: directions to unit length, magnitudes over the sum of the angles.
-pub fn finish(z: Sum) -> RawTangentSpace
+// The sum made a tangent space, directions to unit length and magnitudes over the sum of the angles, with the number of contributions.
+pub fn finish(z: Sum) -> Evaluated
     ensures { λ r. ⌜ r ≡ step7.finish z ⌝ }
 {
     let sum = z.weighted;
@@ -73,10 +76,13 @@ pub fn finish(z: Sum) -> RawTangentSpace
     let t = sum.t.normalized_or_zero();
     let s_magnitude = per_angle(sum.s_magnitude, z.angles);
     let t_magnitude = per_angle(sum.t_magnitude, z.angles);
-    RawTangentSpace {
-        s,
-        t,
-        s_magnitude,
-        t_magnitude,
+    Evaluated {
+        space: RawTangentSpace {
+            s,
+            t,
+            s_magnitude,
+            t_magnitude,
+        },
+        behind: z.behind,
     }
 }

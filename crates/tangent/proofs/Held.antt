@@ -13,10 +13,11 @@ use Rattle.math.specs.Held.{HeldVec}
 use Rattle.math.proofs.Held.{origin-held, unit-held}
 use Rattle.tangent.specs.declared.RawTangentSpace.{RawTangentSpace}
 use Rattle.tangent.specs.declared.Reading.{Reading}
-use Rattle.tangent.specs.declared.Reading.the-variants.{Absent, Single, Combined}
-use Rattle.tangent.specs.Space.{zeroTangent, equals, mean, combine, reached}
-use Rattle.tangent.specs.Slot.{vectorOf, spaceOf, readingOf}
-use Rattle.tangent.specs.Held.{HeldSpace, HeldReading, absent, single, combined}
+use Rattle.tangent.specs.declared.Evaluated.{Evaluated}
+use Rattle.tangent.specs.declared.Reading.the-variants.{Absent, Single, Combined, Copied, Filled}
+use Rattle.tangent.specs.Space.{zeroTangent, equals, mean, combine, united, reached, copyOf, copied as copy}
+use Rattle.tangent.specs.Slot.{vectorOf, spaceOf, ofOrigin, readingOf}
+use Rattle.tangent.specs.Held.{HeldSpace, HeldReading, absent, single, combined, copied, filled}
 
 pub zero-held : HeldSpace zeroTangent
 zero-held = record { s-held = origin-held; t-held = origin-held; s-magnitude-held = number-fits 0; t-magnitude-held = number-fits 0 }
@@ -45,11 +46,30 @@ combine-held a b h = go (equals a b)
           t-magnitude-held = mul-fits binary32 halfᶠ (a .«t_magnitude» +ᶠ b .«t_magnitude»);
         }
 
-pub reached-held : (r : Reading) (v : RawTangentSpace) (o : Bool) → HeldReading r → HeldSpace v → HeldReading (reached r v o)
+united-held : (a b : Evaluated) → HeldSpace (a .space) → HeldSpace (united a b .space)
+unfolding united
+united-held a b h = combine-held (a .space) (b .space) h
+
+pub reached-held : (r : Reading) (v : Evaluated) (o : Bool) → HeldReading r → HeldSpace (v .space) → HeldReading (reached r v o)
 unfolding reached
 reached-held Absent v o h k = single k
-reached-held (Single u w) v o (single h) k = combined (combine-held u v h)
-reached-held (Combined u w) v o (combined h) k = combined (combine-held u v h)
+reached-held (Single u w) v o (single h) k = combined (united-held u v h)
+reached-held (Combined u w) v o (combined h) k = combined (united-held u v h)
+reached-held (Copied u w) v o (copied h) k = combined (united-held u v h)
+reached-held (Filled u w) v o (filled h) k = combined (united-held u v h)
+
+-- a copy
+pub copy-held : (quad : Bool) (r : Reading) → HeldReading r → HeldReading (copyOf quad r)
+unfolding copyOf copy
+copy-held quad Absent h = absent
+copy-held true (Single u o) (single h) = filled h
+copy-held false (Single u o) (single h) = copied h
+copy-held true (Combined u o) (combined h) = filled h
+copy-held false (Combined u o) (combined h) = copied h
+copy-held true (Copied u o) (copied h) = filled h
+copy-held false (Copied u o) (copied h) = copied h
+copy-held true (Filled u o) (filled h) = filled h
+copy-held false (Filled u o) (filled h) = copied h
 
 vector-held : (x y z : ℕ) → HeldVec (vectorOf x y z)
 unfolding vectorOf
@@ -65,10 +85,23 @@ space-held l =
       t-magnitude-held = number-fits (getD l 8 0);
     }
 
+by-origin : (n : ℕ) (e : Evaluated) (o : Bool) → HeldSpace (e .space) → HeldReading (ofOrigin n e o)
+unfolding ofOrigin
+by-origin n e o h = go (eqb n 1) (eqb n 3) (eqb n 4)
+  where
+    go : (a b c : Bool) → HeldReading (cond a (Single e o) (cond b (Copied e o) (cond c (Filled e o) (Combined e o))))
+    go true b c = single h
+    go false true c = copied h
+    go false false true = filled h
+    go false false false = combined h
+
 pub reading-held : (l : List ℕ) → HeldReading (readingOf l)
 unfolding readingOf
 reading-held l = go (eqb (getD l 0 0) 0)
   where
-    go : (t : Bool) → HeldReading (cond t Absent (Single (spaceOf l) (eqb (getD l 9 0) 1)))
+    e : Evaluated
+    e = record { space = spaceOf l; behind = getD l 11 0 }
+
+    go : (t : Bool) → HeldReading (cond t Absent (ofOrigin (getD l 10 0) e (eqb (getD l 9 0) 1)))
     go true = absent
-    go false = single (space-held l)
+    go false = by-origin (getD l 10 0) e (eqb (getD l 9 0) 1) (space-held l)

@@ -1,6 +1,6 @@
--- A slot's ten words. Definitions only.
+-- A slot's twelve words: document 01's ten, and two of request E7. Definitions only.
 use mathlib.Core.Bool.{Bool, cond}
-use mathlib.Core.List.{List, [], _∷_}
+use mathlib.Core.List.{List, [], _∷_, _++_}
 use Prim.Native.Nat.{ℕ}
 use lib.Dec.{eqb}
 use lib.ListN.{getD, replicate}
@@ -8,28 +8,48 @@ use Rattle.bits.specs.Word.{word, number}
 use Rattle.math.specs.declared.Vec3.{Vec3}
 use Rattle.math.specs.Vector.{vec}
 use Rattle.tangent.specs.declared.RawTangentSpace.{RawTangentSpace}
+use Rattle.tangent.specs.declared.Evaluated.{Evaluated}
 use Rattle.tangent.specs.declared.Reading.{Reading}
-use Rattle.tangent.specs.declared.Reading.the-variants.{Absent, Single, Combined}
+use Rattle.tangent.specs.declared.Reading.the-variants.{Absent, Single, Combined, Copied, Filled}
 
--- 'Each slot is ten words'
+-- 'The slot record grows to twelve words'
 abbrev pub slotWords : ℕ
-slotWords = 10
+slotWords = 12
 
 -- 'orientation 0 or 1'
 unfoldable pub flag : Bool → ℕ
 flag b = cond b 1 0
 
 -- '1 for present; tangent x y z; bi-tangent x y z; mag_s; mag_t; orientation 0 or 1'
-unfoldable pub present : RawTangentSpace → Bool → List ℕ
-present u o =
+unfoldable pub tenWords : RawTangentSpace → Bool → List ℕ
+tenWords u o =
     1 ∷ word (u .s .x) ∷ word (u .s .y) ∷ word (u .s .z) ∷ word (u .t .x) ∷ word (u .t .y) ∷ word (u .t .z)
     ∷ word (u .«s_magnitude») ∷ word (u .«t_magnitude») ∷ flag o ∷ []
 
--- the words of a reading: 'An absent slot is ten zero words'
+-- those, and where it came from, and how many stood behind it
+unfoldable pub present : ℕ → Evaluated → Bool → List ℕ
+present origin e o = tenWords (e .space) o ++ origin ∷ e .behind ∷ []
+
+-- 'Word 10: 0 absent, 1 single, 2 combined, 3 copied to a degenerate corner, 4 copied within a quad'
+abbrev pub singleOrigin : ℕ
+singleOrigin = 1
+
+abbrev pub combinedOrigin : ℕ
+combinedOrigin = 2
+
+abbrev pub copiedOrigin : ℕ
+copiedOrigin = 3
+
+abbrev pub filledOrigin : ℕ
+filledOrigin = 4
+
+-- the words of a reading: an absent slot is zero words
 unfoldable pub words : Reading → List ℕ
 words Absent = replicate slotWords 0
-words (Single u o) = present u o
-words (Combined u o) = present u o
+words (Single e o) = present singleOrigin e o
+words (Combined e o) = present combinedOrigin e o
+words (Copied e o) = present copiedOrigin e o
+words (Filled e o) = present filledOrigin e o
 
 -- back: the vector whose numbers three words stand for
 unfoldable pub vectorOf : ℕ → ℕ → ℕ → Vec3
@@ -45,12 +65,10 @@ spaceOf l =
       «t_magnitude» = number (getD l 8 0);
     }
 
--- back: absent where word 0 is 0, and else the numbers and whether word 9 is 1; that a reading was combined is not in its words
-unfoldable pub readingOf : List ℕ → Reading
-readingOf l = cond (eqb (getD l 0 0) 0) Absent (Single (spaceOf l) (eqb (getD l 9 0) 1))
+-- back: the reading by its word 10
+unfoldable pub ofOrigin : ℕ → Evaluated → Bool → Reading
+ofOrigin n e o = cond (eqb n singleOrigin) (Single e o) (cond (eqb n copiedOrigin) (Copied e o) (cond (eqb n filledOrigin) (Filled e o) (Combined e o)))
 
--- what a slot's words tell of a reading: all but whether it was combined
-unfoldable pub told : Reading → Reading
-told Absent = Absent
-told (Single u o) = Single u o
-told (Combined u o) = Single u o
+-- back: absent where word 0 is 0, and else the numbers, whether word 9 is 1, and words 10 and 11
+unfoldable pub readingOf : List ℕ → Reading
+readingOf l = cond (eqb (getD l 0 0) 0) Absent (ofOrigin (getD l 10 0) (record { space = spaceOf l; behind = getD l 11 0 }) (eqb (getD l 9 0) 1))

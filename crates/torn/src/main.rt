@@ -7,7 +7,7 @@ const RECORDS: u32 = 29;
 const BLOCKS: usize = 3;
 
 // The words of the records, and the bytes of the card.
-const LIST_WORDS: usize = RECORDS as usize * blocks::TEN_WORDS;
+const LIST_WORDS: usize = RECORDS as usize * blocks::TWELVE_WORDS;
 
 const CARD_BYTES: usize = BLOCKS * blocks::BLOCK_BYTES;
 
@@ -17,12 +17,12 @@ const LAST_PLACE: usize = CARD_BYTES - blocks::BLOCK_BYTES;
 // One more than a place and than a block's records can be.
 const PLACES: usize = CARD_BYTES + 1;
 
-const COUNTS: u32 = blocks::TENS_HELD as u32 + 1;
+const COUNTS: u32 = blocks::TWELVES_HELD as u32 + 1;
 
 // Words of a record: 0 or 1 first, the others different from place to place.
 fn word(i: usize) -> u32 {
-    if i % blocks::TEN_WORDS == 0 {
-        return (i / blocks::TEN_WORDS % 2) as u32;
+    if i % blocks::TWELVE_WORDS == 0 {
+        return (i / blocks::TWELVE_WORDS % 2) as u32;
     }
     (i % 1000) as u32 * 4000003
 }
@@ -57,7 +57,7 @@ fn append_one(fd: i32, list: &[u32], bytes: &mut [u8]) {
     let next = appends::next_block(long, RECORDS);
     // the remainders change nothing on a card of three blocks; they bound what is cut out of the list
     let from = next.at % PLACES / blocks::BLOCK_BYTES * blocks::ROOM_WORDS;
-    let to = from + blocks::TEN_WORDS * (next.records % COUNTS) as usize;
+    let to = from + blocks::TWELVE_WORDS * (next.records % COUNTS) as usize;
     if list.len() < to {
         return;
     }
@@ -85,8 +85,8 @@ fn letter(mark: u32) -> u8 {
 
 fn print_letters(answer: &[u32]) {
     for r in 0..RECORDS as usize {
-        if blocks::TEN_WORDS * r < answer.len() {
-            io::write_all(STDOUT_FILENO, &[letter(answer[blocks::TEN_WORDS * r])]);
+        if blocks::TWELVE_WORDS * r < answer.len() {
+            io::write_all(STDOUT_FILENO, &[letter(answer[blocks::TWELVE_WORDS * r])]);
         }
     }
 }

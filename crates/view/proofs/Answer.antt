@@ -33,7 +33,7 @@ use Rattle.laws.proofs.Bridge.{all-words, readings-length, face-slots}
 use Rattle.view.specs.Answer.{slotNumber, HasSlot, slotsFrom, Shows, changed, Slotted, finalAt}
 use Rattle.view.proofs.Lists.{every-index, flatMap-append, sets-after, sets-front, listOf-same, listOf-set, listOf-getD, listOf-one}
 
--- ---- ten words a reading
+-- ---- the words of a reading
 
 -- what stands past a reading's words
 past : (r : Reading) (k : ℕ) → slotWords * suc k ≡ length (words r) + slotWords * k
@@ -60,7 +60,7 @@ words-set (r ∷ l) rest (suc k) q h =
     ∙ sets-after (words r) (flatMap words l ++ rest) (slotWords * k) (words q)
     ∙ ap (λ (a : List ℕ). words r ++ a) (words-set l rest k q (omega arith)) ∙ sym (append-assoc (words r) (flatMap words (set l k q)) rest)
 
--- ten zeros an absent reading
+-- zeros for an absent reading
 absent-words : (n : ℕ) → flatMap words (replicate n Absent) ≡ replicate (slotWords * n) 0
 unfolding flatMap words
 absent-words zero = refl

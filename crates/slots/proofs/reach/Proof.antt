@@ -3,7 +3,7 @@ use Prim.Native.Nat.{_*_}
 use mathlib.Core.Path.{sym, _∙_, ap}
 use lib.Seq.{sets}
 use Rattle.tangent.specs.declared.Reading.{Reading}
-use Rattle.tangent.specs.Slot.{words, readingOf}
+use Rattle.tangent.specs.Slot.{slotWords, words, readingOf}
 use Rattle.tangent.specs.Space.{reached}
 use Rattle.slots.specs.Slots.{wordsAt, reachedAt}
 use Rattle.slots.proofs.Runs.{written-there, written-not}
@@ -27,7 +27,7 @@ returns-2 c =
     let l = a .answer .now in
     let before = w .before .before .reading-of .ensures ∙ ap readingOf (w .before .before .before .words-at .ensures) in
     let after = w .words .ensures ∙ ap words (w .before .reached .ensures ∙ ap (λ (r : Reading). reached r (a .v) (a .orientation)) before) in
-    c .before .before .put .ensures ∙ ap (sets l (10 * a .slot)) after
+    c .before .before .put .ensures ∙ ap (sets l (slotWords * a .slot)) after
     ∙ sym (written-there (a .slot) (words (reached (readingOf (wordsAt (a .slot) l)) (a .v) (a .orientation))) l (e .if1 .left))
 
 pub reach-spec : {M : Type 1} → statement M

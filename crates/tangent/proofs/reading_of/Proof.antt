@@ -11,10 +11,10 @@ returns c = simp (eq-eqb _ _ (c .if1 .taken))
 
 returns-2 : tie.Need-returns-2
 unfolding readingOf
-returns-2 c = simp (ne-eqb _ _ (c .before .if1 .left)) (cc)
+returns-2 c = simp (ne-eqb _ _ (c .before .before .if1 .left)) (cc)
 
 pub reading-of-spec : {M : Type 1} → statement M
 reading-of-spec =
     tie.close
     (tie.spec
-    (λ c. search needs) returns (λ c κs. search needs) (λ c. search needs) returns-2)
+    (λ c. search needs) returns (λ c κs. search needs) (λ c. search needs) (λ c. search needs) (λ c. search needs) (λ c κs. search needs) returns-2)

@@ -17,9 +17,17 @@ returns-3 : tie.Need-returns-3
 unfolding words
 returns-3 c = c .present2 .ensures ∙ sym (ap words (c .before .before .r2 .given .1))
 
+returns-4 : tie.Need-returns-4
+unfolding words
+returns-4 c = c .present3 .ensures ∙ sym (ap words (c .before .before .r3 .given .1))
+
+returns-5 : tie.Need-returns-5
+unfolding words
+returns-5 c = c .present4 .ensures ∙ sym (ap words (c .before .before .r4 .given .1))
+
 pub words-spec : {M : Type 1} → statement M
 words-spec =
     tie.close
     (tie.spec
-    (λ c. search needs) (λ c. search needs) (λ c κs. search needs) (λ c. search needs) (λ c κs. search needs) returns returns-2
-    returns-3)
+    (λ c. search needs) (λ c. search needs) (λ c κs. search needs) (λ c. search needs) (λ c κs. search needs) (λ c. search needs) (λ c κs. search needs) (λ c. search needs) (λ c κs. search needs)
+    returns returns-2 returns-3 returns-4 returns-5)
