@@ -1,6 +1,6 @@
 /* Tangent frames for scanned steel: the calls of libdokphalun.a, for C and C++.
  *
- * An absent reading is not a good reading. A slot without a frame is ten zero words, which as numbers would look like
+ * An absent reading is not a good reading. A slot without a frame is twelve zero words, which as numbers would look like
  * smooth steel: so ask every slot with dokphalun_slot, and never take its words for numbers yourself.
  *
  * A list is a pointer to its first element and a number of elements. The pointer is not null, not even for a list of no
@@ -24,24 +24,32 @@ extern "C" {
 
 /* The edition of the interface that this header declares: one more whenever a call, a list or a number of it no longer means
  * what it meant. */
-#define DOKPHALUN_INTERFACE 2
+#define DOKPHALUN_INTERFACE 3
 /* The greatest number of faces that is accepted. */
 #define DOKPHALUN_MOST_FACES 65536
-/* The words of a slot, and of a card's record. */
-#define DOKPHALUN_SLOT_WORDS 10
+/* The words of a slot, and of a card's record; and of a record of an old card, from before request E7. */
+#define DOKPHALUN_SLOT_WORDS 12
+#define DOKPHALUN_OLD_SLOT_WORDS 10
 /* The words of work that a face needs. */
 #define DOKPHALUN_WORK_WORDS 128
 /* The entries a face of the lists that dokphalun_frames_by_islands works in besides. */
 #define DOKPHALUN_ORDER_WORDS 4
 #define DOKPHALUN_OWN_NUMBERS 32
-#define DOKPHALUN_OWN_FRAME_WORDS 40
+#define DOKPHALUN_OWN_FRAME_WORDS 48
 /* The words a face of the lists that dokphalun_links writes: links and groups, and orientations. */
 #define DOKPHALUN_LINK_WORDS 6
 #define DOKPHALUN_ORIENTATION_WORDS 2
 /* What a face is given that is in no island. */
 #define DOKPHALUN_NO_ISLAND UINT32_MAX
-/* The bytes of a card of so many records: 12 to a block of 512. */
-#define DOKPHALUN_CARD_BYTES(records) (((size_t)(records) + 11) / 12 * 512)
+/* The bytes of a card's block, and the records that it holds; and those of an old card's. */
+#define DOKPHALUN_BLOCK_BYTES 512
+#define DOKPHALUN_BLOCK_RECORDS 10
+#define DOKPHALUN_OLD_BLOCK_RECORDS 12
+/* The bytes of a card, and of an old card, of so many records. */
+#define DOKPHALUN_CARD_BYTES(records) \
+    (((size_t)(records) + DOKPHALUN_BLOCK_RECORDS - 1) / DOKPHALUN_BLOCK_RECORDS * DOKPHALUN_BLOCK_BYTES)
+#define DOKPHALUN_OLD_CARD_BYTES(records) \
+    (((size_t)(records) + DOKPHALUN_OLD_BLOCK_RECORDS - 1) / DOKPHALUN_OLD_BLOCK_RECORDS * DOKPHALUN_BLOCK_BYTES)
 
 #if defined(__GNUC__)
 #define DOKPHALUN_ASK __attribute__((warn_unused_result))
@@ -56,7 +64,7 @@ extern "C" {
  *   3  the threshold is NaN or infinite
  *   4  a corner of a face of 3 or 4 holds a NaN or infinity; place is the lowest such corner, counted from 0 over all faces
  *   7  a corner of a face of 3 or 4 has no normal: each of its three numbers is at most 2^-126 in size; place as for 4
- *   5  the answer list is shorter than ten words a slot
+ *   5  the answer list is shorter than DOKPHALUN_SLOT_WORDS a slot
  *   6  the work list is shorter than 128 words a face
  */
 struct dokphalun_outcome {
@@ -123,7 +131,7 @@ struct dokphalun_handed {
     uint32_t sound;
 };
 
-/* What dokphalun_card_write says: number 0 and how many bytes it wrote; or a refusal's number and 0.
+/* What dokphalun_card_write and dokphalun_old_card_write say: number 0 and how many bytes it wrote; or a refusal's number and 0.
  *   1  the words are not whole records, are 2^32 records or more, or word 0 of one is neither 0 nor 1
  *   2  the card's list is too short
  */
@@ -132,23 +140,23 @@ struct dokphalun_written {
     size_t bytes;
 };
 
-/* What dokphalun_card_read says: number 0 and how many bytes stand past the last whole block that the total calls for;
- * or refusal 2, the answer list is shorter than ten words a record, and 0. */
+/* What dokphalun_card_read and dokphalun_old_card_read say: number 0 and how many bytes stand past the last whole block that
+ * the total calls for; or refusal 2, the answer list is shorter than the words of so many records, and 0. */
 struct dokphalun_found {
     uint32_t number;
     size_t past;
 };
 
-/* What dokphalun_card_next says: number 0, how many records the next block takes (none where the card is whole) and the byte
- * of the file at which it goes; or refusal 3, the card holds more than the total calls for, and zeros. */
+/* What dokphalun_card_next and dokphalun_old_card_next say: number 0, how many records the next block takes (none where the
+ * card is whole) and the byte of the file at which it goes; or refusal 3, the card holds more than the total calls for, and zeros. */
 struct dokphalun_next {
     uint32_t number;
     uint32_t records;
     size_t at;
 };
 
-/* What dokphalun_card_append says: number 0, how many blocks of 512 bytes it made and the byte of the file at which they
- * go; or a refusal's number and zeros.
+/* What dokphalun_card_append and dokphalun_old_card_append say: number 0, how many blocks of 512 bytes were made and the byte
+ * of the file at which they go; or a refusal's number and zeros.
  *   1  as dokphalun_card_write
  *   2  the list for the blocks is too short
  *   3  the card holds more than the total calls for
@@ -261,7 +269,10 @@ DOKPHALUN_ASK struct dokphalun_handed dokphalun_links(
     uint32_t *orientations, size_t orientation_words,
     uint32_t *work, size_t work_words);
 
-/* Answer words to the bytes of a card. */
+/* Answer words to the bytes of a card. Cards are of two kinds: of DOKPHALUN_SLOT_WORDS a record, as answers have them, and old
+ * ones of DOKPHALUN_OLD_SLOT_WORDS, from before request E7. To a reader of one kind each block of the other is lost.
+ * WARNING: no old card's records here. Six of them are as long as five slots: they can be taken for five wrong ones and not be
+ * refused. They go to dokphalun_old_card_write. */
 DOKPHALUN_ASK struct dokphalun_written dokphalun_card_write(
     const uint32_t *answer, size_t answer_words,
     uint8_t *card, size_t card_bytes);
@@ -274,14 +285,30 @@ DOKPHALUN_ASK struct dokphalun_found dokphalun_card_read(
 /* What comes next on a card of so many bytes, torn or whole. */
 DOKPHALUN_ASK struct dokphalun_next dokphalun_card_next(size_t card_bytes, uint32_t total);
 
-/* The bytes of the next block or blocks of a card of so many bytes, from their records. */
+/* The bytes of the next block or blocks of a card of so many bytes, from their records: slots, and no old card's (the warning of
+ * dokphalun_card_write). */
 DOKPHALUN_ASK struct dokphalun_appended dokphalun_card_append(
     size_t card_bytes, uint32_t total,
     const uint32_t *records, size_t record_words,
     uint8_t *blocks, size_t block_bytes);
 
+/* The same four of an old card: all lists of records have DOKPHALUN_OLD_SLOT_WORDS a record. */
+DOKPHALUN_ASK struct dokphalun_written dokphalun_old_card_write(
+    const uint32_t *records, size_t record_words,
+    uint8_t *card, size_t card_bytes);
+DOKPHALUN_ASK struct dokphalun_found dokphalun_old_card_read(
+    const uint8_t *card, size_t card_bytes, uint32_t total,
+    uint32_t *records, size_t record_words);
+DOKPHALUN_ASK struct dokphalun_next dokphalun_old_card_next(size_t card_bytes, uint32_t total);
+DOKPHALUN_ASK struct dokphalun_appended dokphalun_old_card_append(
+    size_t card_bytes, uint32_t total,
+    const uint32_t *records, size_t record_words,
+    uint8_t *blocks, size_t block_bytes);
+
 /* Frames packed for a viewer: seven numbers a slot, six directions times 32,767 and 1 or -1 for the orientation; a slot
- * without a frame is seven times -32,768. */
+ * without a frame is seven times -32,768.
+ * WARNING: no old card's records here. Six of them are as long as five slots: they are taken for five wrong ones and not refused.
+ * Widen each with dokphalun_old_to_slot first. */
 DOKPHALUN_ASK struct dokphalun_packed dokphalun_pack(
     const uint32_t *answer, size_t answer_words,
     int16_t *packed, size_t packed_numbers);
@@ -298,6 +325,15 @@ enum dokphalun_reading {
     DOKPHALUN_LOST = 2 /* a card's block is not there, or not as it was written: nothing is known */
 };
 
+/* Where a frame comes from. */
+enum dokphalun_origin {
+    DOKPHALUN_NOT_RECORDED = 0, /* there is no frame; or it is of an old card, or of a card whose word for it is none of these */
+    DOKPHALUN_SINGLE = 1, /* one subgroup brought it */
+    DOKPHALUN_COMBINED = 2, /* the two triangles of a quad brought one each, and they were combined */
+    DOKPHALUN_COPIED = 3, /* copied to a corner of a degenerate triangle from a sound corner with the same numbers */
+    DOKPHALUN_FILLED = 4 /* copied within a quad with one degenerate triangle, to the corner that the other one lacks */
+};
+
 /* The frame of a corner. Each direction is of finite numbers, and can be zero: take such a frame as you take an absent one. (On a card from before
  * request E6 a direction can be no finite number.) The magnitudes can be infinite or NaN. */
 struct dokphalun_frame {
@@ -306,26 +342,59 @@ struct dokphalun_frame {
     float mag_s;
     float mag_t;
     uint32_t preserving; /* 1 where the texture runs round the face as the corners do; 0 where it is mirrored */
+    enum dokphalun_origin origin;
+    uint32_t behind; /* how many triangles that are not group_with_any stand behind it; 0 where its origin is not recorded */
 };
 
-/* What is known of slot k of an answer list. The frame is filled in where it is present; else all its numbers become NaN,
- * so that an answer that was not asked for does not look like zeros. */
-DOKPHALUN_ASK static inline enum dokphalun_reading dokphalun_slot(
-    const uint32_t *answer, size_t k, struct dokphalun_frame *frame)
+/* What the words say that slots and old cards' records have both. */
+static inline enum dokphalun_reading dokphalun_old_words(const uint32_t *words, struct dokphalun_frame *frame)
 {
-    const uint32_t *slot = answer + DOKPHALUN_SLOT_WORDS * k;
     float numbers[8];
     size_t i;
-    memcpy(numbers, slot + 1, sizeof numbers);
-    if (slot[0] != 1)
+    memcpy(numbers, words + 1, sizeof numbers);
+    if (words[0] != 1)
         for (i = 0; i < 8; i++)
             numbers[i] = NAN;
     memcpy(frame->tangent, numbers, sizeof frame->tangent);
     memcpy(frame->bitangent, numbers + 3, sizeof frame->bitangent);
     frame->mag_s = numbers[6];
     frame->mag_t = numbers[7];
-    frame->preserving = slot[9];
-    return slot[0] == 1 ? DOKPHALUN_PRESENT : slot[0] == 0 ? DOKPHALUN_ABSENT : DOKPHALUN_LOST;
+    frame->preserving = words[0] == 1 ? words[9] : 0;
+    frame->origin = DOKPHALUN_NOT_RECORDED;
+    frame->behind = 0;
+    return words[0] == 1 ? DOKPHALUN_PRESENT : words[0] == 0 ? DOKPHALUN_ABSENT : DOKPHALUN_LOST;
+}
+
+/* What is known of slot k of an answer list. The frame is filled in where it is present; else its directions and magnitudes become
+ * NaN, so that an answer that was not asked for does not look like zeros, and preserving, origin and behind, which have no NaN, 0. */
+DOKPHALUN_ASK static inline enum dokphalun_reading dokphalun_slot(
+    const uint32_t *answer, size_t k, struct dokphalun_frame *frame)
+{
+    const uint32_t *slot = answer + DOKPHALUN_SLOT_WORDS * k;
+    enum dokphalun_reading reading = dokphalun_old_words(slot, frame);
+    if (reading != DOKPHALUN_PRESENT)
+        return reading;
+    if (slot[10] < DOKPHALUN_SINGLE || slot[10] > DOKPHALUN_FILLED)
+        return reading;
+    frame->origin = (enum dokphalun_origin)slot[10];
+    frame->behind = slot[11];
+    return reading;
+}
+
+/* What is known of record k of an old card, in the same way. Where its frame comes from is not recorded there. */
+DOKPHALUN_ASK static inline enum dokphalun_reading dokphalun_old_slot(
+    const uint32_t *records, size_t k, struct dokphalun_frame *frame)
+{
+    return dokphalun_old_words(records + DOKPHALUN_OLD_SLOT_WORDS * k, frame);
+}
+
+/* A record of an old card as a slot, for dokphalun_pack and dokphalun_slot: its words, and zeros, which say that the origin is not
+ * recorded. The two lists stand apart. It is not for dokphalun_card_write: on a new card each frame has an origin, and the command
+ * says NO ORIGIN of one that has none. */
+static inline void dokphalun_old_to_slot(const uint32_t old[DOKPHALUN_OLD_SLOT_WORDS], uint32_t slot[DOKPHALUN_SLOT_WORDS])
+{
+    memset(slot, 0, DOKPHALUN_SLOT_WORDS * sizeof *slot);
+    memcpy(slot, old, DOKPHALUN_OLD_SLOT_WORDS * sizeof *old);
 }
 
 #ifdef __cplusplus

@@ -66,6 +66,7 @@ fn papers(folder: &Path, name: &str) -> Papers {
     Papers {
         report: Some(folder.join(format!("{name}.csv"))),
         picture: Some(folder.join(format!("{name}.svg"))),
+        origins: false,
     }
 }
 

@@ -1,11 +1,12 @@
 //! `dokphalun frames`: a mesh file to a card, a report and a picture.
 use crate::meshfile::load;
+use crate::origins::told;
 use crate::papers::Papers;
 use crate::say;
 use crate::state::{Known, State, Tally};
 use crate::stop::{Status, Stop};
 use crate::surface::Surface;
-use dokphalun::{BLOCK_BYTES, Buffers, Record, Refusal};
+use dokphalun::{BLOCK_BYTES, Buffers, Kind, Record, Refusal};
 use std::num::NonZeroUsize;
 use std::path::{Path, PathBuf};
 use std::thread::available_parallelism;
@@ -43,7 +44,11 @@ pub fn run(asked: &AskedFrames) -> Result<Status, Stop> {
         .map(|(_, reading)| reading.into())
         .collect();
     let (surface, records) = (&surface, &records[..]);
-    let known = Known { surface, records };
+    let known = Known {
+        surface,
+        records,
+        kind: Kind::New,
+    };
     asked
         .papers
         .write(&known, &asked.mesh, Some((&asked.card, &card)))?;
@@ -65,7 +70,7 @@ fn threads(surface: &Surface) -> NonZeroUsize {
 
 /// Prints what came out; the result is the exit status.
 fn summary(asked: &AskedFrames, known: &Known, blocks: usize, parts: usize) -> Status {
-    let tally = Tally::of(known.records);
+    let tally = Tally::of(known.records, known.kind);
     let surface = known.surface;
     let total = tally.all();
     say::line("mesh", asked.mesh.display());
@@ -75,7 +80,11 @@ fn summary(asked: &AskedFrames, known: &Known, blocks: usize, parts: usize) -> S
     if parts > 1 {
         say::line("parts", format!("{parts}, of whole islands, one a core"));
     }
-    say::tally(&tally, &[State::Absent, State::NoDirection]);
+    say::tally(
+        &tally,
+        &[State::Absent, State::NoDirection, State::NoOrigin],
+    );
+    say::line("origins", told(known.records, known.kind));
     say::faces(known);
     let (records, blocks) = (say::counted(total, "record"), say::counted(blocks, "block"));
     let written = format!("{records} in {blocks}. Keep that number");

@@ -8,6 +8,7 @@ pub mod listsfile;
 pub mod meshfile;
 pub mod obj;
 pub mod options;
+pub mod origins;
 pub mod papers;
 pub mod picture;
 pub mod ply;

@@ -14,12 +14,13 @@ use std::str::FromStr;
 /// What `dokphalun help` prints; MOST_FACES stands for the number.
 const HELP: &str = "dokphalun: tangent frames of a scanned mesh. An absent reading is not a good reading.
 
-  dokphalun frames MESH -o CARD [--threshold COS | --angle DEGREES] [--report CSV] [--picture SVG]
+  dokphalun frames MESH -o CARD [--threshold COS | --angle DEGREES] [--report CSV] [--picture SVG [--origins]]
       MESH is a PLY or OBJ file with normals and texture coordinates, of at most MOST_FACES faces.
       Frames of all corners of faces of 3 or 4 are written to CARD, and each corner without one is named.
       Tangents of one corner are joined up to an angle; by default there is no limit (180 degrees, cosine -1).
-  dokphalun read CARD --total N [--mesh MESH] [--report CSV] [--picture SVG]
-      What is on a card of N records: present, absent, lost, and torn bytes; with the mesh, which faces are concerned.
+      With --origins the picture marks where frames come from: combined, copied or filled in.
+  dokphalun read CARD --total N [--mesh MESH] [--report CSV] [--picture SVG [--origins]]
+      What is on a card of N records, of the old kind or the new: present, absent, lost, and torn bytes; with the mesh, which faces.
   dokphalun links MESH -o LISTS
       Writes our own links, groups and orientations of the mesh's sound triangles, as text.
   dokphalun examine MESH LISTS
@@ -28,7 +29,7 @@ const HELP: &str = "dokphalun: tangent frames of a scanned mesh. An absent readi
       Makes a tank, and runs `frames` and `read` on it. It leaves mesh, card, report and pictures in FOLDER (dokphalun-demo).
 
 Exit status: 0 every slot is present; or lists are written, or accepted. 2 the command line is not understood. 3 some corner has no frame. 4 the mesh is refused.
-5 a file cannot be read. 6 a card has lost records or torn bytes. 7 a file cannot be written. 8 lists are not accepted.
+5 a file cannot be read. 6 a card has lost records, records that no answer has, or torn bytes. 7 a file cannot be written. 8 lists are not accepted.
 ";
 
 /// The first words that are known.
@@ -51,6 +52,9 @@ pub fn help() -> Status {
     Status::Good
 }
 
+/// The names that have no value behind them.
+const BARE: [&str; 1] = ["--origins"];
+
 /// The words after the first, sorted into plain ones and named ones.
 struct Words {
     plain: Vec<OsString>,
@@ -58,7 +62,7 @@ struct Words {
 }
 
 impl Words {
-    /// Sorts words; only these names are known, each with a value behind it.
+    /// Sorts words; only these names are known, each with a value behind it unless it is bare.
     fn sort(
         mut words: impl Iterator<Item = OsString>,
         known: &[&'static str],
@@ -72,9 +76,11 @@ impl Words {
             let Some(name) = known.iter().find(|name| word == **name) else {
                 return Err(Stop::usage(format!("{} is not known here", word.display())));
             };
-            let value = words
-                .next()
-                .ok_or_else(|| Stop::usage(format!("{name} wants a value")))?;
+            let value = match BARE.contains(name) {
+                true => Some(OsString::new()),
+                false => words.next(),
+            };
+            let value = value.ok_or_else(|| Stop::usage(format!("{name} wants a value")))?;
             if named.iter().any(|(other, _)| other == name) {
                 return Err(Stop::usage(format!("{name} stands twice")));
             }
@@ -97,10 +103,15 @@ impl Words {
     }
 
     /// The report and the picture.
-    fn papers(&self) -> Papers {
-        Papers {
+    fn papers(&self) -> Result<Papers, Stop> {
+        let papers = Papers {
             report: self.path("--report"),
             picture: self.path("--picture"),
+            origins: self.value("--origins").is_some(),
+        };
+        match papers.origins && papers.picture.is_none() {
+            true => Err(Stop::usage("--origins wants --picture SVG too")),
+            false => Ok(papers),
         }
     }
 
@@ -166,7 +177,14 @@ pub fn task(mut words: impl Iterator<Item = OsString>) -> Result<Task, Stop> {
 fn frames(words: impl Iterator<Item = OsString>) -> Result<AskedFrames, Stop> {
     let words = Words::sort(
         words,
-        &["-o", "--threshold", "--angle", "--report", "--picture"],
+        &[
+            "-o",
+            "--threshold",
+            "--angle",
+            "--report",
+            "--picture",
+            "--origins",
+        ],
     )?;
     let asked = AskedFrames {
         mesh: words.only("mesh")?,
@@ -174,7 +192,7 @@ fn frames(words: impl Iterator<Item = OsString>) -> Result<AskedFrames, Stop> {
             .path("-o")
             .ok_or_else(|| Stop::usage("-o CARD is wanted"))?,
         threshold: threshold(words.number("--threshold")?, words.number("--angle")?)?,
-        papers: words.papers(),
+        papers: words.papers()?,
     };
     apart([Some(&asked.mesh), Some(&asked.card)], &asked.papers)?;
     Ok(asked)
@@ -182,7 +200,10 @@ fn frames(words: impl Iterator<Item = OsString>) -> Result<AskedFrames, Stop> {
 
 /// The words after `read`.
 fn read(words: impl Iterator<Item = OsString>) -> Result<AskedRead, Stop> {
-    let words = Words::sort(words, &["--total", "--mesh", "--report", "--picture"])?;
+    let words = Words::sort(
+        words,
+        &["--total", "--mesh", "--report", "--picture", "--origins"],
+    )?;
     let no_total = || {
         Stop::usage(
             "--total N is wanted: the number of records that was printed when the card was written",
@@ -192,7 +213,7 @@ fn read(words: impl Iterator<Item = OsString>) -> Result<AskedRead, Stop> {
         card: words.only("card")?,
         total: words.number("--total")?.ok_or_else(no_total)?,
         mesh: words.path("--mesh"),
-        papers: words.papers(),
+        papers: words.papers()?,
     };
     if asked.mesh.is_none() && asked.papers.iter().next().is_some() {
         return Err(Stop::usage("--report and --picture want --mesh MESH too"));

@@ -12,6 +12,8 @@ use std::path::{Path, PathBuf};
 pub struct Papers {
     pub report: Option<PathBuf>,
     pub picture: Option<PathBuf>,
+    /// Whether the picture marks where frames come from.
+    pub origins: bool,
 }
 
 impl Papers {
@@ -32,7 +34,7 @@ impl Papers {
         let drawn = self
             .picture
             .as_ref()
-            .map(|path| (path, picture(known, &name)));
+            .map(|path| (path, picture(known, &name, self.origins)));
         let texts: Vec<_> = report.into_iter().chain(drawn).collect();
         let texts = texts
             .iter()

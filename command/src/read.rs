@@ -1,11 +1,12 @@
 //! `dokphalun read`: what is on a card.
 use crate::meshfile::{bytes, load};
+use crate::origins::told;
 use crate::papers::Papers;
 use crate::say;
 use crate::state::{BAD, Known, State, Tally};
 use crate::stop::{Status, Stop};
 use crate::surface::Surface;
-use dokphalun::{BLOCK_BYTES, BLOCK_RECORDS, Buffers, MOST_FACES, MOST_SLOTS, Record, Refusal};
+use dokphalun::{BLOCK_BYTES, Buffers, Card, Kind, MOST_FACES, MOST_SLOTS, Record, Refusal};
 use std::path::{Path, PathBuf};
 
 /// The greatest total that is read here: the slots of every mesh, and a mistyped total does not take all memory.
@@ -42,6 +43,7 @@ pub fn run(asked: &AskedRead) -> Result<Status, Stop> {
     let known = surface.as_ref().map(|surface| Known {
         surface,
         records: &records,
+        kind: read.kind,
     });
     if let Some(known) = &known {
         asked.papers.write(known, &asked.card, None)?;
@@ -52,8 +54,35 @@ pub fn run(asked: &AskedRead) -> Result<Status, Stop> {
         "card",
         format!("{name}: {bytes} bytes, {blocks} whole blocks"),
     );
+    kind(&read);
     asked.papers.say();
-    Ok(summary(&records, known.as_ref(), read.torn))
+    Ok(summary(&read, &records, known.as_ref()))
+}
+
+/// Says of which kind a card is, and loudly if there is anything of the other on it.
+fn kind(card: &Card) {
+    let said = match (card.kind, card.found()) {
+        (Kind::Old, _) => {
+            "card of the old kind: ten words a record; where the frames come from is not recorded"
+        }
+        (Kind::New, 0) => "not known: no record is found of the old kind, and none of the new one",
+        (Kind::New, _) => "card of the new kind: twelve words a record",
+    };
+    say::line("kind", said);
+    if card.of_other_kind > 0 {
+        let records = say::counted(card.of_other_kind, "record");
+        let other = named(card.kind.other());
+        let what = format!("{records} on blocks of the {other} kind, which are not read");
+        say::loud("OTHER KIND", what);
+    }
+}
+
+/// The name of a kind.
+fn named(kind: Kind) -> &'static str {
+    match kind {
+        Kind::Old => "old",
+        Kind::New => "new",
+    }
 }
 
 /// The mesh that the card is said to belong to.
@@ -75,10 +104,11 @@ fn mesh(path: &Path, total: u32) -> Result<Surface, Stop> {
 }
 
 /// Prints what was found; the result is the exit status.
-fn summary(records: &[Record], known: Option<&Known>, torn: usize) -> Status {
-    let tally = Tally::of(records);
+fn summary(card: &Card, records: &[Record], known: Option<&Known>) -> Status {
+    let (tally, torn) = (Tally::of(records, card.kind), card.torn);
     say::line("records", records.len());
     say::tally(&tally, &BAD);
+    say::line("origins", told(records, card.kind));
     match torn {
         0 => say::line("torn bytes", 0),
         _ => say::loud(
@@ -86,10 +116,10 @@ fn summary(records: &[Record], known: Option<&Known>, torn: usize) -> Status {
             format!("{torn} past the last whole block that the total calls for"),
         ),
     }
-    blocks(records);
+    blocks(records, card.kind);
     match known {
         Some(known) => say::faces(known),
-        None => places(records),
+        None => places(records, card.kind),
     }
     if tally.lost > 0 && tally.lost == tally.all() {
         say::loud(
@@ -107,13 +137,12 @@ fn summary(records: &[Record], known: Option<&Known>, torn: usize) -> Status {
     status
 }
 
-/// The blocks that are lost.
-fn blocks(records: &[Record]) {
-    let lost = |(_, block): &(usize, &[Record])| {
-        block.iter().any(|record| State::of(record) == State::Lost)
-    };
+/// The blocks of a card of a kind that are lost.
+fn blocks(records: &[Record], kind: Kind) {
+    let lost =
+        |(_, block): &(usize, &[Record])| block.iter().any(|record| matches!(record, Record::Lost));
     let lost: Vec<usize> = records
-        .chunks(BLOCK_RECORDS)
+        .chunks(kind.block_records())
         .enumerate()
         .filter(lost)
         .map(|(b, _)| b)
@@ -124,12 +153,12 @@ fn blocks(records: &[Record]) {
 }
 
 /// The records that are not good, by their numbers, where no mesh says which faces they are.
-fn places(records: &[Record]) {
+fn places(records: &[Record], kind: Kind) {
     for state in BAD {
         let here = records
             .iter()
             .enumerate()
-            .filter(|(_, record)| State::of(record) == state);
+            .filter(|(_, record)| State::of(record, kind) == state);
         let text = say::ranges(here.map(|(number, _)| number));
         if !text.is_empty() {
             say::loud(

@@ -1,10 +1,13 @@
 //! The report: a row of comma-separated values for each corner. What is not there is left empty, and is never a zero.
 use crate::state::{Known, State};
-use dokphalun::{Frame, Place, Record, corners, takes_slots};
+use dokphalun::{Frame, Kind, Place, Record, corners, takes_slots};
 use std::fmt::Write;
 
 /// The names of the columns.
-const TITLES: &str = "face,corner,slot,reading,tangent_x,tangent_y,tangent_z,bitangent_x,bitangent_y,bitangent_z,mag_s,mag_t,orientation\n";
+const TITLES: &str = "face,corner,slot,reading,tangent_x,tangent_y,tangent_z,bitangent_x,bitangent_y,bitangent_z,mag_s,mag_t,orientation,origin,behind\n";
+
+/// What follows the reading where there is no frame: nothing, in each column.
+const NOTHING: &str = ",,,,,,,,,,,";
 
 /// The report's text.
 pub fn report(known: &Known) -> String {
@@ -21,24 +24,28 @@ pub fn report(known: &Known) -> String {
             true => records.next(),
             false => None,
         };
-        text.push_str(&row(place, slot));
+        text.push_str(&row(place, slot, known.kind));
     }
     text
 }
 
-/// The row of a corner and its slot, if it has one.
-fn row(Place { face, corner }: Place, slot: Option<(usize, &Record)>) -> String {
+/// The row of a corner and its slot of a kind, if it has one.
+fn row(Place { face, corner }: Place, slot: Option<(usize, &Record)>, kind: Kind) -> String {
     let Some((slot, record)) = slot else {
-        return format!("{face},{corner},,NO SLOT,,,,,,,,,\n");
+        return format!("{face},{corner},,NO SLOT{NOTHING}\n");
     };
-    let word = State::of(record).word();
+    let state = State::of(record, kind);
+    let word = state.word();
     match record {
-        Record::Present(frame) => format!("{face},{corner},{slot},{word},{}\n", numbers(frame)),
-        _ => format!("{face},{corner},{slot},{word},,,,,,,,,\n"),
+        Record::Present(frame) if state != State::NoOrigin => {
+            format!("{face},{corner},{slot},{word},{}\n", numbers(frame))
+        }
+        _ => format!("{face},{corner},{slot},{word}{NOTHING}\n"),
     }
 }
 
-/// The numbers of a frame, shortest text that reads back the same.
+/// The numbers of a frame, shortest text that reads back the same; where it comes from in words, and how many triangles stand behind it,
+/// empty where that is not recorded.
 fn numbers(frame: &Frame) -> String {
     let mut text = String::new();
     let all = frame.tangent.iter().chain(&frame.bitangent);
@@ -46,6 +53,7 @@ fn numbers(frame: &Frame) -> String {
         // writing to a string does not fail
         let _ = write!(text, "{number},");
     }
-    text.push(if frame.preserving { '1' } else { '0' });
-    text
+    let behind = frame.behind.map(|count| count.to_string());
+    let (turn, behind) = (u8::from(frame.preserving), behind.unwrap_or_default());
+    text + &format!("{turn},{},{behind}", frame.origin.word())
 }

@@ -2,7 +2,7 @@
 use crate::cause::cause;
 use crate::state::{BAD, Known, State, Tally};
 use crate::stop::Status;
-use dokphalun::Record;
+use dokphalun::Frame;
 use std::fmt::Display;
 use std::io::{IsTerminal, Write, stderr, stdout};
 use std::path::Path;
@@ -30,6 +30,8 @@ pub fn tally(tally: &Tally, states: &[State]) {
     line("present", tally.present);
     for state in states {
         match tally.count(*state) {
+            // an old card's frames have none, and that is no fault of theirs
+            0 if *state == State::NoOrigin => (),
             0 => line(&state.word().to_lowercase(), 0),
             count => loud(state.word(), count),
         }
@@ -68,6 +70,7 @@ pub fn faces(known: &Known) {
             let why = match state {
                 State::Absent => cause(known.surface, face, starts[face]),
                 State::NoDirection => undirected(known, face),
+                State::NoOrigin => NO_ORIGIN,
                 _ => "not on the card: nothing is known",
             };
             let which = format!("face {face}, corner {}", corners.join(" "));
@@ -81,17 +84,17 @@ pub fn faces(known: &Known) {
     }
 }
 
+/// What is said of frames of a new card without origin.
+const NO_ORIGIN: &str = "the card's words for origin and count are none that an answer has: nothing is known, write the card again from the mesh";
+
 /// Why a face's frames have no direction. In a frame that is made here it is zero; a card of an older edition can hold others.
 fn undirected(known: &Known, face: usize) -> &'static str {
-    let finite = |record: &Record| match record {
-        Record::Present(frame) => {
-            let numbers = frame.tangent.iter().chain(&frame.bitangent);
-            numbers.copied().all(f32::is_finite)
-        }
-        _ => true,
+    let finite = |frame: &Frame| {
+        let numbers = frame.tangent.iter().chain(&frame.bitangent);
+        numbers.copied().all(f32::is_finite)
     };
-    let mut slots = known.slots().filter(|(place, _)| place.face == face);
-    match slots.all(|(_, record)| finite(record)) {
+    let mut frames = known.frames().filter(|(place, _)| place.face == face);
+    match frames.all(|(_, frame)| finite(frame)) {
         true => {
             "a direction is zero: a normal lies along it, or numbers are too large or too small for single precision"
         }

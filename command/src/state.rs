@@ -1,7 +1,7 @@
 //! What is known of a corner, in one word; and how many corners there are of each.
 use crate::stop::Status;
 use crate::surface::Surface;
-use dokphalun::{Place, Record, slots, takes_slots};
+use dokphalun::{Frame, Kind, Origin, Place, Record, slots, takes_slots};
 
 /// What is known of a corner. Only the first is good.
 #[derive(Clone, Copy, Debug, PartialEq, Eq)]
@@ -12,19 +12,29 @@ pub enum State {
     NoDirection,
     /// It has no frame.
     Absent,
+    /// A card of the new kind has a frame of it that comes from nowhere, or from no triangle: no answer has such a one.
+    NoOrigin,
     /// The card has lost it.
     Lost,
 }
 
 /// The states that are not good, worst last.
-pub const BAD: [State; 3] = [State::NoDirection, State::Absent, State::Lost];
+pub const BAD: [State; 4] = [
+    State::NoDirection,
+    State::Absent,
+    State::NoOrigin,
+    State::Lost,
+];
 
 impl State {
-    /// What is known of a record.
-    pub fn of(record: &Record) -> State {
+    /// What is known of a record of a kind.
+    pub fn of(record: &Record, kind: Kind) -> State {
         match record {
             Record::Lost => State::Lost,
             Record::Absent => State::Absent,
+            Record::Present(frame) if kind == Kind::New && !from_somewhere(frame) => {
+                State::NoOrigin
+            }
             Record::Present(frame) if frame.directed() => State::Present,
             Record::Present(_) => State::NoDirection,
         }
@@ -36,15 +46,23 @@ impl State {
             State::Present => "present",
             State::NoDirection => "NO DIRECTION",
             State::Absent => "ABSENT",
+            State::NoOrigin => "NO ORIGIN",
             State::Lost => "LOST",
         }
     }
+}
+
+/// Whether a frame says where it comes from, and that some triangle stands behind it: of every answer's frames both is proved.
+fn from_somewhere(frame: &Frame) -> bool {
+    frame.origin != Origin::NotRecorded && frame.behind != Some(0)
 }
 
 /// A mesh and what is known of each of its slots.
 pub struct Known<'a> {
     pub surface: &'a Surface,
     pub records: &'a [Record],
+    /// How wide its records are: old ones say nothing of origins, and need not.
+    pub kind: Kind,
 }
 
 impl Known<'_> {
@@ -53,12 +71,22 @@ impl Known<'_> {
         slots(&self.surface.sizes).zip(self.records)
     }
 
+    /// Each slot with a frame, by its face and corner; a frame that comes from nowhere is none.
+    pub fn frames(&self) -> impl Iterator<Item = (Place, &Frame)> {
+        self.slots().filter_map(|(place, record)| match record {
+            Record::Present(frame) if State::of(record, self.kind) != State::NoOrigin => {
+                Some((place, frame))
+            }
+            _ => None,
+        })
+    }
+
     /// The corners of each face that are in some state, face by face.
     pub fn faces(&self, state: State) -> Vec<(usize, Vec<usize>)> {
         let mut faces: Vec<(usize, Vec<usize>)> = Vec::new();
         for (place, _) in self
             .slots()
-            .filter(|(_, record)| State::of(record) == state)
+            .filter(|(_, record)| State::of(record, self.kind) == state)
         {
             match faces.last_mut() {
                 Some((face, corners)) if *face == place.face => corners.push(place.corner),
@@ -83,15 +111,16 @@ pub struct Tally {
     pub present: usize,
     pub no_direction: usize,
     pub absent: usize,
+    pub no_origin: usize,
     pub lost: usize,
 }
 
 impl Tally {
-    /// Counts.
-    pub fn of(records: &[Record]) -> Tally {
+    /// Counts records of a kind.
+    pub fn of(records: &[Record], kind: Kind) -> Tally {
         let mut tally = Tally::default();
         for record in records {
-            *tally.of_state_mut(State::of(record)) += 1;
+            *tally.of_state_mut(State::of(record, kind)) += 1;
         }
         tally
     }
@@ -101,6 +130,7 @@ impl Tally {
             State::Present => &mut self.present,
             State::NoDirection => &mut self.no_direction,
             State::Absent => &mut self.absent,
+            State::NoOrigin => &mut self.no_origin,
             State::Lost => &mut self.lost,
         }
     }
@@ -112,13 +142,13 @@ impl Tally {
 
     /// How many there are.
     pub fn all(&self) -> usize {
-        self.present + self.no_direction + self.absent + self.lost
+        self.present + self.no_direction + self.absent + self.no_origin + self.lost
     }
 
     /// The exit status: good only where there is a slot and each is present; so many faces have none.
     pub fn status(&self, without_slots: usize) -> Status {
         match self {
-            Tally { lost: 1.., .. } => Status::Lost,
+            Tally { lost: 1.., .. } | Tally { no_origin: 1.., .. } => Status::Lost,
             Tally { absent: 1.., .. }
             | Tally {
                 no_direction: 1.., ..

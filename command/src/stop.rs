@@ -15,7 +15,7 @@ pub enum Status {
     Refused = 4,
     /// A file cannot be read.
     Unreadable = 5,
-    /// A card has lost records, or bytes that do not belong to it.
+    /// A card has lost records, records that no answer has, or bytes that do not belong to it.
     Lost = 6,
     /// A file cannot be written.
     Unwritten = 7,

@@ -5,13 +5,13 @@ mod room;
 use models::files::{self as shapes, FACES, FIVE};
 use room::Room;
 
-/// A folder with a mesh of 24 slots and its card of two blocks.
+/// A folder with a mesh of 24 slots and its card of three blocks.
 fn with_card(name: &str) -> Room {
     let room = Room::new(name);
     let faces = [FACES[0], FACES[1], FACES[0], FACES[1], FACES[0], FACES[1]];
     room.put("a.ply", shapes::ply_bytes(&faces));
     room.run("frames a.ply -o a.card")
-        .ends(0, "a.card: 24 records in 2 blocks");
+        .ends(0, "a.card: 24 records in 3 blocks");
     room
 }
 
@@ -46,12 +46,12 @@ fn lost_blocks_are_never_good() {
     card[700] ^= 1;
     room.put("b.card", &card);
     room.run("read b.card --total 24")
-        .ends(6, "LOST          records 12 to 23");
+        .ends(6, "LOST          records 10 to 19");
     let ran = room.run("read b.card --total 24 --mesh a.ply --report b.csv --picture b.svg");
     ran.ends(6, "LOST BLOCKS   1\n");
     ran.ends(6, "LOST          face 3, corner 0 1 2 3: not on the card");
-    ran.ends(6, "12 LOST; 12 of 24 slots present");
-    assert!(room.text("b.csv").contains("\n3,0,12,LOST,,,,,,,,,\n"));
+    ran.ends(6, "10 LOST; 14 of 24 slots present");
+    assert!(room.text("b.csv").contains("\n3,0,12,LOST,,,,,,,,,,,\n"));
     assert!(room.text("b.svg").contains("<path fill=\"url(#lost)\""));
 }
 

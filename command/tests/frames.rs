@@ -61,10 +61,10 @@ fn an_absent_corner_is_loud_everywhere() {
     ran.ends(3, "An absent reading is not a good reading.");
     let report = room.text("a.csv");
     assert!(
-        report.contains("\n0,0,0,present,1,0,0,0,1,0,1,1,1\n"),
+        report.contains("\n0,0,0,present,1,0,0,0,1,0,1,1,1,single,1\n"),
         "{report}"
     );
-    assert!(report.contains("\n1,0,3,ABSENT,,,,,,,,,\n"), "{report}");
+    assert!(report.contains("\n1,0,3,ABSENT,,,,,,,,,,,\n"), "{report}");
     assert!(
         room.text("a.svg")
             .contains("<title>ABSENT: 3 of the corners of face 1</title>")
@@ -86,7 +86,7 @@ fn a_frame_without_a_direction_is_not_good() {
     );
     assert!(
         room.text("a.csv")
-            .contains("\n0,0,0,NO DIRECTION,0,0,0,0,1,0,1,1,1\n")
+            .contains("\n0,0,0,NO DIRECTION,0,0,0,0,1,0,1,1,1,combined,4\n")
     );
     assert!(
         room.text("a.svg")
@@ -110,7 +110,7 @@ fn a_face_too_large_for_single_precision_is_absent() {
         3,
         "ABSENT        face 0, corner 0 1 2: its texture or its sides are too small or too large for single precision",
     );
-    assert!(room.text("far.csv").contains("\n0,0,0,ABSENT,,,,,,,,,\n"));
+    assert!(room.text("far.csv").contains("\n0,0,0,ABSENT,,,,,,,,,,,\n"));
 }
 
 #[test]
@@ -120,7 +120,10 @@ fn a_face_without_slots_is_not_good() {
     room.put("five.ply", shapes::ply_bytes(&faces));
     let ran = room.run("frames five.ply -o five.card --report five.csv");
     ran.ends(3, "NO SLOT       face 3: 5 corners");
-    assert!(room.text("five.csv").contains("\n3,4,,NO SLOT,,,,,,,,,\n"));
+    assert!(
+        room.text("five.csv")
+            .contains("\n3,4,,NO SLOT,,,,,,,,,,,\n")
+    );
     room.put("only.ply", shapes::ply_text(&[FIVE]));
     room.run("frames only.ply -o only.card")
         .ends(3, "NOTHING WAS READ");

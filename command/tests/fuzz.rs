@@ -5,7 +5,7 @@ use command::report::report;
 use command::state::{Known, Tally};
 use command::surface::Surface;
 use command::{obj, ply, tank};
-use dokphalun::{Buffers, Record};
+use dokphalun::{Buffers, Kind, Record};
 use models::files as shapes;
 use std::env::var;
 use std::panic::catch_unwind;
@@ -156,13 +156,19 @@ impl Ends {
         let readings = answer.readings();
         let records: Vec<Record> = readings.map(|(_, reading)| reading.into()).collect();
         let records = &records[..];
-        let known = Known { surface, records };
+        let known = Known {
+            surface,
+            records,
+            kind: Kind::New,
+        };
         let rows = report(&known).lines().count();
         assert_eq!(rows, 1 + surface.positions.len(), "a corner has no row");
         assert_eq!(surface.slots(), records.len(), "a slot has no record");
-        assert!(picture(&known, "fuzz").ends_with("</svg>\n"));
+        for origins in [false, true] {
+            assert!(picture(&known, "fuzz", origins).ends_with("</svg>\n"));
+        }
         self.answers += 1;
-        self.with_absent += u64::from(Tally::of(records).absent > 0);
+        self.with_absent += u64::from(Tally::of(records, Kind::New).absent > 0);
     }
 
     /// Both together.

@@ -1,10 +1,10 @@
 //! The lists that are lent to the archive, kept from call to call.
-use crate::card::{Card, write_card};
+use crate::card::{Card, Kind, read_as, write_card, write_card_as};
 use crate::islands::{Batch, Own};
 use crate::mesh::{MOST_FACES, Mesh, Place, slots, takes_slots};
 use crate::reading::Reading;
 use crate::refusal::{CardRefusal, Refusal};
-use dokphalun_sys::{self as archive, SLOT_WORDS, WORK_WORDS};
+use dokphalun_sys::{self as archive, OLD_SLOT_WORDS, SLOT_WORDS, WORK_WORDS};
 
 /// The lists that are lent to the archive. They grow to what the largest call needed, and are used again.
 #[derive(Debug, Default)]
@@ -42,19 +42,38 @@ impl Buffers {
         }
     }
 
-    /// The records of a card that was written with so many.
+    /// The records of a card of either kind that was written with so many: as the kind by which more of them are found, and as the new one
+    /// where both find as many. What is read says which kind that is.
     pub fn read_card(&mut self, card: &[u8], total: u32) -> Result<Card<'_>, CardRefusal> {
-        let records = total as usize;
-        let no_memory = CardRefusal::NoMemory { records };
-        let words = records.checked_mul(SLOT_WORDS).ok_or(no_memory)?;
-        self.answer.clear();
-        self.answer
-            .try_reserve_exact(words)
-            .map_err(|_| no_memory)?;
-        self.answer.resize(words, 0);
-        let said = archive::card_read(card, total, &mut self.answer);
-        CardRefusal::of(said.number)?;
-        Ok(Card::of(&self.answer, said.past))
+        let old = self.card(Kind::Old, card, total, 0)?.found();
+        let new = self.card(Kind::New, card, total, 0)?.found();
+        match old > new {
+            true => self.card(Kind::Old, card, total, new),
+            false => self.card(Kind::New, card, total, old),
+        }
+    }
+
+    /// The records of a card of a kind that was written with so many.
+    pub fn read_card_as(
+        &mut self,
+        kind: Kind,
+        card: &[u8],
+        total: u32,
+    ) -> Result<Card<'_>, CardRefusal> {
+        let of_other_kind = self.card(kind.other(), card, total, 0)?.found();
+        self.card(kind, card, total, of_other_kind)
+    }
+
+    /// A card read as a kind, where so many records of the other kind stand on it.
+    fn card(
+        &mut self,
+        kind: Kind,
+        card: &[u8],
+        total: u32,
+        of_other_kind: usize,
+    ) -> Result<Card<'_>, CardRefusal> {
+        let torn = read_as(kind, card, total, &mut self.answer)?;
+        Ok(Card::of(&self.answer, kind, torn, of_other_kind))
     }
 
     /// Makes both lists as long as faces of these sizes need; past the limit, where all is refused, no longer than at it.
@@ -101,7 +120,7 @@ impl<'a> Answer<'a> {
         self.parts
     }
 
-    /// The ten words of each slot, as the archive wrote them. An absent slot is ten zeros: ask word 0 first.
+    /// The twelve words of each slot, as the archive wrote them. An absent slot is twelve zeros: ask word 0 first.
     pub fn words(&self) -> &'a [u32] {
         self.words
     }
@@ -109,5 +128,17 @@ impl<'a> Answer<'a> {
     /// The bytes of a card with these readings.
     pub fn write_card(&self, card: &mut Vec<u8>) -> Result<(), CardRefusal> {
         write_card(self.words, card)
+    }
+
+    /// The bytes of a card of a kind with these readings. On one of the old kind, where they come from is left out.
+    pub fn write_card_as(&self, kind: Kind, card: &mut Vec<u8>) -> Result<(), CardRefusal> {
+        match kind {
+            Kind::Old => {
+                let slots = self.words.chunks_exact(SLOT_WORDS);
+                let records: Vec<&[u32]> = slots.map(|slot| &slot[..OLD_SLOT_WORDS]).collect();
+                write_card_as(kind, &records.concat(), card)
+            }
+            Kind::New => self.write_card(card),
+        }
     }
 }

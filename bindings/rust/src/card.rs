@@ -1,24 +1,66 @@
-//! Answers to a card and back.
+//! Answers to a card and back. Cards are of two kinds; what is said of no kind is said of the new one.
 use crate::reading::Record;
 use crate::refusal::CardRefusal;
-use dokphalun_sys::{self as archive, SLOT_WORDS};
+use dokphalun_sys::{self as archive, OLD_SLOT_WORDS, SLOT_WORDS};
 
-/// The bytes of a block.
-pub const BLOCK_BYTES: usize = 512;
-/// The records that a block holds.
-pub const BLOCK_RECORDS: usize = 12;
+pub use archive::BLOCK_BYTES;
 
-/// Makes a list of bytes as long as the blocks of these words.
-fn make_room(words: &[u32], bytes: &mut Vec<u8>) {
-    let records = words.len() / SLOT_WORDS;
+/// The kind of a card: how many words its records have. To a reader of one kind each block of the other is lost.
+#[derive(Clone, Copy, Debug, Default, PartialEq, Eq)]
+pub enum Kind {
+    /// Ten words a record, from before request E7: where a frame comes from is not recorded.
+    Old,
+    /// Twelve words a record, those of a slot.
+    #[default]
+    New,
+}
+
+impl Kind {
+    /// The words of a record.
+    pub const fn record_words(self) -> usize {
+        match self {
+            Kind::Old => OLD_SLOT_WORDS,
+            Kind::New => SLOT_WORDS,
+        }
+    }
+
+    /// The records that a block holds.
+    pub const fn block_records(self) -> usize {
+        match self {
+            Kind::Old => archive::OLD_BLOCK_RECORDS,
+            Kind::New => archive::BLOCK_RECORDS,
+        }
+    }
+
+    /// The other kind.
+    pub const fn other(self) -> Kind {
+        match self {
+            Kind::Old => Kind::New,
+            Kind::New => Kind::Old,
+        }
+    }
+}
+
+/// Makes a list of bytes as long as the blocks of these records.
+fn make_room(kind: Kind, records: &[u32], bytes: &mut Vec<u8>) {
+    let count = records.len() / kind.record_words();
     bytes.clear();
-    bytes.resize(records.div_ceil(BLOCK_RECORDS) * BLOCK_BYTES, 0);
+    bytes.resize(count.div_ceil(kind.block_records()) * BLOCK_BYTES, 0);
 }
 
 /// Answer words to the bytes of a card. A refusal leaves the list of bytes empty.
 pub fn write_card(words: &[u32], card: &mut Vec<u8>) -> Result<(), CardRefusal> {
-    make_room(words, card);
-    CardRefusal::of(archive::card_write(words, card).number).inspect_err(|_| card.clear())
+    write_card_as(Kind::New, words, card)
+}
+
+/// Records of a kind to the bytes of a card of it. A refusal leaves the list of bytes empty.
+pub fn write_card_as(kind: Kind, records: &[u32], card: &mut Vec<u8>) -> Result<(), CardRefusal> {
+    make_room(kind, records, card);
+    let said = match kind {
+        Kind::Old => archive::old_card_write(records, card),
+        Kind::New => archive::card_write(records, card),
+    };
+    CardRefusal::of(said.number).inspect_err(|_| card.clear())
 }
 
 /// What comes next on a card that is appended to.
@@ -32,7 +74,15 @@ pub struct Next {
 
 /// What comes next on a card of so many bytes, torn or whole.
 pub fn next_block(long: usize, total: u32) -> Result<Next, CardRefusal> {
-    let said = archive::card_next(long, total);
+    next_block_as(Kind::New, long, total)
+}
+
+/// What comes next on a card of a kind, of so many bytes.
+pub fn next_block_as(kind: Kind, long: usize, total: u32) -> Result<Next, CardRefusal> {
+    let said = match kind {
+        Kind::Old => archive::old_card_next(long, total),
+        Kind::New => archive::card_next(long, total),
+    };
     CardRefusal::of(said.number)?;
     Ok(Next {
         records: said.records as usize,
@@ -47,8 +97,23 @@ pub fn append_blocks(
     words: &[u32],
     blocks: &mut Vec<u8>,
 ) -> Result<usize, CardRefusal> {
-    make_room(words, blocks);
-    let said = archive::card_append(long, total, words, blocks);
+    append_blocks_as(Kind::New, long, total, words, blocks)
+}
+
+/// The bytes of the next block or blocks of a card of a kind, from its records, in the same way. That the blocks already there are of
+/// that kind is the caller's to see to.
+pub fn append_blocks_as(
+    kind: Kind,
+    long: usize,
+    total: u32,
+    records: &[u32],
+    blocks: &mut Vec<u8>,
+) -> Result<usize, CardRefusal> {
+    make_room(kind, records, blocks);
+    let said = match kind {
+        Kind::Old => archive::old_card_append(long, total, records, blocks),
+        Kind::New => archive::card_append(long, total, records, blocks),
+    };
     CardRefusal::of(said.number).inspect_err(|_| blocks.clear())?;
     Ok(said.at)
 }
@@ -56,22 +121,57 @@ pub fn append_blocks(
 /// What was read from a card.
 #[derive(Clone, Copy, Debug)]
 pub struct Card<'a> {
-    words: &'a [[u32; SLOT_WORDS]],
+    words: &'a [u32],
+    /// The kind that it was read as.
+    pub kind: Kind,
     /// How many bytes stand past the last whole block that the total calls for.
     pub torn: usize,
+    /// How many records stand on it in blocks of the other kind, each at its place. They are not among the records here.
+    pub of_other_kind: usize,
 }
 
 impl<'a> Card<'a> {
     /// Each record, in the order of the slots.
     pub fn records(&self) -> impl ExactSizeIterator<Item = Record> + Clone + use<'a> {
-        self.words.iter().map(Record::of)
+        let words = self.words.chunks_exact(self.kind.record_words());
+        words.map(Record::of)
+    }
+
+    /// How many records are found: all but the lost ones.
+    pub fn found(&self) -> usize {
+        self.records()
+            .filter(|record| *record != Record::Lost)
+            .count()
     }
 
     /// The card of a list of words as the archive left it.
-    pub(crate) fn of(words: &'a [u32], torn: usize) -> Card<'a> {
+    pub(crate) fn of(words: &'a [u32], kind: Kind, torn: usize, of_other_kind: usize) -> Card<'a> {
         Card {
-            words: words.as_chunks().0,
+            words,
+            kind,
             torn,
+            of_other_kind,
         }
     }
+}
+
+/// The reader of a kind: so many records into a list of words. The bytes past the last whole block that the total calls for.
+pub(crate) fn read_as(
+    kind: Kind,
+    card: &[u8],
+    total: u32,
+    words: &mut Vec<u32>,
+) -> Result<usize, CardRefusal> {
+    let records = total as usize;
+    let no_memory = CardRefusal::NoMemory { records };
+    let count = records.checked_mul(kind.record_words()).ok_or(no_memory)?;
+    words.clear();
+    words.try_reserve_exact(count).map_err(|_| no_memory)?;
+    words.resize(count, 0);
+    let said = match kind {
+        Kind::Old => archive::old_card_read(card, total, words),
+        Kind::New => archive::card_read(card, total, words),
+    };
+    CardRefusal::of(said.number)?;
+    Ok(said.past)
 }

@@ -19,14 +19,17 @@ mod refusal;
 mod triangles;
 
 pub use buffers::{Answer, Buffers};
-pub use card::{BLOCK_BYTES, BLOCK_RECORDS, Card, Next, append_blocks, next_block, write_card};
+pub use card::{
+    BLOCK_BYTES, Card, Kind, Next, append_blocks, append_blocks_as, next_block, next_block_as,
+    write_card, write_card_as,
+};
 pub use dokphalun_sys::{Edition, OtherArchive, archive};
 pub use islands::Islands;
 pub use lists::{Lists, OwnLinks};
 pub use mesh::{MOST_FACES, MOST_SLOTS, Mesh, Place, corners, slots, takes_slots};
 pub use objection::{List, Objection};
 pub use packed::{PACKED_NUMBERS, Packed, pack, unpack};
-pub use reading::{Frame, Reading, Record};
+pub use reading::{Frame, Origin, Reading, Record};
 pub use refusal::{CardRefusal, PackRefusal, Refusal};
 pub use triangles::{Side, Triangle, triangles};
 

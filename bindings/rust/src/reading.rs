@@ -1,5 +1,45 @@
 //! What comes back for a corner: a frame, or the plain word that there is none.
-use dokphalun_sys::SLOT_WORDS;
+use dokphalun_sys::{OLD_SLOT_WORDS, SLOT_WORDS};
+
+/// Where a frame comes from.
+#[derive(Clone, Copy, Debug, PartialEq, Eq)]
+pub enum Origin {
+    /// One subgroup brought it.
+    Single,
+    /// The two triangles of a quad brought one each, and they were combined.
+    Combined,
+    /// It was copied to a corner of a degenerate triangle, from a sound corner with the same numbers.
+    Copied,
+    /// It was copied within a quad of which one triangle is degenerate, to the corner that the other one lacks.
+    Filled,
+    /// The record does not say: it is of an old card, or stands on a card with another word than those of the four. No frame that was made
+    /// and not read from a card is of it.
+    NotRecorded,
+}
+
+impl Origin {
+    /// The origin that word 10 of a slot tells, if there is such a word.
+    fn of(word: Option<u32>) -> Origin {
+        match word {
+            Some(1) => Origin::Single,
+            Some(2) => Origin::Combined,
+            Some(3) => Origin::Copied,
+            Some(4) => Origin::Filled,
+            _ => Origin::NotRecorded,
+        }
+    }
+
+    /// Its word for a reader.
+    pub fn word(self) -> &'static str {
+        match self {
+            Origin::Single => "single",
+            Origin::Combined => "combined",
+            Origin::Copied => "copied",
+            Origin::Filled => "filled",
+            Origin::NotRecorded => "not recorded",
+        }
+    }
+}
 
 /// The tangent frame of a corner.
 #[derive(Clone, Copy, Debug, PartialEq)]
@@ -14,19 +54,28 @@ pub struct Frame {
     pub mag_t: f32,
     /// Whether the texture runs round the face as the corners do; it is mirrored where not.
     pub preserving: bool,
+    /// Where it comes from.
+    pub origin: Origin,
+    /// How many triangles that are not `group_with_any` stood in the subgroups behind it: of both where two were combined, and of the one
+    /// that was copied. None where the origin is not recorded: then no number is known to be one of these.
+    pub behind: Option<u32>,
 }
 
 impl Frame {
-    /// The frame of a slot's words past word 0.
-    fn of(words: &[u32; SLOT_WORDS]) -> Frame {
+    /// The frame of a slot's first ten words, and of those after them: a record of an old card has none.
+    fn of(words: &[u32; OLD_SLOT_WORDS], more: &[u32]) -> Frame {
         let [_, numbers @ .., orientation] = *words;
         let [a, b, c, d, e, f, mag_s, mag_t] = numbers.map(f32::from_bits);
+        let origin = Origin::of(more.first().copied());
+        let told = origin != Origin::NotRecorded;
         Frame {
             tangent: [a, b, c],
             bitangent: [d, e, f],
             mag_s,
             mag_t,
             preserving: orientation == 1,
+            origin,
+            behind: more.get(1).copied().filter(|_| told),
         }
     }
 
@@ -53,9 +102,9 @@ pub enum Reading {
 impl Reading {
     /// The reading of a slot's words: only word 0 = 1 is present.
     pub(crate) fn of(words: &[u32; SLOT_WORDS]) -> Reading {
-        match words[0] {
-            1 => Reading::Present(Frame::of(words)),
-            _ => Reading::Absent,
+        match Record::of(words) {
+            Record::Present(frame) => Reading::Present(frame),
+            Record::Absent | Record::Lost => Reading::Absent,
         }
     }
 }
@@ -73,11 +122,11 @@ pub enum Record {
 }
 
 impl Record {
-    /// The record of a slot's words as they were read: only word 0 = 1 is present, and only 0 absent.
-    pub(crate) fn of(words: &[u32; SLOT_WORDS]) -> Record {
-        match words[0] {
-            0 => Record::Absent,
-            1 => Record::Present(Frame::of(words)),
+    /// The record of its words as they were read, ten or twelve: only word 0 = 1 is present, and only 0 absent.
+    pub(crate) fn of(words: &[u32]) -> Record {
+        match words.split_first_chunk::<OLD_SLOT_WORDS>() {
+            Some((first @ [1, ..], more)) => Record::Present(Frame::of(first, more)),
+            Some(([0, ..], _)) => Record::Absent,
             _ => Record::Lost,
         }
     }

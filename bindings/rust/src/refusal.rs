@@ -23,7 +23,7 @@ const REMEDIES: [(u32, &str); 8] = [
         "the scanner gave no normal here: scan that place again, or leave the face out and treat it as absent; never put \
          another normal there",
     ),
-    (5, "lend ten words for each corner of a face of 3 or 4"),
+    (5, "lend twelve words for each corner of a face of 3 or 4"),
     (6, "lend 128 words for each face"),
     (
         9,
@@ -146,7 +146,7 @@ impl Error for Refusal {}
 #[derive(Clone, Copy, Debug, PartialEq, Eq)]
 #[non_exhaustive]
 pub enum CardRefusal {
-    /// 1: the words are not whole records of ten, fewer than 2^32, each with 0 or 1 in word 0.
+    /// 1: the words are not whole records of the card's kind, fewer than 2^32, each with 0 or 1 in word 0.
     NotRecords,
     /// 2: the lent list is too short.
     TooShort,
@@ -185,7 +185,7 @@ impl fmt::Display for CardRefusal {
         let (number, says) = match self {
             CardRefusal::NotRecords => (
                 1,
-                "the words are not whole records of ten, each with 0 or 1 in word 0",
+                "the words are not whole records of the card's kind, each with 0 or 1 in word 0",
             ),
             CardRefusal::TooShort => (2, "the lent list is too short"),
             CardRefusal::BeyondTotal => (3, "the card holds more than the total calls for"),

@@ -7,7 +7,8 @@ use std::path::Path;
 use std::process::Command;
 
 /// What it prints.
-const SAID: &str = "slot 0: tangent 1 0 0\nslot 1: tangent 1 0 0\nslot 2: tangent 1 0 0\n\
+const SAID: &str = "slot 0: tangent 1 0 0, origin 1, 1 behind\nslot 1: tangent 1 0 0, origin 1, 1 behind\n\
+slot 2: tangent 1 0 0, origin 1, 1 behind\n\
 slot 3: ABSENT\nslot 4: ABSENT\nslot 5: ABSENT\n\
 slot 0: LOST\nslot 1: LOST\nslot 2: LOST\nslot 3: LOST\nslot 4: LOST\nslot 5: LOST\n";
 

@@ -1,5 +1,5 @@
 //! Frames, refusals and buffers through the archive.
-use dokphalun::{Buffers, Frame, Mesh, Place, Reading, Refusal};
+use dokphalun::{Buffers, Frame, Mesh, Origin, Place, Reading, Refusal};
 use std::fs;
 use std::path::Path;
 
@@ -21,6 +21,8 @@ const FRAME: Frame = Frame {
     mag_s: 1.0,
     mag_t: 1.0,
     preserving: true,
+    origin: Origin::Single,
+    behind: Some(1),
 };
 
 /// The readings of a mesh, without their places.

@@ -24,7 +24,7 @@ fn by_islands() -> Outcome {
 }
 
 /// Every call.
-const CALLS: [fn(); 12] = [
+const CALLS: [fn(); 16] = [
     || _ = frames(NOTHING, -1.0, &mut [], &mut []),
     || _ = part(NOTHING, 0, 0),
     || _ = labels(NOTHING, &mut [], &mut []),
@@ -35,6 +35,10 @@ const CALLS: [fn(); 12] = [
     || _ = card_read(&[], 0, &mut []),
     || _ = card_next(0, 0),
     || _ = card_append(0, 0, &[], &mut []),
+    || _ = old_card_write(&[], &mut []),
+    || _ = old_card_read(&[], 0, &mut []),
+    || _ = old_card_next(0, 0),
+    || _ = old_card_append(0, 0, &[], &mut []),
     || _ = pack(&[], &mut []),
     || _ = unpack(&[], &mut []),
 ];

@@ -65,6 +65,10 @@ unsafe extern "C" {
     fn dokphalun_card_read(card: *const u8, card_bytes: usize, total: u32, answer: *mut u32, answer_words: usize) -> Found;
     fn dokphalun_card_next(long: usize, total: u32) -> Next;
     fn dokphalun_card_append(long: usize, total: u32, records: *const u32, record_words: usize, blocks: *mut u8, block_bytes: usize) -> Appended;
+    fn dokphalun_old_card_write(records: *const u32, record_words: usize, card: *mut u8, card_bytes: usize) -> Written;
+    fn dokphalun_old_card_read(card: *const u8, card_bytes: usize, total: u32, records: *mut u32, record_words: usize) -> Found;
+    fn dokphalun_old_card_next(long: usize, total: u32) -> Next;
+    fn dokphalun_old_card_append(long: usize, total: u32, records: *const u32, record_words: usize, blocks: *mut u8, block_bytes: usize) -> Appended;
     fn dokphalun_pack(answer: *const u32, answer_words: usize, packed: *mut i16, packed_numbers: usize) -> Packed;
     fn dokphalun_unpack(packed: *const i16, packed_numbers: usize, answer: *mut u32, answer_words: usize) -> Unpacked;
 }
@@ -248,6 +252,31 @@ pub fn card_next(long: usize, total: u32) -> Next {
 /// The blocks of the next records of a card of so many bytes.
 pub fn card_append(long: usize, total: u32, records: &[u32], blocks: &mut [u8]) -> Appended {
     call!(dokphalun_card_append(long, total, &records, &mut blocks))
+}
+
+/// Records of ten words to the bytes of an old card.
+pub fn old_card_write(records: &[u32], card: &mut [u8]) -> Written {
+    call!(dokphalun_old_card_write(&records, &mut card))
+}
+
+/// The records of an old card, ten words each.
+pub fn old_card_read(card: &[u8], total: u32, records: &mut [u32]) -> Found {
+    call!(dokphalun_old_card_read(&card, total, &mut records))
+}
+
+/// What comes next on an old card of so many bytes.
+pub fn old_card_next(long: usize, total: u32) -> Next {
+    call!(dokphalun_old_card_next(long, total))
+}
+
+/// The blocks of the next records, of ten words each, of an old card of so many bytes.
+pub fn old_card_append(long: usize, total: u32, records: &[u32], blocks: &mut [u8]) -> Appended {
+    call!(dokphalun_old_card_append(
+        long,
+        total,
+        &records,
+        &mut blocks
+    ))
 }
 
 /// Answer words packed; the archive's 16-bit words are signed numbers in two's complement.

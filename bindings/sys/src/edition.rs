@@ -4,10 +4,10 @@ use std::fmt;
 use std::sync::OnceLock;
 
 /// The words of a slot, as these declarations have it.
-pub const SLOT_WORDS: usize = 10;
+pub const SLOT_WORDS: usize = 12;
 
 /// The edition of the interface that these declarations are of.
-pub const INTERFACE: u32 = 2;
+pub const INTERFACE: u32 = 3;
 
 unsafe extern "C" {
     safe fn dokphalun_interface() -> u32;

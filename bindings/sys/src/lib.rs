@@ -24,6 +24,18 @@ pub const MOST_FACES: usize = 65_536;
 /// The words of work that a face needs.
 pub const WORK_WORDS: usize = 128;
 
+/// The words of a record of an old card, from before request E7. A record of any other card has [`SLOT_WORDS`].
+pub const OLD_SLOT_WORDS: usize = 10;
+
+/// The bytes of a card's block.
+pub const BLOCK_BYTES: usize = 512;
+
+/// The records that a block of a card holds.
+pub const BLOCK_RECORDS: usize = 10;
+
+/// The records that a block of an old card holds.
+pub const OLD_BLOCK_RECORDS: usize = 12;
+
 /// What a face is given that is in no island.
 pub const NO_ISLAND: u32 = u32::MAX;
 

@@ -58,7 +58,7 @@ pub struct Handed {
     pub sound: u32,
 }
 
-/// What [`crate::card_write`] says.
+/// What [`crate::card_write`] and [`crate::old_card_write`] say.
 #[repr(C)]
 #[derive(Clone, Copy, Debug, PartialEq, Eq)]
 pub struct Written {
@@ -68,7 +68,7 @@ pub struct Written {
     pub bytes: usize,
 }
 
-/// What [`crate::card_read`] says.
+/// What [`crate::card_read`] and [`crate::old_card_read`] say.
 #[repr(C)]
 #[derive(Clone, Copy, Debug, PartialEq, Eq)]
 pub struct Found {
@@ -78,7 +78,7 @@ pub struct Found {
     pub past: usize,
 }
 
-/// What [`crate::card_next`] says.
+/// What [`crate::card_next`] and [`crate::old_card_next`] say.
 #[repr(C)]
 #[derive(Clone, Copy, Debug, PartialEq, Eq)]
 pub struct Next {
@@ -90,7 +90,7 @@ pub struct Next {
     pub at: usize,
 }
 
-/// What [`crate::card_append`] says.
+/// What [`crate::card_append`] and [`crate::old_card_append`] say.
 #[repr(C)]
 #[derive(Clone, Copy, Debug, PartialEq, Eq)]
 pub struct Appended {

@@ -4,7 +4,7 @@ use std::path::{Path, PathBuf};
 use std::process::{Command, Output};
 
 /// Every call; each ends the program in such an archive.
-const CALLS: [&str; 12] = [
+const CALLS: [&str; 16] = [
     "frames",
     "part",
     "labels",
@@ -15,6 +15,10 @@ const CALLS: [&str; 12] = [
     "card_read",
     "card_next",
     "card_append",
+    "old_card_write",
+    "old_card_read",
+    "old_card_next",
+    "old_card_append",
     "pack",
     "unpack",
 ];
@@ -79,21 +83,21 @@ fn other_editions_are_refused_by_every_call() {
     for (name, numbers, said) in [
         (
             "edition",
-            [1, 10],
-            "its interface is edition 1, theirs 2; its slots are 10 words, theirs 10",
+            [2, 12],
+            "its interface is edition 2, theirs 3; its slots are 12 words, theirs 12",
         ),
         (
             "slot",
-            [2, 11],
-            "its interface is edition 2, theirs 2; its slots are 11 words, theirs 10",
+            [3, 10],
+            "its interface is edition 3, theirs 3; its slots are 10 words, theirs 12",
         ),
     ] {
         let [printed, errors] = texts(&every_call(&archive(name, Some(numbers))));
-        assert_eq!(printed, "12 of 12 refused\n", "{errors}");
-        assert_eq!(errors.matches(said).count(), 12, "{errors}");
+        assert_eq!(printed, "16 of 16 refused\n", "{errors}");
+        assert_eq!(errors.matches(said).count(), 16, "{errors}");
     }
     // one that says the right numbers is called, and a signal ends the program
-    let right = every_call(&archive("right", Some([2, 10])));
+    let right = every_call(&archive("right", Some([3, 12])));
     assert_eq!(right.status.code(), None, "{right:?}");
     // one that says nothing does not link
     let [_, errors] = texts(&every_call(&archive("mute", None)));
@@ -110,6 +114,10 @@ fn the_header_and_the_archive_say_what_is_declared() {
     for (name, number) in [
         ("INTERFACE", dokphalun_sys::INTERFACE as usize),
         ("SLOT_WORDS", dokphalun_sys::SLOT_WORDS),
+        ("OLD_SLOT_WORDS", dokphalun_sys::OLD_SLOT_WORDS),
+        ("BLOCK_BYTES", dokphalun_sys::BLOCK_BYTES),
+        ("BLOCK_RECORDS", dokphalun_sys::BLOCK_RECORDS),
+        ("OLD_BLOCK_RECORDS", dokphalun_sys::OLD_BLOCK_RECORDS),
         ("MOST_FACES", dokphalun_sys::MOST_FACES),
         ("WORK_WORDS", dokphalun_sys::WORK_WORDS),
         ("ORDER_WORDS", dokphalun_sys::ISLAND_ENTRIES[1]),

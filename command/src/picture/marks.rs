@@ -110,6 +110,7 @@ fn names(marks: &BTreeMap<[i64; 2], Mark>) -> String {
 pub fn sign(state: State) -> String {
     let inside = match state {
         State::NoDirection => "#ffffff",
+        State::NoOrigin => "#111111",
         _ => ABSENT,
     };
     let cross = match state {

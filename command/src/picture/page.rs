@@ -10,9 +10,9 @@ use std::fmt::Write;
 /// The patterns of lost blocks and of faces without slots.
 const PATTERNS: &str = r##"<defs><pattern id="lost" patternUnits="userSpaceOnUse" width="10" height="10" patternTransform="rotate(45)"><rect width="10" height="10" fill="#ffd400"/><rect width="5" height="10" fill="#111111"/></pattern><pattern id="none" patternUnits="userSpaceOnUse" width="7" height="7"><rect width="7" height="7" fill="#ffffff"/><circle cx="2" cy="2" r="1.2" fill="#64748b"/></pattern></defs>"##;
 
-/// The head of the file, the title, the verdict and the legend.
-pub fn start(plane: &Plane, known: &Known, name: &str, tally: &Tally) -> String {
-    let high = plane.page_height();
+/// The head of the file, the title, the verdict and the legend; the page is so much higher than the plane needs.
+pub fn start(plane: &Plane, known: &Known, name: &str, tally: &Tally, more: f64) -> String {
+    let high = plane.page_height() + more;
     let name = escaped(name);
     let mut svg = format!(
         r##"<svg xmlns="http://www.w3.org/2000/svg" viewBox="0 0 {WIDE} {high:.0}" width="{WIDE}" height="{high:.0}" font-family="sans-serif" font-size="13" fill="#1e293b">{PATTERNS}<rect width="{WIDE}" height="{high:.0}" fill="#ffffff"/>
@@ -71,6 +71,7 @@ fn patch(how: &str) -> String {
 /// The legend: what is drawn how. What is absent is always named, and the rest where there is any.
 fn legend(tally: &Tally, without: usize) -> String {
     let (absent, no_direction, lost) = (tally.absent, tally.no_direction, tally.lost);
+    let no_origin = tally.no_origin;
     let hatched = patch(r##"fill="url(#lost)" stroke="#111111""##);
     let dotted = patch(r##"fill="url(#none)" stroke="#334155" stroke-dasharray="5 3""##);
     let entries = [
@@ -86,6 +87,11 @@ fn legend(tally: &Tally, without: usize) -> String {
             sign(State::NoDirection),
             format!("NO DIRECTION ({no_direction})"),
         ),
+        (
+            no_origin > 0,
+            sign(State::NoOrigin),
+            format!("NO ORIGIN ({no_origin})"),
+        ),
         (lost > 0, hatched, format!("LOST on the card ({lost})")),
         (
             without > 0,
@@ -93,12 +99,16 @@ fn legend(tally: &Tally, without: usize) -> String {
             format!("face without slots: not read ({without})"),
         ),
     ];
+    row(&entries, [LEFT + 12.0, 121.0])
+}
+
+/// A row of a legend from a place on: those entries that are there, each with what is drawn and its text.
+pub fn row(entries: &[(bool, String, String)], [mut x, y]: [f64; 2]) -> String {
     let mut svg = String::new();
-    let mut x = LEFT + 12.0;
     for (_, drawn, text) in entries.iter().filter(|(there, ..)| *there) {
         let _ = writeln!(
             svg,
-            r##"<g transform="translate({x:.0} 121)">{drawn}<text x="18" y="5">{text}</text></g>"##
+            r##"<g transform="translate({x:.0} {y:.0})">{drawn}<text x="18" y="5">{text}</text></g>"##
         );
         x += 56.0 + 7.4 * text.chars().count() as f64;
     }

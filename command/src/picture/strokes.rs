@@ -2,7 +2,6 @@
 use super::plane::Plane;
 use crate::cause::area;
 use crate::state::{Known, State};
-use dokphalun::Record;
 use std::fmt::Write;
 
 /// How faces are drawn: plain, mirrored, without slots, with an absent corner, with a lost one; later ones over earlier ones.
@@ -13,6 +12,9 @@ const FACES: [&str; 5] = [
     r##"fill="#ffc4e3" stroke="#d6006c" stroke-width="2" stroke-linejoin="round""##,
     r##"fill="url(#lost)" stroke="#111111" stroke-width="1.2""##,
 ];
+
+/// How far from its corner to the middle of the face the middle of a stroke is.
+const INWARD: f64 = 0.36;
 
 /// The colours of tangents, where the texture is mirrored and where not.
 pub const TANGENT: [&str; 2] = ["#7c3aed", "#1d4ed8"];
@@ -30,7 +32,7 @@ pub fn faces(plane: &Plane, known: &Known) -> String {
     }
     known.without_slots().for_each(|face| kinds[face] = 2);
     for (kind, states) in [
-        (3, &[State::NoDirection, State::Absent][..]),
+        (3, &[State::NoDirection, State::NoOrigin, State::Absent][..]),
         (4, &[State::Lost]),
     ] {
         let bad = states.iter().flat_map(|state| known.faces(*state));
@@ -72,10 +74,7 @@ pub fn tangents(plane: &Plane, known: &Known) -> String {
     let (mut lines, mut dots) = ([const { String::new() }; 2], [const { String::new() }; 2]);
     let (mut sum, mut count) = (0.0, 0.0);
     let starts = known.surface.starts();
-    for (place, record) in known.slots() {
-        let Record::Present(frame) = record else {
-            continue;
-        };
+    for (place, frame) in known.frames() {
         let size = usize::from(known.surface.sizes[place.face]);
         let face = Face::of(known, starts[place.face], size);
         let Some([[x, y], [u, v]]) =
@@ -103,35 +102,46 @@ pub fn tangents(plane: &Plane, known: &Known) -> String {
 }
 
 /// The numbers of a face's corners.
-struct Face<'a> {
+pub struct Face<'a> {
     positions: &'a [[f32; 3]],
     texture: &'a [[f32; 2]],
 }
 
 impl<'a> Face<'a> {
     /// The face whose corners start there.
-    fn of(known: &Known<'a>, start: usize, size: usize) -> Option<Face<'a>> {
+    pub fn of(known: &Known<'a>, start: usize, size: usize) -> Option<Face<'a>> {
         Some(Face {
             positions: known.surface.positions.get(start..start + size)?,
             texture: known.surface.texture.get(start..start + size)?,
         })
     }
 
-    /// Where the stroke of a corner starts, and where it goes from there.
-    fn stroke(&self, plane: &Plane, corner: usize, tangent: [f32; 3]) -> Option<[[f64; 2]; 2]> {
-        let [u, v] = plane.direction(self.in_texture(corner, tangent)?)?;
+    /// Where a corner stands on the page, and the way from it to the middle of the face.
+    fn inward(&self, plane: &Plane, corner: usize) -> Option<[[f64; 2]; 2]> {
         let count = self.texture.len() as f64;
         let points = self.texture.iter().map(|pair| plane.at(*pair));
         let [x, y] = points.fold([0.0; 2], |[x, y], [a, b]| [x + a / count, y + b / count]);
         let [a, b] = plane.at(*self.texture.get(corner)?);
+        Some([[a, b], [x - a, y - b]])
+    }
+
+    /// The middle of a corner's stroke, where there is one or not; none where a corner is not finite.
+    pub fn spot(&self, plane: &Plane, corner: usize) -> Option<[f64; 2]> {
+        let [[a, b], [x, y]] = self.inward(plane, corner)?;
+        let spot = [a + x * INWARD, b + y * INWARD];
+        spot.iter().all(|number| number.is_finite()).then_some(spot)
+    }
+
+    /// Where the stroke of a corner starts, and where it goes from there.
+    fn stroke(&self, plane: &Plane, corner: usize, tangent: [f32; 3]) -> Option<[[f64; 2]; 2]> {
+        let [u, v] = plane.direction(self.in_texture(corner, tangent)?)?;
+        let [_, [x, y]] = self.inward(plane, corner)?;
+        let [a, b] = self.spot(plane, corner)?;
         // no longer than the face is wide in its direction
-        let (away, along) = ((x - a).hypot(y - b), ((x - a) * u + (y - b) * v).abs());
-        let least = (0.72 * along).max(0.05 * away);
-        let length = least.min(0.36 * away).min(26.0);
-        let start = [
-            a + (x - a) * 0.36 - u * length / 2.0,
-            b + (y - b) * 0.36 - v * length / 2.0,
-        ];
+        let (away, along) = (x.hypot(y), (x * u + y * v).abs());
+        let least = (2.0 * INWARD * along).max(0.05 * away);
+        let length = least.min(INWARD * away).min(26.0);
+        let start = [a - u * length / 2.0, b - v * length / 2.0];
         Some([start, [u * length, v * length]])
     }
 

@@ -2,8 +2,9 @@
 use crate::case::Case;
 use crate::lines::Lines;
 use dokphalun::{
-    Answer, Buffers, Frame, List, Lists, Objection, Packed, Reading, Record, Refusal,
-    append_blocks, next_block, pack, unpack, write_card,
+    Answer, Buffers, Card, CardRefusal, Frame, Kind, List, Lists, Next, Objection, Origin, Packed,
+    Reading, Record, Refusal, append_blocks, append_blocks_as, next_block, next_block_as, pack,
+    unpack, write_card, write_card_as,
 };
 use std::error::Error;
 
@@ -12,7 +13,19 @@ fn frame(lines: &mut Lines, frame: Frame) {
     let numbers = [frame.tangent, frame.bitangent].concat();
     let magnitudes = [frame.mag_s, frame.mag_t];
     let bits = numbers.into_iter().chain(magnitudes).map(f32::to_bits);
-    lines.list("present", bits.chain([u32::from(frame.preserving)]));
+    let origin = match frame.origin {
+        Origin::NotRecorded => 0,
+        Origin::Single => 1,
+        Origin::Combined => 2,
+        Origin::Copied => 3,
+        Origin::Filled => 4,
+    };
+    let more = [
+        u32::from(frame.preserving),
+        origin,
+        frame.behind.unwrap_or(0),
+    ];
+    lines.list("present", bits.chain(more));
 }
 
 /// A refusal of a mesh: its number, and its place counted over all corners.
@@ -112,21 +125,16 @@ fn links(case: &Case, buffers: &mut Buffers, lines: &mut Lines) {
     }
 }
 
-/// The records to a card and back.
-fn cards(case: &Case, buffers: &mut Buffers, lines: &mut Lines) {
-    let mut card = vec![7];
-    write_card(&case.words, &mut card).expect("it is not written");
-    lines.said("write", 0, card.len(), 0);
-    lines.list("card", &card);
-    if !card.is_empty() {
-        let at = case.row % card.len();
-        card[at] ^= 1;
-    }
-    card.truncate(case.length);
-    let back = buffers.read_card(&card, case.records());
-    let back = back.expect("it is not read");
-    lines.said("read", 0, back.torn, 0);
-    for record in back.records() {
+/// What was read from a card.
+fn read(lines: &mut Lines, name: &str, card: Result<Card, CardRefusal>) {
+    let card = card.expect("it is not read");
+    lines.said(name, 0, card.torn, 0);
+    records(lines, card);
+}
+
+/// Each record of a card.
+fn records(lines: &mut Lines, card: Card) {
+    for record in card.records() {
         match record {
             Record::Absent => lines.nothing("absent"),
             Record::Lost => lines.nothing("lost"),
@@ -135,22 +143,107 @@ fn cards(case: &Case, buffers: &mut Buffers, lines: &mut Lines) {
     }
 }
 
-/// What comes next on a card, and the rest appended.
-fn appends(case: &Case, lines: &mut Lines) {
-    let next = next_block(case.length, case.records());
-    let at = next.map_or(0, |next| next.at);
-    let rest = &case.words[(at / 512 * 120).min(case.words.len())..];
-    let mut blocks = vec![7];
-    let added = append_blocks(case.length, case.records(), rest, &mut blocks);
+/// A card with one byte turned, as long as the case has it.
+fn spoilt(case: &Case, mut card: Vec<u8>) -> Vec<u8> {
+    if !card.is_empty() {
+        let at = case.row % card.len();
+        card[at] ^= 1;
+    }
+    card.truncate(case.length);
+    card
+}
+
+/// The records to a card and back, and the card read as an old one.
+fn cards(case: &Case, buffers: &mut Buffers, lines: &mut Lines) {
+    let (mut card, total) = (vec![7], case.records());
+    write_card(&case.words, &mut card).expect("it is not written");
+    lines.said("write", 0, card.len(), 0);
+    lines.list("card", &card);
+    let card = spoilt(case, card);
+    read(lines, "read", buffers.read_card(&card, total));
+    let old = buffers.read_card_as(Kind::Old, &card, total);
+    read(lines, "read as old", old);
+}
+
+/// The records to an old card and back, and the card read as a new one.
+fn old_cards(case: &Case, buffers: &mut Buffers, lines: &mut Lines) {
+    let (mut card, total) = (vec![7], case.records());
+    write_card_as(Kind::Old, &case.old_words(), &mut card).expect("it is not written");
+    lines.said("old write", 0, card.len(), 0);
+    lines.list("old card", &card);
+    let card = spoilt(case, card);
+    let old = buffers.read_card_as(Kind::Old, &card, total);
+    read(lines, "old read", old);
+    let new = buffers.read_card_as(Kind::New, &card, total);
+    read(lines, "read as new", new);
+}
+
+/// What comes next on a card, and what was made to append.
+fn appended(
+    lines: &mut Lines,
+    [name, more, bytes]: [&str; 3],
+    next: Result<Next, CardRefusal>,
+    added: Result<usize, CardRefusal>,
+    blocks: &[u8],
+) {
     match next {
-        Ok(next) => lines.said("next", 0, next.records, next.at),
-        Err(refusal) => lines.said("next", number(&refusal), 0, 0),
+        Ok(next) => lines.said(name, 0, next.records, next.at),
+        Err(refusal) => lines.said(name, number(&refusal), 0, 0),
     }
     match added {
-        Ok(at) => lines.said("append", 0, blocks.len() / 512, at),
-        Err(refusal) => lines.said("append", number(&refusal), 0, 0),
+        Ok(at) => lines.said(more, 0, blocks.len() / 512, at),
+        Err(refusal) => lines.said(more, number(&refusal), 0, 0),
     }
-    lines.list("blocks", &blocks);
+    lines.list(bytes, blocks);
+}
+
+/// The words from the next block on: each block of either kind holds 120.
+fn rest(words: &[u32], next: Result<Next, CardRefusal>) -> &[u32] {
+    let at = next.map_or(0, |next| next.at);
+    &words[(at / 512 * 120).min(words.len())..]
+}
+
+/// What comes next on a card, and the rest appended.
+fn appends(case: &Case, lines: &mut Lines) {
+    let (long, total, mut blocks) = (case.length, case.records(), vec![7]);
+    let next = next_block(long, total);
+    let added = append_blocks(long, total, rest(&case.words, next), &mut blocks);
+    appended(lines, ["next", "append", "blocks"], next, added, &blocks);
+}
+
+/// What comes next on an old card, and the rest appended.
+fn old_appends(case: &Case, lines: &mut Lines) {
+    let (long, total, mut blocks) = (case.length, case.records(), vec![7]);
+    let next = next_block_as(Kind::Old, long, total);
+    let words = case.old_words();
+    let added = append_blocks_as(Kind::Old, long, total, rest(&words, next), &mut blocks);
+    let names = ["old next", "old append", "old blocks"];
+    appended(lines, names, next, added, &blocks);
+}
+
+/// A card with blocks of both kinds, read as either.
+fn either(case: &Case, buffers: &mut Buffers, lines: &mut Lines) {
+    let (mut new, mut old) = (vec![], vec![]);
+    write_card(&case.words, &mut new).expect("it is not written");
+    write_card_as(Kind::Old, &case.old_words(), &mut old).expect("it is not written");
+    let card = case.mixed(new, &old);
+    let card = buffers.read_card(&card, case.records());
+    let card = card.expect("it is not read");
+    let kind = u32::from(card.kind == Kind::New);
+    lines.said("either", kind, card.torn, card.of_other_kind);
+    records(lines, card);
+}
+
+/// The records of an old card as slots, as a card has them, and packed.
+fn widened(case: &Case, buffers: &mut Buffers, lines: &mut Lines) {
+    let (slots, mut card, mut packed) = (case.widened(), vec![], vec![]);
+    lines.list("widened", &slots);
+    write_card(&slots, &mut card).expect("it is not written");
+    let card = buffers.read_card_as(Kind::New, &card, case.records());
+    records(lines, card.expect("it is not read"));
+    pack(&slots, &mut packed).expect("it is not packed");
+    lines.said("pack widened", 0, packed.len(), 0);
+    lines.list("packed widened", &packed);
 }
 
 /// The records packed and read, and read again with one slot spoilt.
@@ -210,5 +303,9 @@ pub fn case(case: &Case, buffers: &mut Buffers, lines: &mut Lines) {
     links(case, buffers, lines);
     cards(case, buffers, lines);
     appends(case, lines);
+    old_cards(case, buffers, lines);
+    old_appends(case, lines);
+    either(case, buffers, lines);
+    widened(case, buffers, lines);
     packs(case, lines);
 }

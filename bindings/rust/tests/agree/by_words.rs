@@ -6,14 +6,29 @@ use dokphalun_sys::{self as archive, IslandLists, Mesh};
 /// The words of work that any case needs.
 const WORK: usize = 128 * 16;
 
-/// Each slot's words.
+/// The words of each slot of twelve; with another origin than the four the last two are 0.
 fn slots(lines: &mut Lines, words: &[u32]) {
-    for slot in words.chunks_exact(10) {
-        match slot[0] {
-            0 => lines.nothing("absent"),
-            1 => lines.list("present", &slot[1..]),
-            _ => lines.nothing("lost"),
-        }
+    for slot in words.chunks_exact(12) {
+        let more = match slot[10] {
+            1..=4 => [slot[10], slot[11]],
+            _ => [0; 2],
+        };
+        one(lines, slot, more);
+    }
+}
+
+/// The words of each record of ten, and two zeros for those that are not there.
+fn old_slots(lines: &mut Lines, words: &[u32]) {
+    let records = words.chunks_exact(10);
+    records.for_each(|record| one(lines, record, [0; 2]));
+}
+
+/// One slot: its words from 1 to 9, and two more.
+fn one(lines: &mut Lines, slot: &[u32], more: [u32; 2]) {
+    match slot[0] {
+        0 => lines.nothing("absent"),
+        1 => lines.list("present", slot[1..10].iter().chain(&more)),
+        _ => lines.nothing("lost"),
     }
 }
 
@@ -39,7 +54,7 @@ fn parts(case: &Case, lines: &mut Lines) {
 
 /// Frames, in one call and by islands.
 fn frames(case: &Case, lines: &mut Lines) {
-    let (mut answer, mut work) = (vec![0; 640], vec![0; WORK]);
+    let (mut answer, mut work) = (vec![0; 4 * 12 * 16], vec![0; WORK]);
     let said = archive::frames(mesh(case), case.threshold, &mut answer, &mut work);
     lines.said(
         "frames",
@@ -47,13 +62,13 @@ fn frames(case: &Case, lines: &mut Lines) {
         said.place as usize,
         said.slots as usize,
     );
-    slots(lines, &answer[..10 * said.slots as usize]);
+    slots(lines, &answer[..12 * said.slots as usize]);
     let own = IslandLists {
         labels: &mut [0; 16],
         order: &mut [0; 4 * 16],
         sizes: &mut [0; 16],
         numbers: &mut [0.0; 32 * 16],
-        frames: &mut [0; 40 * 16],
+        frames: &mut [0; 48 * 16],
     };
     let by = archive::frames_by_islands(mesh(case), case.threshold, &mut answer, &mut work, own);
     lines.said(
@@ -62,7 +77,7 @@ fn frames(case: &Case, lines: &mut Lines) {
         by.place as usize,
         by.slots as usize,
     );
-    slots(lines, &answer[..10 * by.slots as usize]);
+    slots(lines, &answer[..12 * by.slots as usize]);
 }
 
 /// The islands.
@@ -108,7 +123,7 @@ fn links(case: &Case, lines: &mut Lines) {
     }
 }
 
-/// The records to a card and back.
+/// The records to a card and back, and the card read as an old one.
 fn cards(case: &Case, lines: &mut Lines) {
     let (mut card, mut back) = (vec![0; 512 * 4], vec![0; case.words.len()]);
     let written = archive::card_write(&case.words, &mut card);
@@ -120,6 +135,30 @@ fn cards(case: &Case, lines: &mut Lines) {
     let cut = &card[..written.bytes.min(case.length)];
     let found = archive::card_read(cut, case.records(), &mut back);
     lines.said("read", found.number, found.past, 0);
+    slots(lines, &back);
+    let mut back = vec![0; 10 * case.records() as usize];
+    let found = archive::old_card_read(cut, case.records(), &mut back);
+    lines.said("read as old", found.number, found.past, 0);
+    old_slots(lines, &back);
+}
+
+/// The records to an old card and back, and the card read as a new one.
+fn old_cards(case: &Case, lines: &mut Lines) {
+    let words = case.old_words();
+    let (mut card, mut back) = (vec![0; 512 * 4], vec![0; words.len()]);
+    let written = archive::old_card_write(&words, &mut card);
+    lines.said("old write", written.number, written.bytes, 0);
+    lines.list("old card", &card[..written.bytes]);
+    if written.bytes > 0 {
+        card[case.row % written.bytes] ^= 1;
+    }
+    let cut = &card[..written.bytes.min(case.length)];
+    let found = archive::old_card_read(cut, case.records(), &mut back);
+    lines.said("old read", found.number, found.past, 0);
+    old_slots(lines, &back);
+    let mut back = vec![0; case.words.len()];
+    let found = archive::card_read(cut, case.records(), &mut back);
+    lines.said("read as new", found.number, found.past, 0);
     slots(lines, &back);
 }
 
@@ -134,6 +173,56 @@ fn appends(case: &Case, lines: &mut Lines) {
     lines.said("next", next.number, next.records as usize, next.at);
     lines.said("append", added.number, added.blocks as usize, added.at);
     lines.list("blocks", &blocks[..512 * added.blocks as usize]);
+}
+
+/// What comes next on an old card, and the rest appended.
+fn old_appends(case: &Case, lines: &mut Lines) {
+    let (words, mut blocks) = (case.old_words(), vec![0; 2048]);
+    let next = archive::old_card_next(case.length, case.records());
+    let rest = &words[(next.at / 512 * 120).min(words.len())..];
+    let added = archive::old_card_append(case.length, case.records(), rest, &mut blocks);
+    lines.said("old next", next.number, next.records as usize, next.at);
+    lines.said("old append", added.number, added.blocks as usize, added.at);
+    lines.list("old blocks", &blocks[..512 * added.blocks as usize]);
+}
+
+/// A card with blocks of both kinds, as the kind that finds more: 0 old or 1 new, the bytes past it, and what the other kind finds.
+fn either(case: &Case, lines: &mut Lines) {
+    let (words, total) = (case.old_words(), case.records());
+    let [mut new, mut old] = [0; 2].map(|byte| vec![byte; 2048]);
+    let written = archive::card_write(&case.words, &mut new);
+    let before = archive::old_card_write(&words, &mut old);
+    new.truncate(written.bytes);
+    let card = case.mixed(new, &old[..before.bytes]);
+    let [mut new, mut old] = [case.words.len(), words.len()].map(|words| vec![0; words]);
+    let as_new = archive::card_read(&card, total, &mut new);
+    let as_old = archive::old_card_read(&card, total, &mut old);
+    let found = |records: &[u32], width| {
+        let records = records.chunks_exact(width);
+        records.filter(|record| record[0] != 2).count()
+    };
+    let [by_new, by_old] = [found(&new, 12), found(&old, 10)];
+    match by_old > by_new {
+        true => {
+            lines.said("either", 0, as_old.past, by_new);
+            old_slots(lines, &old);
+        }
+        false => {
+            lines.said("either", 1, as_new.past, by_old);
+            slots(lines, &new);
+        }
+    }
+}
+
+/// The records of an old card as slots, and packed: the same numbers as of the slots that they were.
+fn widened(case: &Case, lines: &mut Lines) {
+    let slots = case.widened();
+    let mut packed = vec![0; 7 * case.records() as usize];
+    lines.list("widened", &slots);
+    old_slots(lines, &case.old_words());
+    let made = archive::pack(&case.words, &mut packed);
+    lines.said("pack widened", made.number, made.count, 0);
+    lines.list("packed widened", &packed);
 }
 
 /// The records packed and read, and read again with one slot spoilt.
@@ -166,5 +255,9 @@ pub fn case(case: &Case, lines: &mut Lines) {
     links(case, lines);
     cards(case, lines);
     appends(case, lines);
+    old_cards(case, lines);
+    old_appends(case, lines);
+    either(case, lines);
+    widened(case, lines);
     packs(case, lines);
 }

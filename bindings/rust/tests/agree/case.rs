@@ -13,7 +13,7 @@ pub struct Case {
     pub row: usize,
     /// How long the card is that is read or appended to.
     pub length: usize,
-    /// Ten words a record.
+    /// Twelve words a record.
     pub words: Vec<u32>,
 }
 
@@ -57,13 +57,16 @@ fn faces(random: &mut Random) -> Faces {
     faces
 }
 
-/// A record: present or not, numbers that can be packed most of the time, magnitudes of any bits, and an orientation.
-fn record(random: &mut Random) -> [u32; 10] {
-    let mut words = [0; 10].map(|_| random.signed().to_bits());
+/// A record: present or not, numbers that can be packed most of the time, magnitudes of any bits, an orientation, an origin that can be none
+/// of those that there are, and any count.
+fn record(random: &mut Random) -> [u32; 12] {
+    let mut words = [0; 12].map(|_| random.signed().to_bits());
     words[0] = random.below(2) as u32;
     words[7] = random.word();
     words[8] = random.word();
     words[9] = random.below(2) as u32;
+    words[10] = random.below(6) as u32;
+    words[11] = random.word();
     if random.chance(1, 8) {
         words[random.from_to(1, 6)] = random.word();
     }
@@ -85,7 +88,36 @@ impl Case {
 
     /// How many records there are.
     pub fn records(&self) -> u32 {
-        (self.words.len() / 10) as u32
+        (self.words.len() / 12) as u32
+    }
+
+    /// The same records as an old card has them: the first ten words of each.
+    pub fn old_words(&self) -> Vec<u32> {
+        let records = self.words.as_chunks::<12>().0;
+        records
+            .iter()
+            .flat_map(|words| words[..10].to_vec())
+            .collect()
+    }
+
+    /// Those again as slots: two zeros follow the ten words of each.
+    pub fn widened(&self) -> Vec<u32> {
+        let mut slots = self.words.clone();
+        let slots_of_twelve = slots.as_chunks_mut::<12>().0;
+        slots_of_twelve
+            .iter_mut()
+            .for_each(|slot| slot[10..].fill(0));
+        slots
+    }
+
+    /// A card with blocks of both kinds: those of the old card where the row's binary digits are 1, as long as the case has it.
+    pub fn mixed(&self, mut new: Vec<u8>, old: &[u8]) -> Vec<u8> {
+        let blocks = new.chunks_exact_mut(512).zip(old.chunks_exact(512));
+        for (_, (new, old)) in blocks.enumerate().filter(|(b, _)| self.row >> b & 1 == 1) {
+            new.copy_from_slice(old);
+        }
+        new.truncate(self.length);
+        new
     }
 
     /// The words that every_call.c takes.

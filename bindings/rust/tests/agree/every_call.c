@@ -12,7 +12,7 @@ static struct {
 } in;
 static float threshold, positions[3 * CORNERS], normals[3 * CORNERS], texture[2 * CORNERS];
 static uint8_t sizes[FACES];
-static uint32_t words[DOKPHALUN_SLOT_WORDS * RECORDS];
+static uint32_t words[DOKPHALUN_SLOT_WORDS * RECORDS], old_words[DOKPHALUN_OLD_SLOT_WORDS * RECORDS];
 #define MESH sizes, in.faces, positions, 3 * in.corners, normals, 3 * in.corners, texture, 2 * in.corners
 
 /* The lists that are lent. */
@@ -22,9 +22,9 @@ static float own_numbers[DOKPHALUN_OWN_NUMBERS * FACES];
 static uint8_t own_sizes[FACES];
 static uint32_t links[DOKPHALUN_LINK_WORDS * FACES], groups[DOKPHALUN_LINK_WORDS * FACES];
 static uint32_t orientations[DOKPHALUN_ORIENTATION_WORDS * FACES];
-static uint8_t card[DOKPHALUN_CARD_BYTES(RECORDS)];
+static uint8_t card[DOKPHALUN_CARD_BYTES(RECORDS)], old_card[DOKPHALUN_OLD_CARD_BYTES(RECORDS)];
 static int16_t packed[7 * RECORDS];
-static uint32_t read_back[DOKPHALUN_SLOT_WORDS * RECORDS];
+static uint32_t read_back[DOKPHALUN_SLOT_WORDS * RECORDS], old_read_back[DOKPHALUN_OLD_SLOT_WORDS * RECORDS];
 #define LENT(list) list, sizeof list / sizeof *list
 
 /* Takes so many words of the input. */
@@ -45,8 +45,12 @@ static int take_case(void)
             return 0;
         sizes[i] = (uint8_t)size;
     }
-    return take(positions, 3 * in.corners) && take(normals, 3 * in.corners) && take(texture, 2 * in.corners)
-        && take(words, 10 * in.records);
+    if (!take(positions, 3 * in.corners) || !take(normals, 3 * in.corners) || !take(texture, 2 * in.corners)
+        || !take(words, DOKPHALUN_SLOT_WORDS * in.records))
+        return 0;
+    for (i = 0; i < in.records; i++)
+        memcpy(old_words + DOKPHALUN_OLD_SLOT_WORDS * i, words + DOKPHALUN_SLOT_WORDS * i, 4 * DOKPHALUN_OLD_SLOT_WORDS);
+    return 1;
 }
 
 /* What a call said: three numbers. */
@@ -75,6 +79,16 @@ static void bytes(const char *name, const uint8_t *all, size_t count)
     printf("\n");
 }
 
+/* A list of packed numbers. */
+static void shorts(const char *name, const int16_t *all, size_t count)
+{
+    size_t i;
+    printf("%s", name);
+    for (i = 0; i < count; i++)
+        printf(" %d", (int)all[i]);
+    printf("\n");
+}
+
 /* A number's bits. */
 static uint32_t bits(float number)
 {
@@ -83,23 +97,56 @@ static uint32_t bits(float number)
     return word;
 }
 
-/* Each slot, field by field; one without a frame has to be all NaN. */
+/* The number of an origin, by its name. */
+static unsigned long number(enum dokphalun_origin origin)
+{
+    switch (origin) {
+    case DOKPHALUN_NOT_RECORDED: return 0;
+    case DOKPHALUN_SINGLE: return 1;
+    case DOKPHALUN_COMBINED: return 2;
+    case DOKPHALUN_COPIED: return 3;
+    case DOKPHALUN_FILLED: return 4;
+    }
+    return 5;
+}
+
+/* A slot, field by field; one without a frame has to be all NaN, and 0 where there is no NaN. */
+static void slot(enum dokphalun_reading reading, struct dokphalun_frame f)
+{
+    const float numbers[8] = {f.tangent[0], f.tangent[1], f.tangent[2], f.bitangent[0], f.bitangent[1], f.bitangent[2], f.mag_s, f.mag_t};
+    size_t i;
+    printf(reading == DOKPHALUN_PRESENT ? "present" : reading == DOKPHALUN_ABSENT ? "absent" : "lost");
+    for (i = 0; i < 8; i++)
+        if (reading == DOKPHALUN_PRESENT)
+            printf(" %lu", (unsigned long)bits(numbers[i]));
+        else if (!isnan(numbers[i]))
+            printf(" a number");
+    if (reading == DOKPHALUN_PRESENT)
+        printf(" %lu %lu %lu", (unsigned long)f.preserving, number(f.origin), (unsigned long)f.behind);
+    else if (f.preserving != 0 || f.origin != DOKPHALUN_NOT_RECORDED || f.behind != 0)
+        printf(" not 0");
+    printf("\n");
+}
+
+/* Each slot. */
 static void slots(const uint32_t *all, size_t count)
 {
-    size_t k, i;
+    size_t k;
     for (k = 0; k < count; k++) {
         struct dokphalun_frame f;
         enum dokphalun_reading reading = dokphalun_slot(all, k, &f);
-        const float numbers[8] = {f.tangent[0], f.tangent[1], f.tangent[2], f.bitangent[0], f.bitangent[1], f.bitangent[2], f.mag_s, f.mag_t};
-        printf(reading == DOKPHALUN_PRESENT ? "present" : reading == DOKPHALUN_ABSENT ? "absent" : "lost");
-        for (i = 0; i < 8; i++)
-            if (reading == DOKPHALUN_PRESENT)
-                printf(" %lu", (unsigned long)bits(numbers[i]));
-            else if (!isnan(numbers[i]))
-                printf(" a number");
-        if (reading == DOKPHALUN_PRESENT)
-            printf(" %lu", (unsigned long)f.preserving);
-        printf("\n");
+        slot(reading, f);
+    }
+}
+
+/* Each record of an old card. */
+static void old_slots(const uint32_t *all, size_t count)
+{
+    size_t k;
+    for (k = 0; k < count; k++) {
+        struct dokphalun_frame f;
+        enum dokphalun_reading reading = dokphalun_old_slot(all, k, &f);
+        slot(reading, f);
     }
 }
 
@@ -161,17 +208,43 @@ static void hung(void)
     examine(n);
 }
 
-/* The records to a card and back, the card with one byte turned. */
+/* How much is read of a card of so many bytes. */
+static size_t cut(size_t written)
+{
+    return written < in.length ? written : in.length;
+}
+
+/* The records to a card and back, the card with one byte turned; and the card read as an old one. */
 static void cards(void)
 {
-    struct dokphalun_written written = dokphalun_card_write(words, 10 * in.records, LENT(card));
+    struct dokphalun_written written = dokphalun_card_write(words, DOKPHALUN_SLOT_WORDS * in.records, LENT(card));
     struct dokphalun_found found;
     said("write", written.number, written.bytes, 0);
     bytes("card", card, written.bytes);
     if (written.bytes > 0)
         card[in.row % written.bytes] ^= 1;
-    found = dokphalun_card_read(card, written.bytes < in.length ? written.bytes : in.length, in.records, LENT(read_back));
+    found = dokphalun_card_read(card, cut(written.bytes), in.records, LENT(read_back));
     said("read", found.number, found.past, 0);
+    slots(read_back, in.records);
+    found = dokphalun_old_card_read(card, cut(written.bytes), in.records, LENT(read_back));
+    said("read as old", found.number, found.past, 0);
+    old_slots(read_back, in.records);
+}
+
+/* The same of an old card, which is read as a new one too. */
+static void old_cards(void)
+{
+    struct dokphalun_written written = dokphalun_old_card_write(old_words, DOKPHALUN_OLD_SLOT_WORDS * in.records, LENT(old_card));
+    struct dokphalun_found found;
+    said("old write", written.number, written.bytes, 0);
+    bytes("old card", old_card, written.bytes);
+    if (written.bytes > 0)
+        old_card[in.row % written.bytes] ^= 1;
+    found = dokphalun_old_card_read(old_card, cut(written.bytes), in.records, LENT(read_back));
+    said("old read", found.number, found.past, 0);
+    old_slots(read_back, in.records);
+    found = dokphalun_card_read(old_card, cut(written.bytes), in.records, LENT(read_back));
+    said("read as new", found.number, found.past, 0);
     slots(read_back, in.records);
 }
 
@@ -179,24 +252,85 @@ static void cards(void)
 static void appends(void)
 {
     struct dokphalun_next next = dokphalun_card_next(in.length, in.records);
-    size_t done = next.at / 512 * 12 < in.records ? next.at / 512 * 12 : in.records;
-    struct dokphalun_appended added = dokphalun_card_append(in.length, in.records, words + 10 * done, 10 * (in.records - done), LENT(card));
+    size_t before = next.at / DOKPHALUN_BLOCK_BYTES * DOKPHALUN_BLOCK_RECORDS;
+    size_t done = before < in.records ? before : in.records;
+    struct dokphalun_appended added = dokphalun_card_append(
+        in.length, in.records, words + DOKPHALUN_SLOT_WORDS * done, DOKPHALUN_SLOT_WORDS * (in.records - done), LENT(card));
     said("next", next.number, next.records, next.at);
     said("append", added.number, added.blocks, added.at);
-    bytes("blocks", card, 512 * (size_t)added.blocks);
+    bytes("blocks", card, DOKPHALUN_BLOCK_BYTES * (size_t)added.blocks);
+}
+
+/* The same of an old card. */
+static void old_appends(void)
+{
+    struct dokphalun_next next = dokphalun_old_card_next(in.length, in.records);
+    size_t before = next.at / DOKPHALUN_BLOCK_BYTES * DOKPHALUN_OLD_BLOCK_RECORDS;
+    size_t done = before < in.records ? before : in.records;
+    struct dokphalun_appended added = dokphalun_old_card_append(in.length, in.records, old_words + DOKPHALUN_OLD_SLOT_WORDS * done,
+        DOKPHALUN_OLD_SLOT_WORDS * (in.records - done), LENT(old_card));
+    said("old next", next.number, next.records, next.at);
+    said("old append", added.number, added.blocks, added.at);
+    bytes("old blocks", old_card, DOKPHALUN_BLOCK_BYTES * (size_t)added.blocks);
+}
+
+/* How many records of both lists are not lost: those of twelve words, and those of ten. */
+static void count(size_t *by_new, size_t *by_old)
+{
+    size_t k;
+    *by_new = *by_old = 0;
+    for (k = 0; k < in.records; k++) {
+        struct dokphalun_frame f;
+        *by_new += dokphalun_slot(read_back, k, &f) != DOKPHALUN_LOST;
+        *by_old += dokphalun_old_slot(old_read_back, k, &f) != DOKPHALUN_LOST;
+    }
+}
+
+/* A card with blocks of both kinds, as the kind that finds more: 0 old or 1 new, the bytes past it, and what the other kind finds. */
+static void either(void)
+{
+    struct dokphalun_written written = dokphalun_card_write(words, DOKPHALUN_SLOT_WORDS * in.records, LENT(card));
+    struct dokphalun_written old = dokphalun_old_card_write(old_words, DOKPHALUN_OLD_SLOT_WORDS * in.records, LENT(old_card));
+    struct dokphalun_found as_new, as_old;
+    size_t at, by_new, by_old;
+    for (at = 0; at < old.bytes; at += DOKPHALUN_BLOCK_BYTES)
+        if (in.row >> at / DOKPHALUN_BLOCK_BYTES & 1)
+            memcpy(card + at, old_card + at, DOKPHALUN_BLOCK_BYTES);
+    as_new = dokphalun_card_read(card, cut(written.bytes), in.records, LENT(read_back));
+    as_old = dokphalun_old_card_read(card, cut(written.bytes), in.records, LENT(old_read_back));
+    count(&by_new, &by_old);
+    if (by_old > by_new) {
+        said("either", as_old.number, as_old.past, by_new);
+        old_slots(old_read_back, in.records);
+    } else {
+        said("either", as_new.number + 1, as_new.past, by_old);
+        slots(read_back, in.records);
+    }
+}
+
+/* The records of an old card as slots, and packed. */
+static void widened(void)
+{
+    struct dokphalun_packed made;
+    size_t k;
+    memset(read_back, 0x5A, sizeof read_back);
+    for (k = 0; k < in.records; k++)
+        dokphalun_old_to_slot(old_words + DOKPHALUN_OLD_SLOT_WORDS * k, read_back + DOKPHALUN_SLOT_WORDS * k);
+    list("widened", read_back, DOKPHALUN_SLOT_WORDS * in.records);
+    slots(read_back, in.records);
+    made = dokphalun_pack(read_back, DOKPHALUN_SLOT_WORDS * in.records, LENT(packed));
+    said("pack widened", made.number, made.count, 0);
+    shorts("packed widened", packed, made.count);
 }
 
 /* The records packed and read, and read again with one slot spoilt. */
 static void packs(void)
 {
-    struct dokphalun_packed made = dokphalun_pack(words, 10 * in.records, LENT(packed));
+    struct dokphalun_packed made = dokphalun_pack(words, DOKPHALUN_SLOT_WORDS * in.records, LENT(packed));
     struct dokphalun_unpacked found = dokphalun_unpack(packed, made.count, LENT(read_back));
     size_t i;
     said("pack", made.number, made.count, 0);
-    printf("packed");
-    for (i = 0; i < made.count; i++)
-        printf(" %d", (int)packed[i]);
-    printf("\n");
+    shorts("packed", packed, made.count);
     said("unpack", found.number, found.place, 0);
     for (i = 0; i < in.records; i++)
         list(read_back[8 * i] == 1 ? "present" : "absent", read_back + 8 * i + 1, read_back[8 * i] == 1 ? 7 : 0);
@@ -215,6 +349,10 @@ int main(void)
         hung();
         cards();
         appends();
+        old_cards();
+        old_appends();
+        either();
+        widened();
         packs();
     }
     return 0;
