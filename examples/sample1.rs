@@ -1,10 +1,13 @@
-//! Document 01's sample 1 through the archive: one triangle, and its three slots of ten words.
+//! Document 01's sample 1 through the archive: one triangle, and its three slots of twelve words.
 //!
 //!     rt staticlib dokphalun
 //!     rustc -O examples/sample1.rs -L target/staticlib -l static=dokphalun -o target/sample1
 //!     target/sample1
 //!
 //! (`rt staticlib` writes an archive for x86-64.)
+
+/// The words of a slot.
+const SLOT_WORDS: usize = 12;
 
 /// What the call says: the number of a refusal and its place, or 0 and 0; and how many slots were written.
 #[repr(C)]
@@ -64,10 +67,10 @@ fn main() {
     let positions = [0.0, 0.0, 0.0, 1.0, 0.0, 0.0, 0.0, 1.0, 0.0];
     let normals = [0.0, 0.0, 1.0, 0.0, 0.0, 1.0, 0.0, 0.0, 1.0];
     let texture = [0.0, 0.0, 1.0, 0.0, 0.0, 1.0];
-    let (mut answer, mut work) = ([7; 30], [7; 128]);
+    let (mut answer, mut work) = ([7; 3 * SLOT_WORDS], [7; 128]);
     let r = frames(&sizes, &positions, &normals, &texture, -1.0, &mut answer, &mut work);
     println!("number {} place {} slots {}", r.number, r.place, r.slots);
-    for slot in answer.chunks(10) {
+    for slot in answer.chunks(SLOT_WORDS) {
         let words: Vec<String> = slot.iter().map(|w| format!("{w:08X}")).collect();
         println!("{}", words.join(" "));
     }

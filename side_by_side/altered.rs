@@ -1,4 +1,5 @@
-//! Makes the ALTERED copy of the crate: request E6's rule for a vector without a direction, and a note whether such a vector was met.
+//! Makes the ALTERED copy of the crate: request E6's rule for a vector without a direction, a note whether such a vector was met, and
+//! request E7's two words of each frame: where it came from, and how many triangles stood behind it.
 //! It is made at each build from where the crate's source stands, among this package's products, and is plainly marked. Nothing of it is kept.
 use std::fs;
 use std::path::{Path, PathBuf};
@@ -13,7 +14,7 @@ struct Place {
     new: &'static str,
 }
 
-const PLACES: [Place; 5] = [
+const PLACES: [Place; 16] = [
     // none exactly when no component counts, or the squared length is zero, infinite or NaN; the zero vector for none
     Place {
         file: "math.rs",
@@ -61,6 +62,113 @@ const PLACES: [Place; 5] = [
         file: "mikktspace.rs",
         old: "                .for_each(|info| {\n",
         new: "                .for_each(|(info, _)| {\n",
+    },
+    // where a frame came from, and how many triangles that are not group_with_any stood in the subgroups behind it
+    Place {
+        file: "mikktspace.rs",
+        old: "    is_combined: bool,
+    orientation_preserving: bool,
+}",
+        new: "    is_combined: bool,
+    orientation_preserving: bool,
+    origin: u32,
+    behind: u32,
+}",
+    },
+    Place {
+        file: "mikktspace.rs",
+        old: "            is_orientation_preserving: value.orientation_preserving,\n",
+        new: "            is_orientation_preserving: value.orientation_preserving,
+            origin: value.origin,
+            behind: value.behind,
+",
+    },
+    Place {
+        file: "mikktspace.rs",
+        old: "            if let Some(tangent_space) = tangent_space {\n",
+        new: "            let counts = |&&t: &&usize| !triangle_info_list[t].group_with_any;
+            let behind = unified_sub_groups[l].iter().filter(counts).count() as u32;
+            if let Some(tangent_space) = tangent_space {
+",
+    },
+    // two that are combined, equal or not
+    Place {
+        file: "mikktspace.rs",
+        old: "                    is_combined: true,\n",
+        new: "                    is_combined: true,
+                    origin: 2,
+                    behind: tangent_space.behind + behind,
+",
+    },
+    Place {
+        file: "mikktspace.rs",
+        old: "                    is_combined: false,\n",
+        new: "                    is_combined: false,
+                    origin: 1,
+                    behind,
+",
+    },
+    // a copy says so, and a copy of none is none
+    Place {
+        file: "mikktspace.rs",
+        old: "    tangent_spaces: &mut [impl Copy],
+    triangles_good:",
+        new: "    tangent_spaces: &mut [Option<TangentSpace<O>>],
+    triangles_good:",
+    },
+    Place {
+        file: "mikktspace.rs",
+        old: "                b.tangent_spaces_offset + b.vertex_indices()[j] as usize,
+            )
+        })
+        .for_each(|(dst, src)| {
+            tangent_spaces[dst] = tangent_spaces[src];
+",
+        new: "                b.tangent_spaces_offset + b.vertex_indices()[j] as usize,
+            )
+        })
+        .for_each(|(dst, src)| {
+            tangent_spaces[dst] = tangent_spaces[src].map(|t| TangentSpace { origin: 3, ..t });
+",
+    },
+    Place {
+        file: "mikktspace.rs",
+        old: "    tangent_spaces: &mut [impl Copy],
+    triangle_info_list:",
+        new: "    tangent_spaces: &mut [Option<TangentSpace<O>>],
+    triangle_info_list:",
+    },
+    Place {
+        file: "mikktspace.rs",
+        old: "            (dst + offset, src + offset)
+        })
+        .for_each(|(dst, src)| {
+            tangent_spaces[dst] = tangent_spaces[src];
+",
+        new: "            (dst + offset, src + offset)
+        })
+        .for_each(|(dst, src)| {
+            tangent_spaces[dst] = tangent_spaces[src].map(|t| TangentSpace { origin: 4, ..t });
+",
+    },
+    Place {
+        file: "lib.rs",
+        old: "    is_orientation_preserving: bool,
+}",
+        new: "    is_orientation_preserving: bool,
+    /// Where it came from: 1 single, 2 combined, 3 copied to a degenerate corner, 4 copied within a quad.
+    pub origin: u32,
+    /// How many triangles stood behind it.
+    pub behind: u32,
+}",
+    },
+    Place {
+        file: "lib.rs",
+        old: "            is_orientation_preserving: false,\n",
+        new: "            is_orientation_preserving: false,
+            origin: 0,
+            behind: 0,
+",
     },
     Place {
         file: "lib.rs",

@@ -2,7 +2,7 @@
 //!
 //! The crate: the folder of MIKKTSPACE_SRC, else ../shared/docs/src beside the repository; it holds src/lib.rs. It
 //! becomes an rlib among this package's own products, with both corrected features. So does the altered copy (altered.rs),
-//! which has request E6's rule. A slip in it is tried by naming a patch in ALTERED_PATCH (altered/run).
+//! which has request E6's rule and request E7's two words. A slip in it is tried by naming a patch in ALTERED_PATCH (altered/run).
 #[path = "altered.rs"]
 mod altered;
 

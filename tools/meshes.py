@@ -107,15 +107,15 @@ def refusals():
     yield "NaN in faces of 1, 2 and 6 alone: accepted", mesh([change(nth(1), 0, 2, 0, NAN), ONE, change(nth(2), 1, 1, 1, INF), change(nth(6), 5, 0, 2, NAN)])
     yield "NaN in a face of 5 and in the triangle behind it: the triangle's corner", mesh([change(nth(5), 0, 0, 0, NAN), change(ONE, 0, 0, 0, NAN)])
     yield "the largest numbers of binary32: accepted", mesh([change(change(ONE, 1, 0, 0, MOST), 2, 2, 1, "FF7FFFFF")])
-    for more in (-1, -30, 7):
-        yield f"answer list of 10S {'+' if more > 0 else '-'} {abs(more)} words: {'accepted' if more > 0 else 5}", mesh([ONE], answer=more)
+    for more in (-1, -6, -36, 7):
+        yield f"answer list of 12S {'+' if more > 0 else '-'} {abs(more)} words: {'accepted' if more > 0 else 5}", mesh([ONE], answer=more)
     for more in (-1, -128, 9):
         yield f"work list of 128F {'+' if more > 0 else '-'} {abs(more)} words: {'accepted' if more > 0 else 6}", mesh([ONE], work=more)
-    yield "answer list of 10S words beside a face of 5: accepted", mesh([ONE, nth(5)])
+    yield "answer list of 12S words beside a face of 5: accepted", mesh([ONE, nth(5)])
     yield "work list of 128 words for a triangle and a face of 5: 6", mesh([ONE, nth(5)], work=-128)
     yield "work list of 128F - 1 words for two faces: 6", mesh([ONE, QUAD], work=-1)
     yield "both lists short: 5", mesh([ONE], answer=-1, work=-1)
-    yield "both lists of no words: 5", mesh([ONE, QUAD], answer=-70, work=-256)
+    yield "both lists of no words: 5", mesh([ONE, QUAD], answer=-84, work=-256)
     yield "a bad corner and a short answer list: 4", mesh([change(ONE, 0, 0, 0, NAN)], answer=-1)
     yield "a bad corner and short lists: 4", mesh([ONE, change(QUAD, 0, 0, 0, INF)], answer=-1, work=-1)
     yield "a bad corner and a short work list: 4", mesh([change(ONE, 2, 0, 0, NAN)], work=-1)
@@ -168,8 +168,8 @@ def absent_normals():
     yield "no normal and an infinite threshold: 3", mesh([ONE, bared(BESIDE, 2)], INF)
     yield "no normal and a short answer list: 7", mesh([bared(ONE, 1)], answer=-1)
     yield "no normal and a short work list: 7", mesh([bared(ONE, 2)], work=-1)
-    yield "no normal and short lists: 7", mesh([ONE, bared(QUAD, 0)], answer=-70, work=-256)
-    yield "no normal in a quad and an answer list of 10S - 10 words: 7", mesh([bared(QUAD, 2)], answer=-10)
+    yield "no normal and short lists: 7", mesh([ONE, bared(QUAD, 0)], answer=-84, work=-256)
+    yield "no normal in a quad and an answer list of 12S - 12 words: 7", mesh([bared(QUAD, 2)], answer=-12)
     m = mesh([bared(ONE, 0)])
     m.texture = m.texture[:-1]
     yield "no normal and a short list: 2", m
@@ -182,14 +182,14 @@ def lists():
     """Which words are written and which are left alone; faces of other sizes."""
     yield "document 01's sample 1", mesh([ONE])
     yield "document 01's sample 2", mesh([MIRRORED])
-    yield "document 01's sample 3: 30 zero words", mesh([BLANK])
+    yield "document 01's sample 3: 36 zero words", mesh([BLANK])
     yield "sample 3 in longer lists: absent slots are written", mesh([BLANK], answer=11, work=5)
-    yield "sample 1 in longer lists: words past 10S and 128F stay", mesh([ONE], answer=13, work=17)
+    yield "sample 1 in longer lists: words past 12S and 128F stay", mesh([ONE], answer=13, work=17)
     yield "sizes 5, 2 and 0: S is 0", mesh([nth(5), nth(2), []], answer=4, work=3)
     for k in (0, 1, 2, 5, 6, 255):
         yield f"one face of {k}: no slot, its 128 words are cleared", mesh([nth(k)], answer=2, work=2)
     yield "a triangle between faces of 5 and 2", mesh([nth(5), ONE, nth(2)], answer=3, work=3)
-    yield "a face of 5 between two triangles: slots run on", mesh([ONE, nth(5), BESIDE], answer=60)
+    yield "a face of 5 between two triangles: slots run on", mesh([ONE, nth(5), BESIDE], answer=72)
     yield "faces of 1 and 0 before a quad and a triangle", mesh([nth(1), [], QUAD, MIRRORED], answer=20)
     five = ONE + BESIDE[:2]
     yield "a face of 5 with the triangle's own corners changes nothing", mesh([five, ONE], answer=50)
@@ -475,6 +475,10 @@ def twice():
     """Slots that both triangles of a quad reach."""
     square = [(0, 0), (1, 0), (1, 1), (0, 1)]
     third = [(x / 3, y / 3) for x, y in square]
+    yield "a unit square: 4 behind the corners that both triangles have, 1 behind the others", mesh([QUAD])
+    yield "two unit squares, each for itself at threshold 2: still 4 and 1", mesh([QUAD, corners([(x + 1, y, z) for x, y, z in SQUARE], [(u + 1, v) for u, v in square])], 2)
+    blank_half = corners(SQUARE, [(0, 0), (1, 0), (1, 1), (1, 1)])
+    yield "a square whose second triangle is group_with_any: combined, and that triangle is not counted", mesh([blank_half])
     yield "a flat quad of another size", mesh([corners([(x * 0.7, y * 0.3, 0) for x, y, _ in SQUARE], third)])
     for k, f in enumerate(signed_quads()):
         yield f"quads bent by signs of zero and the least numbers, {k}", f
@@ -514,6 +518,9 @@ def copies():
     yield "the first sound corner is present, a later one absent", mesh(absent_first()[::-1])
     yield "two triangles at a corner: the first is copied", mesh(fan(ring(6, 0.5)) + [point(((0, 0, 0), UP, (0, 0)))], 2)
     yield "two triangles at a corner, the point first", mesh([point(((0, 0, 0), UP, (0, 0)))] + fan(ring(6, 0.5))[::-1], 2)
+    yield "a point on a combined corner: 3, and what stood behind is carried along", mesh([QUAD, point(QUAD[0])])
+    yield "a point on the hub of six: 6 stood behind", mesh(fan(ring(6, 0.5), closed=True) + [point(((0, 0, 0), UP, (0, 0)))])
+    yield "a quad that is a point on an absent corner: absent", mesh([BLANK, [BLANK[1]] * 4])
     yield "a quad that is a point", mesh([ONE, [ONE[2]] * 4])
     yield "a quad that is a line: both degenerate, copies by weld", mesh([ONE, [ONE[0], ONE[1], ONE[0], ONE[1]]])
     square = [(0, 0), (1, 0), (1, 1), (0, 1)]
@@ -527,6 +534,8 @@ def copies():
     yield "a marked quad beside a triangle: the missing corner is not copied by weld", mesh([[marked[3], ((0, 2, 1), UP, (0, 3)), marked[0]], marked], 0.9)
     yield "a marked quad behind its neighbour", mesh([[marked[1], ((3, 0, 1), UP, (3, 0)), marked[2]], marked, [marked[0], ((0, 2, 1), UP, (0, 3)), marked[3]]], 0.9)
     yield "a marked quad without texture: absent is copied", mesh([corners([(0, 0, 0), (1, 0, 0), (1, 1, 0), (1, 1, 0)], [(0, 0)] * 4)])
+    beside = [marked[3], marked[1], ((2, 1, 0.25), UP, (2, 1))]
+    yield "a marked quad and a triangle on its side: 2 stood behind the copy", mesh([marked, beside])
     yield "a marked quad and a needle on its missing corner", mesh([marked, [marked[3], marked[3], marked[0]]])
 
 

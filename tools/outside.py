@@ -18,6 +18,7 @@ import tempfile
 sys.path.insert(0, os.path.dirname(os.path.abspath(__file__)))
 import samples
 from oracle import RULES
+from plain import SLOT_WORDS
 
 KINDS = ("mesh", "zeros", "refused", "extreme", "needle")
 
@@ -78,7 +79,7 @@ def main():
             subprocess.run([f"{oracle}/oracle", "--ext", mesh_file, "--rules", RULES, "--bin", out_file], check=True, capture_output=True)
             meshes, answers = read_meshes(open(mesh_file, "rb").read()), read_answers(open(out_file, "rb").read())
             for mesh, answer in zip(meshes, answers):
-                if len(mesh[0]) <= most and sum(mesh[0]) <= most and len(mesh[1]) <= 3 * most + 3 and mesh[4] <= 10 * most + 10:
+                if len(mesh[0]) <= most and sum(mesh[0]) <= most and len(mesh[1]) <= 3 * most + 3 and mesh[4] <= SLOT_WORDS * (most + 1):
                     text += theorem(f"{kind}-{compared}", mesh, answer, names)
                     compared += 1
         shutil.copytree("crates", f"{room}/crates", ignore=shutil.ignore_patterns("must-fail"))

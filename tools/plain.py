@@ -10,6 +10,9 @@ MIN_NORMAL, LARGEST = 2.0**-126, 2.0**128 - 2.0**104
 TURN = struct.unpack("<f", struct.pack("<I", 0x31490FDB))[0]
 COSINES = [round(2**30 * math.cos(math.pi * k / 1024)) for k in range(1025)]
 ANSWER_BASE, WORK_BASE = 0xA5A50000, 0x5A5A0000
+SLOT_WORDS = 12
+# where a frame came from: its word 10 (request E7)
+SINGLE, COMBINED, COPIED, FILLED = 1, 2, 3, 4
 MOST_FACES = 65536
 LIMIT_REFUSED, LIMIT_EXCEEDED = f"{MOST_FACES:,} faces are too many", f"{MOST_FACES + 1:,} faces are not too many"
 
@@ -35,8 +38,8 @@ SLIPS = {
         "normals may have any length", "texture may have any length", "longer lists pass", "a NaN threshold passes",
         "an infinite threshold passes", "a NaN passes", "an infinity passes", "positions are not looked at",
         "normals are not looked at", "texture is not looked at", "faces of every size are looked at", "the last bad corner",
-        "its place counted in slots", "its place counted in its face", "its face for its place", "10S words are too few", "10S - 1 words are enough",
-        "10C words are asked for", "128F words are too few", "128F - 1 words are enough", "2 before 1", "3 before 2", "4 before 3",
+        "its place counted in slots", "its place counted in its face", "its face for its place", "12S words are too few", "12S - 1 words are enough",
+        "10S words are enough", "12C words are asked for", "128F words are too few", "128F - 1 words are enough", "2 before 1", "3 before 2", "4 before 3",
         "5 before 4", "6 before 5", "a zero normal passes", "7 before 3", "7 before 4", "of 4 and 7 the lower place", "5 before 7", "6 before 7",
         "two zero components are enough", "the last component alone is looked at", "00800001 counts as zero", "00800000 is a normal", "the least numbers are a normal",
         "-0.0 is a normal", "the last corner without a normal", "place of 7 counted in slots", "place of 7 counted in its face", "its face for the place of 7",
@@ -44,8 +47,9 @@ SLIPS = {
     ],
     "lists and slots": [
         "S counts every face", "slots run over every face", "absent slots are left alone", "an absent slot begins with 1",
-        "words past 10S are cleared", "the work list is left alone", "words past 128F are cleared",
+        "words past 12S are cleared", "the work list is left alone", "words past 128F are cleared",
         "128 words for faces of 3 and 4 alone", "a face of 5 is a triangle", "NaN as FFC00000", "orientation told backwards",
+        "words 10 and 11 exchanged", "ten words a slot, two zeros", "an absent slot is told as single",
     ],
     "step 1, cuts": [
         "a tie is cut 1-3", "the longer texture diagonal", "positions decide first", "a texture tie is always cut 0-2",
@@ -77,14 +81,17 @@ SLIPS = {
         "at the threshold too", "one cosine is enough", "s alone", "t alone", "cosines not projected", "the same face is not joined",
         "group_with_any is not joined", "the threshold is not looked at", "summed as met", "not weighted", "angle not projected",
         "group_with_any adds to the sum", "the sum keeps its length", "magnitudes not divided by the angles",
+        "group_with_any triangles are counted", "the whole group is counted", "the member alone is counted", "faces are counted",
     ],
     "step 8, slots reached twice": [
         "equal ones are averaged", "equal by bits", "of equal ones the later stays", "the first stays", "the last stays", "the earlier orientation",
-        "magnitudes not halved",
+        "magnitudes not halved", "combined is told as single", "equal ones stay single", "the earlier count stays", "the later count stays",
+        "counts of equal ones are not summed", "a triangle behind both is counted once",
     ],
     "step 9, copies": [
         "no copy to a degenerate corner", "the first present corner", "the last sound corner", "copied by position", "copied in marked quads too",
         "an absent copy is a frame of zeros", "the missing corner stays absent", "the missing corner by bits of all eight", "the missing corner by bits of its position",
+        "3 for 4", "4 for 3", "a copy is told as what it copies", "a copied absent slot is told as copied", "a copied count is 0",
     ],
     "numbers": [
         "dot from the right", "products not rounded", "worked in double", "small results become zero", "large results stay the largest", "root rounded down",
@@ -107,7 +114,7 @@ class Mesh:
 
     def __init__(self, sizes, positions, normals, texture, threshold, answer=None, work=None):
         self.sizes, self.positions, self.normals, self.texture, self.threshold = sizes, positions, normals, texture, threshold
-        self.answer = 10 * self.slots() if answer is None else answer
+        self.answer = SLOT_WORDS * self.slots() if answer is None else answer
         self.work = 128 * len(sizes) if work is None else work
 
     def slots(self):
@@ -118,10 +125,15 @@ class Mesh:
 
 
 class Slot:
-    """A reading: two vectors, two magnitudes, orientation."""
+    """A reading: two vectors, two magnitudes, orientation, where it came from, and the triangles that stood behind it."""
 
-    def __init__(self, s, t, ms, mt, way):
-        self.s, self.t, self.ms, self.mt, self.way = s, t, ms, mt, way
+    there = True
+
+    def __init__(self, s, t, ms, mt, way, origin, behind):
+        self.s, self.t, self.ms, self.mt, self.way, self.origin, self.behind = s, t, ms, mt, way, origin, behind
+
+    def numbers(self):
+        return self.s, self.t, self.ms, self.mt
 
     def values(self):
         return (*self.s, *self.t, self.ms, self.mt)
@@ -533,6 +545,11 @@ class Frames:
             ms, mt = self.n.divide(ms, total), self.n.divide(mt, total)
         return s, t, ms, mt
 
+    def behind(self, member, near, group):
+        """Those that are not group_with_any, of a member's subgroup."""
+        near = {"the whole group is counted": group["members"], "the member alone is counted": [member]}.get(self.slip, near)
+        return [t for t in near if not t.any or self.on("group_with_any triangles are counted")]
+
     # steps 7 and 8
     def reach(self):
         place = {id(t): k for k, t in enumerate(self.sound)}
@@ -542,23 +559,37 @@ class Frames:
                 near = [b for b in g["members"] if self.joined(a, b, n)]
                 if not self.on("summed as met"):
                     near.sort(key=lambda t: place[id(t)])
-                made = Slot(*self.sum(near, g["vertex"]), g["way"])
+                made = Slot(*self.sum(near, g["vertex"]), g["way"], SINGLE, self.behind(a, near, g))
                 k = a.slots[a.group.index(g["id"])]
                 self.slots[k] = made if self.slots[k] is None else self.combine(self.slots[k], made)
 
     def combine(self, old, new):
         way = old.way if self.on("the earlier orientation") else new.way
-        if self.on("the first stays") or self.on("the last stays"):
-            stays = old if self.on("the first stays") else new
-            return Slot(stays.s, stays.t, stays.ms, stays.mt, way)
         by = (lambda v: [bits(x) for x in v]) if self.on("equal by bits") else (lambda v: v)
-        if by(old.values()) == by(new.values()) and not self.on("equal ones are averaged"):
-            stays = new if self.on("of equal ones the later stays") else old
-            return Slot(stays.s, stays.t, stays.ms, stays.mt, way)
+        equal = by(old.values()) == by(new.values())
+        single = self.on("combined is told as single") or (equal and self.on("equal ones stay single"))
+        return Slot(*self.merged(old, new, equal), way, SINGLE if single else COMBINED, self.behind_both(old, new, equal))
+
+    def merged(self, old, new, equal):
+        """The numbers of two readings that are combined."""
+        if self.on("the first stays") or self.on("the last stays"):
+            return (old if self.on("the first stays") else new).numbers()
+        if equal and not self.on("equal ones are averaged"):
+            return (new if self.on("of equal ones the later stays") else old).numbers()
         n, r = self.n, self.n.r
         half = 1.0 if self.on("magnitudes not halved") else 0.5
         s, t = n.unit(n.add(old.s, new.s)), n.unit(n.add(old.t, new.t))
-        return Slot(s, t, r(half * r(old.ms + new.ms)), r(half * r(old.mt + new.mt)), way)
+        return s, t, r(half * r(old.ms + new.ms)), r(half * r(old.mt + new.mt))
+
+    def behind_both(self, old, new, equal):
+        """What stood behind two readings that are combined: one behind both is there twice."""
+        if self.on("the earlier count stays") or (equal and self.on("counts of equal ones are not summed")):
+            return old.behind
+        if self.on("the later count stays"):
+            return new.behind
+        if self.on("a triangle behind both is counted once"):
+            return old.behind + [t for t in new.behind if t not in old.behind]
+        return old.behind + new.behind
 
     # step 9
     def copy(self):
@@ -578,13 +609,19 @@ class Frames:
                 if self.on("copied by position"):
                     same = self.place[b.corners[j]] == self.place[t.corners[i]]
                 if same and not (self.on("the first present corner") and self.slots[b.slots[j]] is None):
-                    self.slots[t.slots[i]] = self.taken(self.slots[b.slots[j]])
+                    self.slots[t.slots[i]] = self.taken(self.slots[b.slots[j]], FILLED if self.on("4 for 3") else COPIED)
                     return
-        self.slots[t.slots[i]] = self.taken(self.slots[t.slots[i]])
+        if self.slots[t.slots[i]] is None and self.on("an absent copy is a frame of zeros"):
+            self.slots[t.slots[i]] = self.taken(None, COPIED)
 
-    def taken(self, slot):
-        zero = (0.0, 0.0, 0.0)
-        return Slot(zero, zero, 0.0, 0.0, False) if slot is None and self.on("an absent copy is a frame of zeros") else slot
+    def taken(self, slot, origin):
+        """A copy of a slot."""
+        if slot is None:
+            zeros = Slot((0.0, 0.0, 0.0), (0.0, 0.0, 0.0), 0.0, 0.0, False, origin, [])
+            zeros.there = self.on("an absent copy is a frame of zeros")
+            return zeros if zeros.there or self.on("a copied absent slot is told as copied") else None
+        origin = slot.origin if self.on("a copy is told as what it copies") else origin
+        return Slot(*slot.numbers(), slot.way, origin, [] if self.on("a copied count is 0") else slot.behind)
 
     def copy_missing(self, t):
         base, m = t.corners[0] - t.kept[0], self.mesh
@@ -598,7 +635,7 @@ class Frames:
                 same = whole(c)[:3] == whole(gone)[:3]
             if same:
                 slot = t.slots[0] - t.kept[0]
-                self.slots[slot + t.missing] = self.taken(self.slots[slot + k])
+                self.slots[slot + t.missing] = self.taken(self.slots[slot + k], COPIED if self.on("3 for 4") else FILLED)
                 return
 
 
@@ -666,7 +703,8 @@ def verdict(mesh, slip):
     three = is_bad(mesh.threshold, slip if "threshold" in (slip or "") else None)
     four = bad_corner(mesh, None if "threshold" in (slip or "") else slip)
     seven = bare_corner(mesh, slip)
-    room = {"10S words are too few": 10 * s + 1, "10S - 1 words are enough": 10 * s - 1, "10C words are asked for": 10 * c}.get(slip, 10 * s)
+    full = SLOT_WORDS * s
+    room = {"12S words are too few": full + 1, "12S - 1 words are enough": full - 1, "10S words are enough": 10 * s, "12C words are asked for": SLOT_WORDS * c}.get(slip, full)
     desk = {"128F words are too few": 128 * f + 1, "128F - 1 words are enough": 128 * f - 1}.get(slip, 128 * f)
     rows = [
         (1, f > limit or (f == 0 and slip == "no faces are refused"), 0),
@@ -687,15 +725,20 @@ def verdict(mesh, slip):
     return next(((k, place) for k, applies, place in rows if applies), None)
 
 
-def ten(slot, slip):
-    """The ten words of a slot."""
+def words_of(slot, slip):
+    """The twelve words of a slot."""
     if slot is None:
-        return [1 if slip == "an absent slot begins with 1" else 0] + [0] * 9
+        words = [0] * SLOT_WORDS
+        words[0] = int(slip == "an absent slot begins with 1")
+        words[10] = int(slip == "an absent slot is told as single")
+        return words
     words = [bits(x) for x in slot.values()]
     if slip == "NaN as FFC00000":
         words = [0xFFC00000 if w == 0x7FC00000 else w for w in words]
     way = slot.way != (slip == "orientation told backwards")
-    return [1, *words, int(way)]
+    behind = len({t.face for t in slot.behind}) if slip == "faces are counted" else len(slot.behind)
+    last = {"words 10 and 11 exchanged": [behind, slot.origin], "ten words a slot, two zeros": [0, 0]}.get(slip, [slot.origin, behind])
+    return [int(slot.there), *words, int(way), *last]
 
 
 def outcome(mesh, slip=None):
@@ -716,12 +759,12 @@ def outcome(mesh, slip=None):
         for _ in range(n if here else 0):
             slot = slots.pop(0)
             if slot is not None or slip != "absent slots are left alone":
-                answer[at : at + 10] = ten(slot, slip)
-            at += 10
+                answer[at : at + SLOT_WORDS] = words_of(slot, slip)
+            at += SLOT_WORDS
         if not here and slip == "slots run over every face":
-            at += 10 * n
-    if slip == "words past 10S are cleared":
-        answer[10 * mesh.slots() :] = [0] * (len(answer) - 10 * mesh.slots())
+            at += SLOT_WORDS * n
+    if slip == "words past 12S are cleared":
+        answer[SLOT_WORDS * mesh.slots() :] = [0] * (len(answer) - SLOT_WORDS * mesh.slots())
     faces = sum(n in (3, 4) for n in mesh.sizes) if slip == "128 words for faces of 3 and 4 alone" else len(mesh.sizes)
     cleared = {"the work list is left alone": 0, "words past 128F are cleared": len(work)}.get(slip, 128 * faces)
     work[:cleared] = [0] * cleared

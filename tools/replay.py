@@ -15,9 +15,9 @@ import sys
 
 from meshes import MINUS_0, UP, all_meshes, mesh, word
 from oracle import RULES, ask, build_oracle
-from plain import GROUPS, SLIPS, outcome, shows
+from plain import GROUPS, SLIPS, SLOT_WORDS, outcome, shows
 
-COUNT = 403
+COUNT = 411
 WANTED = 3
 TRIES = 30000
 
@@ -107,6 +107,11 @@ def line(words):
     return " ".join(f"{w:X}" for w in words) + "\n"
 
 
+def slot_of(answer, k, width=SLOT_WORDS):
+    """The words of slot k of an answer, whose slots have so many."""
+    return answer[3][width * k : width * (k + 1)]
+
+
 def record(m, answer):
     """The words of a mesh, a line a face and list, and a line a slot of its answer."""
     number, place, slots = answer[:3]
@@ -121,7 +126,7 @@ def record(m, answer):
             at += n * size
         out += line(l[at:]) if l[at:] else ""
     for k in range(slots):
-        out += line(answer[3][10 * k : 10 * k + 10])
+        out += line(slot_of(answer, k))
     return out
 
 
@@ -164,13 +169,14 @@ def moved(oracle, chosen, request):
     """Prints the meshes whose answers a request moves: the first slot that it moves without it, with it."""
     meshes = [m for _, _, m in chosen]
     without = ",".join(r for r in RULES.split(",") if r != request)
+    width = 10 if request == "e7" else SLOT_WORDS  # before request E7 a slot had ten words; those are compared
     for k, (before, after) in enumerate(zip(ask(oracle, meshes, without), ask(oracle, meshes))):
-        slots = [i for i in range(after[2]) if before[3][10 * i : 10 * i + 10] != after[3][10 * i : 10 * i + 10]]
+        slots = [i for i in range(after[2]) if slot_of(before, i, width) != slot_of(after, i)[:width]]
         if before[:2] != after[:2]:
             was, now = (f"refused with {a[0]} at {a[1]}" if a[0] else f"accepted, {a[2]} slots" for a in (before, after))
             print(f"| {k} | {chosen[k][1]} | {was} | {now} |")
-        elif before != after:
-            was, now = (" ".join(f"{w:X}" for w in a[3][10 * slots[0] : 10 * slots[0] + 10]) for a in (before, after))
+        elif slots:
+            was, now = (" ".join(f"{w:X}" for w in l) for l in (slot_of(before, slots[0], width), slot_of(after, slots[0])))
             print(f"| {k} | {chosen[k][1]} | {len(slots)} of {after[2]} | {slots[0]}: `{was}` | `{now}` |")
 
 

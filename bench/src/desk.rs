@@ -1,16 +1,14 @@
 //! The proved desk beside the oracle: the verdict on every mesh of a file, number and place.
-use crate::files::{Call, Words};
+use crate::files::{Answer, Call, Words, hash};
 use dokphalun_sys::Mesh;
 use dokphalun_sys::exports::judge;
 use std::fs::read;
 
-/// The hash of a work list of so many words that was not touched, as an out file has it.
-fn untouched_work(count: usize) -> u32 {
-    (0x5A5A_0000u32..)
-        .take(count)
-        .fold(2_166_136_261, |hash, word| {
-            (hash ^ word).wrapping_mul(16_777_619)
-        })
+/// Whether the oracle altered a list or counted a slot.
+fn altered(call: &Call, answer: &Answer) -> bool {
+    answer.slots != 0
+        || answer.words != call.fresh_answer()
+        || answer.hash != hash(&call.fresh_work())
 }
 
 /// The desk's number and place.
@@ -35,16 +33,12 @@ pub fn check(meshes: &str, answers: &str) -> bool {
     let (mut numbers, mut differed) = ([0u32; 8], 0);
     while !meshes.0.is_empty() {
         let call = meshes.call();
-        let (number, place, slots, untouched, hash) = answers.answer();
-        let ours = judged(&call);
-        let altered =
-            number != 0 && (slots != 0 || !untouched || hash != untouched_work(call.work));
-        if ours != (number, place) || altered {
+        let answer = answers.answer();
+        let (ours, theirs) = (judged(&call), (answer.number, answer.place));
+        let altered = answer.number != 0 && altered(&call, &answer);
+        if ours != theirs || altered {
             if differed == 0 {
-                println!(
-                    "the desk says {ours:?}, the oracle {:?}; altered: {altered}",
-                    (number, place)
-                );
+                println!("the desk says {ours:?}, the oracle {theirs:?}; altered: {altered}");
             }
             differed += 1;
         }

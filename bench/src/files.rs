@@ -17,6 +17,33 @@ impl Call {
             .clone()
             .map(|l| l.into_iter().map(f32::from_bits).collect())
     }
+
+    /// The answer list as it is lent.
+    pub fn fresh_answer(&self) -> Vec<u32> {
+        (0xA5A5_0000..).take(self.answer).collect()
+    }
+
+    /// The work list as it is lent.
+    pub fn fresh_work(&self) -> Vec<u32> {
+        (0x5A5A_0000..).take(self.work).collect()
+    }
+}
+
+/// What a call left, as an out file has it: number, place and slots, the answer list, and the work list by its hash.
+#[derive(Debug, PartialEq)]
+pub struct Answer {
+    pub number: u32,
+    pub place: u32,
+    pub slots: u32,
+    pub words: Vec<u32>,
+    pub hash: u32,
+}
+
+/// The hash of a work list.
+pub fn hash(work: &[u32]) -> u32 {
+    work.iter().fold(2_166_136_261, |hash, word| {
+        (hash ^ word).wrapping_mul(16_777_619)
+    })
 }
 
 /// Little-endian words of a file, one after the other.
@@ -50,14 +77,15 @@ impl Words<'_> {
         }
     }
 
-    /// The next answer of an out file: number, place, slots; whether the lent answer list is as it was; the work list's hash.
-    pub fn answer(&mut self) -> (u32, u32, u32, bool, u32) {
+    /// The next answer of an out file.
+    pub fn answer(&mut self) -> Answer {
         let head = self.words(4);
-        let untouched = self
-            .words(head[3] as usize)
-            .iter()
-            .zip(0xA5A5_0000..)
-            .all(|(&w, lent)| w == lent);
-        (head[0], head[1], head[2], untouched, self.words(1)[0])
+        Answer {
+            number: head[0],
+            place: head[1],
+            slots: head[2],
+            words: self.words(head[3] as usize),
+            hash: self.words(1)[0],
+        }
     }
 }

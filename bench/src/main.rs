@@ -1,11 +1,13 @@
-//! The root, the angle, the desk and the two walks of step 6 of the proved archive, beside the processor's, plain ones and the oracle's.
+//! The root, the angle, the desk, the whole call and the two walks of step 6 of the proved archive, beside the processor's, plain ones and the oracle's.
 //!
 //! `bench check STEP` compares every STEP-th of the 2^32 patterns (and every 16th of those with a table of its own for each
 //! angle, which is slow) and prints how many differed (exit status 1 if any);
 //! `bench desk MESHES ANSWERS` compares the desk with the oracle's answers (tools/desk makes both files);
+//! `bench call MESHES ANSWERS` compares every word that the call for frames leaves with the oracle's (tools/beside makes both files);
 //! `bench walks COUNT` compares the two walks of step 6 on random tables;
 //! `bench distance STEP` prints how far the angle is from the arc cosine, before and after request E3, over every STEP-th cosine;
 //! `bench time` prints nanoseconds a call and the ratio to the processor's, all measured in one run.
+mod call;
 mod desk;
 mod distance;
 mod files;
@@ -202,6 +204,7 @@ fn main() {
     let right = match given.as_slice() {
         ["check", step] => check(step.parse().expect("STEP is a number above 0")),
         ["desk", meshes, answers] => desk::check(meshes, answers),
+        ["call", meshes, answers] => call::check(meshes, answers),
         ["walks", count] => walks::compare(count.parse().expect("COUNT is a number")) == 0,
         ["distance", step] => {
             distance::report(step.parse().expect("STEP is a number above 0"));
@@ -213,7 +216,7 @@ fn main() {
         }
         _ => {
             eprintln!(
-                "usage: bench check STEP | bench desk MESHES ANSWERS | bench walks COUNT | bench distance STEP | bench time"
+                "usage: bench check STEP | bench desk MESHES ANSWERS | bench call MESHES ANSWERS | bench walks COUNT | bench distance STEP | bench time"
             );
             std::process::exit(2);
         }

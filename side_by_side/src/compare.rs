@@ -1,5 +1,5 @@
 //! One case: ours beside what it has to be, every word.
-use crate::mesh::{Case, Corner, Mesh, framed};
+use crate::mesh::{Case, Corner, Mesh, SLOT_WORDS, framed};
 use crate::ops::Document;
 use crate::ours::{self, Left};
 use crate::refusals::refusal;
@@ -13,7 +13,7 @@ use std::collections::HashSet;
 pub struct Seen {
     /// The number that document 01's table gives.
     pub number: u32,
-    /// The first 10S words that the call has to leave.
+    /// The first 12S words that the call has to leave.
     pub frames: Vec<u32>,
     /// True where the frames to compare with were the altered copy's (request E6).
     pub amended: bool,
@@ -42,7 +42,7 @@ fn differing(case: &Case, spoil: Option<Spoil>, seen: &mut Seen) -> Result<(), S
     let theirs = expected.left;
     seen.amended = expected.amended;
     seen.number = theirs.outcome.number;
-    seen.frames = theirs.answer[..10 * theirs.outcome.slots as usize].to_vec();
+    seen.frames = theirs.answer[..SLOT_WORDS * theirs.outcome.slots as usize].to_vec();
     if let Some(foreseen) = case
         .foreseen
         .filter(|&told| told != (theirs.outcome.number, theirs.outcome.place))
@@ -121,23 +121,23 @@ fn answer_difference(mesh: &Mesh, at: usize, ours: &Left, theirs: &Left) -> Stri
         return format!("answer word {at} after a refusal: {words}");
     }
     if at >= mesh.needed_answer() {
-        return format!("answer word {at}, past 10S: {words}");
+        return format!("answer word {at}, past 12S: {words}");
     }
-    let slot = at / 10;
+    let slot = at / SLOT_WORDS;
     let slots = [ours, theirs].map(|left| {
-        let words = left.answer.get(10 * slot..10 * slot + 10);
+        let words = left.answer.chunks_exact(SLOT_WORDS).nth(slot);
         words.map_or("none".into(), slot_row)
     });
     let [ours, theirs] = slots;
     format!(
         "{}: {words}\n  ours     {ours}\n  expected {theirs}",
-        place(mesh, slot, at % 10)
+        place(mesh, slot, at % SLOT_WORDS)
     )
 }
 
 /// The name of a word of a slot.
 fn place(mesh: &Mesh, slot: usize, word: usize) -> String {
-    const NAMES: [&str; 10] = [
+    const NAMES: [&str; SLOT_WORDS] = [
         "present",
         "tangent x",
         "tangent y",
@@ -148,6 +148,8 @@ fn place(mesh: &Mesh, slot: usize, word: usize) -> String {
         "mag_s",
         "mag_t",
         "orientation",
+        "origin",
+        "behind",
     ];
     let (mut face, mut corner) = (0, slot);
     while !framed(mesh.sizes[face]) || corner >= usize::from(mesh.sizes[face]) {
@@ -218,7 +220,7 @@ fn as_alone(
         None => Ok(()),
         Some(at) => Err(format!(
             "{}: {} in the shuffle, {} alone",
-            place(&case.mesh, at / 10, at % 10),
+            place(&case.mesh, at / SLOT_WORDS, at % SLOT_WORDS),
             word(&together, at),
             word(&expected, at)
         )),
@@ -232,7 +234,7 @@ fn interleaved(case: &Case, alone: Vec<Vec<u32>>) -> Vec<u32> {
     for (&size, &owner) in case.mesh.sizes.iter().zip(&case.owners) {
         let owner = usize::from(owner);
         let count = if framed(size) {
-            10 * usize::from(size)
+            SLOT_WORDS * usize::from(size)
         } else {
             0
         };

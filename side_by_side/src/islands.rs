@@ -1,5 +1,5 @@
 //! The calls of islands beside what they have to leave: one call for frames, and a plain model of the islands.
-use crate::mesh::{Corner, Mesh, framed, numbers_mut};
+use crate::mesh::{Corner, Mesh, SLOT_WORDS, framed, numbers_mut};
 use crate::ours::{self, Outcome, fresh_answer, fresh_work};
 use crate::refusals::{or_nine, without_frames};
 use dokphalun_sys::{self as archive, IslandLists, Labelled};
@@ -7,7 +7,7 @@ use models::lent::answered;
 use std::collections::HashMap;
 
 /// The entries a face of the lists of its own: labels, order, sizes, numbers, frames.
-pub const ENTRIES: [usize; 5] = [1, 4, 1, 32, 40];
+pub const ENTRIES: [usize; 5] = [1, 4, 1, 32, 4 * SLOT_WORDS];
 
 /// What a face is given that is in no island.
 const NO_ISLAND: u32 = u32::MAX;

@@ -2,6 +2,9 @@
 use dokphalun_sys as archive;
 use models::Faces;
 
+/// The words of a slot (request E7), written out once more, so that the bindings' number is held against something else.
+pub const SLOT_WORDS: usize = 12;
+
 /// The bits of a corner's eight numbers: position, normal, texture.
 pub type Corner = [u32; 8];
 
@@ -117,9 +120,9 @@ impl Mesh {
         self.sizes.iter().map(|&size| usize::from(size)).sum()
     }
 
-    /// 10S.
+    /// 12S.
     pub fn needed_answer(&self) -> usize {
-        10 * self.slots()
+        SLOT_WORDS * self.slots()
     }
 
     /// 128F.

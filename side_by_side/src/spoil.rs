@@ -1,19 +1,21 @@
 //! Wrong words on purpose: each alters one word of what ours leaves, to show that the comparison notices it.
-use crate::mesh::Mesh;
+use crate::mesh::{Mesh, SLOT_WORDS};
 use crate::ours::{GUARD, Held, Left};
 
 /// Which word is altered.
 #[derive(Clone, Copy, Debug, PartialEq)]
 pub enum Spoil {
-    /// The lowest bit of this word, 1 to 7, of the last present slot.
+    /// The lowest bit of this word, 1 to 7, 10 or 11, of the last present slot.
     Word(usize),
     /// The orientation of the last slot that is present and mirrored.
     Orientation,
     /// The lowest bit of the last mag_t that is not 1.
     Magnitude,
-    /// Word 0 of the first absent slot: zeros that call themselves present.
-    Absent,
-    /// The first answer word past 10S.
+    /// Where the last slot came from that is combined or copied: it calls itself single.
+    Origin,
+    /// This word of the first absent slot: 0, so that its zeros call themselves present; 10, so that they came from somewhere; 11, so that something stood behind them.
+    Absent(usize),
+    /// The first answer word past 12S.
     PastAnswer,
     /// The last of the first 128F work words.
     Work,
@@ -48,7 +50,7 @@ pub enum Spoil {
 }
 
 /// All of them, by the names that the options have.
-pub const SPOILS: [(&str, Spoil); 26] = [
+pub const SPOILS: [(&str, Spoil); 31] = [
     ("tangent-x", Spoil::Word(1)),
     ("tangent-y", Spoil::Word(2)),
     ("tangent-z", Spoil::Word(3)),
@@ -58,7 +60,12 @@ pub const SPOILS: [(&str, Spoil); 26] = [
     ("mag-s", Spoil::Word(7)),
     ("orientation", Spoil::Orientation),
     ("magnitude", Spoil::Magnitude),
-    ("absent", Spoil::Absent),
+    ("origin", Spoil::Word(10)),
+    ("single-origin", Spoil::Origin),
+    ("behind", Spoil::Word(11)),
+    ("absent", Spoil::Absent(0)),
+    ("absent-origin", Spoil::Absent(10)),
+    ("absent-behind", Spoil::Absent(11)),
     ("past-answer", Spoil::PastAnswer),
     ("work", Spoil::Work),
     ("past-work", Spoil::PastWork),
@@ -89,11 +96,14 @@ impl Spoil {
             Spoil::Magnitude => flip(last(&mut left.answer[..answer], 8, |slot| {
                 slot[8] != 0x3F80_0000
             })),
-            Spoil::Absent => flip(
+            Spoil::Origin => last(&mut left.answer[..answer], 10, |slot| slot[10] != 1)
+                .into_iter()
+                .for_each(|origin| *origin = 1),
+            Spoil::Absent(word) => flip(
                 left.answer[..answer]
-                    .chunks_mut(10)
+                    .chunks_mut(SLOT_WORDS)
                     .find(|slot| slot[0] == 0)
-                    .map(|slot| &mut slot[0]),
+                    .map(|slot| &mut slot[word]),
             ),
             Spoil::PastAnswer if accepted => flip(left.answer.get_mut(answer)),
             Spoil::Work => flip(left.work[..work].last_mut()),
@@ -130,7 +140,7 @@ impl Spoil {
     /// Alters the word in a shuffle's answers.
     pub fn shuffle(self, answer: &mut [u32]) {
         if self == Spoil::Shuffled {
-            flip(last(answer, 9, |_| true));
+            flip(last(answer, SLOT_WORDS - 1, |_| true));
         }
     }
 }
@@ -138,7 +148,7 @@ impl Spoil {
 /// Word `word` of the last present slot that is as asked.
 fn last(answer: &mut [u32], word: usize, asked: fn(&[u32]) -> bool) -> Option<&mut u32> {
     answer
-        .chunks_mut(10)
+        .chunks_mut(SLOT_WORDS)
         .rfind(|slot| slot[0] == 1 && asked(slot))
         .map(|slot| &mut slot[word])
 }

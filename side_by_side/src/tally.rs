@@ -1,6 +1,6 @@
 //! What a run over many cases saw.
 use crate::compare::Seen;
-use crate::mesh::Case;
+use crate::mesh::{Case, SLOT_WORDS};
 use std::fmt::{Display, Formatter, Result};
 
 /// Counts over cases.
@@ -16,6 +16,10 @@ pub struct Tally {
     shuffles: u64,
     slots: u64,
     absent: u64,
+    /// Slots by where they came from, absent ones among them (request E7).
+    origins: [u64; 5],
+    /// The most triangles that stood behind one.
+    most_behind: u32,
     mirrored: u64,
     not_a_number: u64,
     infinite: u64,
@@ -35,15 +39,17 @@ impl Tally {
         self.faces += case.mesh.sizes.len() as u64;
         self.shuffles += u64::from(seen.shuffled);
         seen.frames
-            .chunks(10)
+            .chunks(SLOT_WORDS)
             .for_each(|slot| self.count_slot(slot));
     }
 
-    /// Counts the ten words of a slot.
+    /// Counts the words of a slot.
     fn count_slot(&mut self, slot: &[u32]) {
         let numbers = || slot[1..9].iter().map(|&word| f32::from_bits(word));
         self.slots += 1;
         self.absent += u64::from(slot[0] == 0);
+        self.origins[slot[10] as usize] += 1;
+        self.most_behind = self.most_behind.max(slot[11]);
         self.mirrored += u64::from(slot[0] == 1 && slot[9] == 0);
         self.not_a_number += u64::from(numbers().any(f32::is_nan));
         self.infinite += u64::from(numbers().any(f32::is_infinite));
@@ -71,10 +77,10 @@ impl Tally {
         ];
         pairs.into_iter().for_each(|(sum, more)| *sum += more);
         self.greatest = self.greatest.max(other.greatest);
-        self.numbers
-            .iter_mut()
-            .zip(other.numbers)
-            .for_each(|(sum, more)| *sum += more);
+        self.most_behind = self.most_behind.max(other.most_behind);
+        let numbers = self.numbers.iter_mut().zip(other.numbers);
+        let origins = self.origins.iter_mut().zip(other.origins);
+        numbers.chain(origins).for_each(|(sum, more)| *sum += more);
     }
 }
 
@@ -92,10 +98,11 @@ impl Display for Tally {
             "{accepted} accepted, refused with 1 to 7: {refused:?}; "
         )?;
         write!(line, "{} of them beside the altered copy; ", self.amended)?;
+        let [_, single, combined, copied, filled] = self.origins;
         write!(
             line,
-            "{} faces, {} slots: {} absent, {} mirrored, ",
-            self.faces, self.slots, self.absent, self.mirrored
+            "{} faces, {} slots: {} absent, {single} single, {combined} combined, {copied} copied to a degenerate corner, {filled} copied within a quad, with up to {} triangles behind them; {} mirrored, ",
+            self.faces, self.slots, self.absent, self.most_behind, self.mirrored
         )?;
         write!(
             line,

@@ -51,13 +51,13 @@ pub fn row(words: &[u32]) -> String {
     format!("{} # {}", bits.join(" "), numbers.join(" "))
 }
 
-/// The ten words of a slot, and its numbers as a remark.
+/// The words of a slot, and what they say as a remark.
 pub fn slot_row(words: &[u32]) -> String {
     let bits: Vec<String> = words.iter().map(|word| format!("{word:08X}")).collect();
     let numbers: Vec<String> = words[1..9].iter().map(|&word| number(word)).collect();
-    let [present, way] = [words[0], words[9]];
+    let [present, way, origin, behind] = [words[0], words[9], words[10], words[11]];
     format!(
-        "{} # {present} | {} | {way}",
+        "{} # {present} | {} | {way} | {origin} {behind}",
         bits.join(" "),
         numbers.join(" ")
     )

@@ -1,10 +1,13 @@
 //! What a call has to leave: a refusal, or the frames of the Rust crate; where a vector without a direction is met
-//! (request E6) those of the altered copy.
-use crate::mesh::{Mesh, framed};
+//! (request E6) those of the altered copy. Where a frame came from and what stood behind it (request E7) is the altered copy's always.
+use crate::mesh::{Mesh, SLOT_WORDS, framed};
 use crate::ours::{Left, Outcome, fresh_answer, fresh_work};
 use crate::refusals::refusal;
 use bevy_mikktspace::{Ops, generate_tangents_with_threshold};
 use std::panic::{AssertUnwindSafe, catch_unwind};
+
+/// The first words of a slot, which the crate gives.
+pub const CRATE_WORDS: usize = 10;
 
 /// A mesh as the crate asks for it, and the list that takes its frames.
 pub struct Asked<'a> {
@@ -31,7 +34,7 @@ impl<'a> Asked<'a> {
         }
     }
 
-    /// Has the crate write every slot, with the root and the angle of `O`.
+    /// Has the crate write the first ten words of every slot, with the root and the angle of `O`.
     pub fn fill<O: Ops>(&mut self) {
         let threshold = f32::from_bits(self.mesh.threshold);
         let Ok(()) = generate_tangents_with_threshold::<_, O>(self, threshold) else {
@@ -39,7 +42,7 @@ impl<'a> Asked<'a> {
         };
     }
 
-    /// Has the altered copy write every slot; true if a vector without a direction was met.
+    /// Has the altered copy write every slot, all of it; true if a vector without a direction was met.
     pub fn fill_altered<O: mikktspace_altered::Ops>(&mut self) -> bool {
         let threshold = f32::from_bits(self.mesh.threshold);
         mikktspace_altered::met::take();
@@ -62,16 +65,16 @@ impl<'a> Asked<'a> {
         [self.mesh.texture[at], self.mesh.texture[at + 1]].map(f32::from_bits)
     }
 
-    /// Takes the ten words of a corner of a face.
-    fn set(&mut self, words: [u32; 10], face: usize, corner: usize) {
-        let at = 10 * (self.starts[face].1 + corner);
-        self.answer[at..at + 10].copy_from_slice(&words);
+    /// Takes the first words of a corner of a face.
+    fn set<const COUNT: usize>(&mut self, words: [u32; COUNT], face: usize, corner: usize) {
+        let at = SLOT_WORDS * (self.starts[face].1 + corner);
+        self.answer[at..at + COUNT].copy_from_slice(&words);
     }
 }
 
-/// Lets the crate, or its altered copy, ask for a mesh; both say the ten words of a frame alike.
+/// Lets the crate, or its altered copy, ask for a mesh; both say the first ten words of a frame alike, and `$words` gives so many of it.
 macro_rules! geometry {
-    ($from:ident, $words:ident) => {
+    ($from:ident, $ten:ident, $words:ident, $count:expr) => {
         impl<O: $from::Ops> $from::Geometry<O> for Asked<'_> {
             fn num_faces(&self) -> usize {
                 self.mesh.sizes.len()
@@ -99,12 +102,13 @@ macro_rules! geometry {
                 face: usize,
                 corner: usize,
             ) {
-                self.set(frame.map_or([0; 10], |frame| $words(&frame)), face, corner);
+                let words = frame.map_or([0; $count], |frame| $words(&frame));
+                self.set(words, face, corner);
             }
         }
 
-        /// The ten words of a slot that is present.
-        fn $words(frame: &$from::TangentSpace) -> [u32; 10] {
+        /// The first ten words of a slot that is present.
+        fn $ten(frame: &$from::TangentSpace) -> [u32; CRATE_WORDS] {
             let [x, y, z] = frame.tangent().map(word);
             let [bx, by, bz] = frame.bi_tangent().map(word);
             let magnitudes = [frame.tangent_magnitude(), frame.bi_tangent_magnitude()].map(word);
@@ -114,8 +118,16 @@ macro_rules! geometry {
     };
 }
 
-geometry!(bevy_mikktspace, words);
-geometry!(mikktspace_altered, altered_words);
+geometry!(bevy_mikktspace, ten, ten, CRATE_WORDS);
+geometry!(mikktspace_altered, altered_ten, twelve, SLOT_WORDS);
+
+/// All words of a slot that is present, of the altered copy.
+fn twelve(frame: &mikktspace_altered::TangentSpace) -> [u32; SLOT_WORDS] {
+    let mut words = [0; SLOT_WORDS];
+    words[..CRATE_WORDS].copy_from_slice(&altered_ten(frame));
+    words[CRATE_WORDS..].copy_from_slice(&[frame.origin, frame.behind]);
+    words
+}
 
 /// The bits of a number, and any NaN as 7FC00000.
 fn word(x: f32) -> u32 {
@@ -164,7 +176,8 @@ pub fn left<O: Ops + mikktspace_altered::Ops>(mesh: &Mesh) -> Result<Expected, S
     })
 }
 
-/// Has the frames written: the crate's, and the altered copy's where it met a vector without a direction; true for the latter.
+/// Has the frames written, all words by the altered copy. Where it met a vector without a direction that is all, and it is true; elsewhere
+/// the crate writes its ten words over the copy's, and they have to be the same.
 fn frames<O: Ops + mikktspace_altered::Ops>(
     mesh: &Mesh,
     answer: &mut [u32],
@@ -173,8 +186,8 @@ fn frames<O: Ops + mikktspace_altered::Ops>(
     let mut asked = Asked::new(mesh, &mut altered);
     let met = catch_unwind(AssertUnwindSafe(|| asked.fill_altered::<O>()))
         .map_err(|_| "the altered copy panicked")?;
+    answer.copy_from_slice(&altered);
     if met {
-        answer.copy_from_slice(&altered);
         return Ok(true);
     }
     let mut asked = Asked::new(mesh, answer);

@@ -1,9 +1,9 @@
 //! Times of three on one mesh, all of one run.
-use crate::mesh::Mesh;
+use crate::mesh::{Mesh, SLOT_WORDS};
 use crate::ops::Document;
 use crate::ours;
 use crate::shapes::Shape;
-use crate::theirs::Asked;
+use crate::theirs::{Asked, CRATE_WORDS};
 use bevy_mikktspace::{Ops, StdOps};
 use std::time::Instant;
 
@@ -49,7 +49,7 @@ pub struct Course {
 }
 
 impl Course {
-    /// A shape in so many faces, run once without counting: ours and the crate have to give the same words.
+    /// A shape in so many faces, run once without counting: ours has to give the words that the crate gives.
     pub fn new(shape: Shape, threshold: f32, faces: usize) -> Course {
         let mesh = shape.mesh(faces, threshold);
         let mut course = Course {
@@ -63,7 +63,7 @@ impl Course {
         course.round();
         let [document, _, own] = &course.answers;
         assert!(
-            !course.both || document == own,
+            !course.both || given(document).eq(given(own)),
             "ours differs from the crate"
         );
         course
@@ -106,6 +106,13 @@ impl Course {
             times: [0, 1, 2].map(|who| summary(of(who))),
         }
     }
+}
+
+/// The words of an answer that the crate gives.
+fn given(answer: &[u32]) -> impl Iterator<Item = &[u32]> {
+    answer
+        .chunks_exact(SLOT_WORDS)
+        .map(|slot| &slot[..CRATE_WORDS])
 }
 
 /// The time that the crate takes.

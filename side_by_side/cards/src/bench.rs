@@ -1,7 +1,8 @@
-//! The speed of both, in one run: a card of 100,000 records, written and read.
-use crate::plain::{BLOCK, HELD, Said, WIDTH};
+//! The speed of both, in one run: a card of 100,000 records, written and read, of each kind.
+use crate::ours;
+use crate::plain::{Kind, Said};
 use crate::random::Random;
-use crate::{ours, plain};
+use crate::runs::records;
 use std::hint::black_box;
 use std::time::Instant;
 
@@ -21,22 +22,24 @@ fn best(bytes: usize, mut call: impl FnMut() -> Said) -> f64 {
 }
 
 /// Writes and reads by both, and prints.
-pub fn bench(random: &mut Random) {
-    let mut list: Vec<u32> = (0..RECORDS * WIDTH).map(|_| random.word()).collect();
-    list.iter_mut().step_by(WIDTH).for_each(|word| *word %= 2);
-    let bytes = RECORDS.div_ceil(HELD) * BLOCK;
+pub fn bench(random: &mut Random, kind: Kind) {
+    let list = records(random, kind, RECORDS);
+    let bytes = kind.bytes(RECORDS);
     let (mut card, mut back) = (vec![0; bytes], vec![0; list.len()]);
     let written = [
-        best(bytes, || plain::write(&list, &mut card)),
-        best(bytes, || ours::write(&list, &mut card)),
+        best(bytes, || kind.write(&list, &mut card)),
+        best(bytes, || ours::write(kind, &list, &mut card)),
     ];
     let total = RECORDS as u32;
     let read = [
-        best(bytes, || plain::read(&card, total, &mut back)),
-        best(bytes, || ours::read(&card, total, &mut back)),
+        best(bytes, || kind.read(&card, total, &mut back)),
+        best(bytes, || ours::read(kind, &card, total, &mut back)),
     ];
     assert!(back == list);
-    println!("{RECORDS} records, {bytes} bytes, best of {ROUNDS} rounds, MB a second:");
+    println!(
+        "{} cards: {RECORDS} records, {bytes} bytes, best of {ROUNDS} rounds, MB a second:",
+        kind.name
+    );
     for (what, [plain, ours]) in [("write", written), ("read", read)] {
         println!(
             "{what}: Rust {plain:.0}, ours {ours:.0}, ours to Rust {:.2}",

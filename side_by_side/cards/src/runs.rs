@@ -1,13 +1,13 @@
 //! What is run: random cards, and every misfortune of a card of three blocks.
 use crate::compare;
-use crate::damage::{damage, double, swap};
-use crate::plain::{BLOCK, HELD, WIDTH, put_words, words_of};
+use crate::damage::{block, call_itself, damage, double, swap};
+use crate::plain::{BLOCK, KINDS, Kind, put_words, words_of};
 use crate::random::Random;
 
 /// So many random records; the words 0 are 0 or 1.
-pub fn records(random: &mut Random, count: usize) -> Vec<u32> {
-    (0..count * WIDTH)
-        .map(|i| match i % WIDTH {
+pub fn records(random: &mut Random, kind: Kind, count: usize) -> Vec<u32> {
+    (0..count * kind.width)
+        .map(|i| match i % kind.width {
             0 => random.below(2) as u32,
             _ => random.word(),
         })
@@ -15,15 +15,15 @@ pub fn records(random: &mut Random, count: usize) -> Vec<u32> {
 }
 
 /// A list to write: whole records most of the time.
-pub fn answer(random: &mut Random) -> Vec<u32> {
-    let (few, many) = (random.below(60), random.below(200));
-    let count = random.pick(&[0, 1, 11, 12, 13, 24, few, few, many]);
-    let mut list = records(random, count);
+pub fn answer(random: &mut Random, kind: Kind) -> Vec<u32> {
+    let (few, many, full) = (random.below(60), random.below(200), kind.held);
+    let count = random.pick(&[0, 1, full - 1, full, full + 1, 2 * full, few, few, many]);
+    let mut list = records(random, kind, count);
     if random.chance(1, 16) {
         list.truncate(random.below(list.len() + 1));
     }
     if random.chance(1, 16) && !list.is_empty() {
-        let at = WIDTH * random.below(list.len().div_ceil(WIDTH));
+        let at = kind.width * random.below(list.len().div_ceil(kind.width));
         list[at] = random.pick(&[2, 3, 256, 65_536, 1 << 24, 1 << 31, u32::MAX]);
     }
     list
@@ -39,49 +39,53 @@ pub fn room(random: &mut Random, need: usize) -> usize {
     }
 }
 
-/// One random card: written, damaged, read.
+/// One random card of either kind: written, damaged, read.
 pub fn random_card(random: &mut Random) -> Result<(), String> {
-    let list = answer(random);
-    let need = (list.len() / WIDTH).div_ceil(HELD) * BLOCK;
-    let lent = room(random, need);
-    let ((number, bytes), mut card) = compare::write(&list, lent)?;
+    let kind = random.pick(&KINDS);
+    let list = answer(random, kind);
+    let lent = room(random, kind.bytes(list.len() / kind.width));
+    let ((number, bytes), mut card) = compare::write(kind, &list, lent)?;
     if number == 0 {
         card.truncate(bytes);
     }
-    let total = (list.len() / WIDTH) as u32;
+    let total = (list.len() / kind.width) as u32;
     if number == 0 {
-        let (said, back) = compare::read(&card, total, list.len())?;
+        let (said, back) = compare::read(kind, &card, total, list.len())?;
         if said != (0, 0) || back != list {
             return Err("what was written does not read back".into());
         }
     }
     for _ in 0..random.below(4) {
-        damage(random, &mut card);
+        damage(random, kind, &mut card);
     }
     let any = random.below(300) as u32;
     let total = random.pick(&[total, total, total, total + 1, total.saturating_sub(1), any]);
-    let lent = room(random, total as usize * WIDTH);
-    compare::read(&card, total, lent).map(|_| ())
+    let reader = random.pick(&[kind, kind, kind, kind.other()]);
+    let lent = room(random, total as usize * reader.width);
+    compare::read(reader, &card, total, lent).map(|_| ())
 }
 
 /// A card and its records, of three blocks, the last one part full.
 struct Three {
+    kind: Kind,
     list: Vec<u32>,
     card: Vec<u8>,
 }
 
 impl Three {
-    fn new(random: &mut Random, count: usize) -> Result<Three, String> {
-        let list = records(random, count);
-        let (_, card) = compare::write(&list, 3 * BLOCK)?;
-        Ok(Three { list, card })
+    fn new(random: &mut Random, kind: Kind, count: usize) -> Result<Three, String> {
+        let list = records(random, kind, count);
+        let (_, card) = compare::write(kind, &list, 3 * BLOCK)?;
+        Ok(Three { kind, list, card })
     }
 
     /// Reads a card and compares it with the records, of which some blocks are lost.
     fn read(&self, card: &[u8], lost: impl Fn(usize) -> bool, past: usize) -> Result<(), String> {
-        let (said, back) = compare::read(card, (self.list.len() / WIDTH) as u32, self.list.len())?;
+        let Kind { width, held, .. } = self.kind;
+        let total = (self.list.len() / width) as u32;
+        let (said, back) = compare::read(self.kind, card, total, self.list.len())?;
         let meant: Vec<u32> = (0..self.list.len())
-            .map(|i| match (lost(i / WIDTH / HELD), i % WIDTH) {
+            .map(|i| match (lost(i / width / held), i % width) {
                 (false, _) => self.list[i],
                 (true, 0) => 2,
                 (true, _) => 0,
@@ -122,8 +126,8 @@ fn single_word(random: &mut Random, three: &Three, at: usize) -> Result<u64, Str
 }
 
 /// Each word of a card of three blocks changed: each bit turned, and some other words.
-pub fn single_words(random: &mut Random) -> Result<u64, String> {
-    let three = Three::new(random, 29)?;
+pub fn single_words(random: &mut Random, kind: Kind) -> Result<u64, String> {
+    let three = Three::new(random, kind, 2 * kind.held + 5)?;
     (0..3 * BLOCK / 4)
         .map(|at| single_word(random, &three, at))
         .sum()
@@ -165,11 +169,51 @@ fn cut(three: &Three) -> Result<u64, String> {
 }
 
 /// Blocks exchanged, doubled, dropped; the card cut at every length, and every number of bytes up to a block past it.
-pub fn moved_blocks(random: &mut Random) -> Result<u64, String> {
+pub fn moved_blocks(random: &mut Random, kind: Kind) -> Result<u64, String> {
     let mut count = 0;
-    for records in [25, 29, 35, 36] {
-        let three = Three::new(random, records)?;
+    let full = kind.held;
+    for records in [2 * full + 1, 2 * full + 5, 3 * full - 1, 3 * full] {
+        let three = Three::new(random, kind, records)?;
         count += exchanged(&three)? + doubled_and_dropped(&three)? + cut(&three)?;
     }
     Ok(count)
+}
+
+/// Cards of a kind of every number of records up to five blocks, read as the other kind: each record is lost; how many cards.
+pub fn read_as_other(random: &mut Random, kind: Kind) -> Result<u64, String> {
+    let other = kind.other();
+    let counts = 0..=5 * kind.held;
+    for count in counts.clone() {
+        let list = records(random, kind, count);
+        let (_, card) = compare::write(kind, &list, kind.bytes(count))?;
+        let ((number, _), found) = compare::read(other, &card, count as u32, count * other.width)?;
+        let lost = |record: &[u32]| record[0] == 2 && record[1..].iter().all(|word| *word == 0);
+        if number != 0 || !found.chunks(other.width).all(lost) {
+            return Err(format!(
+                "{count} records of an {} card are not lost",
+                kind.name
+            ));
+        }
+    }
+    Ok(counts.count() as u64)
+}
+
+/// A card of three blocks, of which some are of the other kind: those that the other kind's writer puts there, and those that call
+/// themselves so. They are lost, and no other; how many cards.
+pub fn blocks_of_other(random: &mut Random, kind: Kind) -> Result<u64, String> {
+    let three = Three::new(random, kind, 2 * kind.held + 5)?;
+    let total = three.list.len() / kind.width;
+    let list = records(random, kind.other(), total);
+    let (_, mut others) = compare::write(kind.other(), &list, kind.other().bytes(total))?;
+    for which in 0..8 {
+        let lost = |b: usize| which >> b & 1 == 1;
+        let (mut foreign, mut renamed) = (three.card.clone(), three.card.clone());
+        for b in (0..3).filter(|b| lost(*b)) {
+            block(&mut foreign, b).copy_from_slice(block(&mut others, b));
+            call_itself(kind.other(), block(&mut renamed, b));
+        }
+        three.read(&foreign, lost, 0)?;
+        three.read(&renamed, lost, 0)?;
+    }
+    Ok(16)
 }

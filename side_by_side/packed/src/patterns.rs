@@ -40,7 +40,7 @@ fn by_product(bits: u32) -> i16 {
 pub fn compare(at: usize, patterns: impl Iterator<Item = u32>) -> Result<Seen, String> {
     let mut seen = Seen::new();
     let mut patterns = patterns.fuse().peekable();
-    let mut answer = [1, 0, 0, 0, 0, 0, 0, 0, 0, 1].repeat(SLOTS);
+    let mut answer = [1, 0, 0, 0, 0, 0, 0, 0, 0, 1, 1, 1].repeat(SLOTS);
     let mut packed = vec![0; SLOTS * SEVEN];
     while patterns.peek().is_some() {
         let mut count = 0;

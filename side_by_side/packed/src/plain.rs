@@ -1,7 +1,7 @@
 //! The packed frames of request E5, written and read plainly, from the request's text alone, in exact integers.
 
 /// The words of a slot.
-pub const SLOT: usize = 10;
+pub const SLOT: usize = 12;
 /// The numbers of a packed slot.
 pub const SEVEN: usize = 7;
 /// The words that are read of a packed slot.

@@ -12,8 +12,8 @@ use std::time::Instant;
 const USAGE: &str = "usage: run [--seed N] [--count N] [--kind K].. [--gate] [--spoil WORD] [--file FILE] [--to FOLDER]
   K is one, mesh, zeros, magnitudes, extreme, needle, refused, limits, largest, fans, big or shuffle; all of them unless one is named
   --gate     a few thousand of each kind, then every spoiled word has to be caught
-  --spoil    alters one word of ours: tangent-x to mag-s, orientation, magnitude, absent, past-answer, work, past-work, number,
-             place, bare-number, bare-place, slots, refused-answer, refused-work, shuffled, before-answer, beside-answer, before-work, beside-work or handed
+  --spoil    alters one word of ours: tangent-x to mag-s, orientation, magnitude, origin, single-origin, behind, absent, absent-origin,
+             absent-behind, past-answer, work, past-work, number, place, bare-number, bare-place, slots, refused-answer, refused-work, shuffled, before-answer, beside-answer, before-work, beside-work or handed
   --file     compares the one case of a file
   --to       where a case that differed is written";
 
