@@ -6,6 +6,7 @@ use Rattle.promises.proofs.Determined as Determined
 use Rattle.promises.proofs.Demand3 as Demand3
 use Rattle.promises.proofs.Directions as Directions
 use Rattle.promises.proofs.Origins as Origins
+use Rattle.promises.proofs.Reasons as Reasons
 use Rattle.promises.proofs.BeforeE7 as BeforeE7
 use Rattle.promises.proofs.Impostors as Impostors
 use Rattle.promises.proofs.Faithful as Faithful
@@ -26,6 +27,7 @@ use Rattle.promises.proofs.ThreeSides as ThreeSides
 use Rattle.promises.proofs.Cards as Cards
 use Rattle.promises.proofs.Appends as Appends
 use Rattle.promises.proofs.Packed as Packed
+use Rattle.promises.proofs.Worth as Worth
 
 pub all-promised : AllPromised
 all-promised =
@@ -36,6 +38,7 @@ all-promised =
       demand-3 = Demand3.demand3;
       directions = Directions.directions;
       origins = Origins.origins;
+      reasons = Reasons.reasons;
       before-e7 = BeforeE7.before-e7;
       impostors = Impostors.impostors;
       faithful = Faithful.faithful;
@@ -58,4 +61,5 @@ all-promised =
       cards = Cards.cards-promised;
       appends = Appends.appends-promised;
       packed = Packed.packed-promised;
+      worth = Worth.worth-promised;
     }

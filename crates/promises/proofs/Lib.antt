@@ -21,6 +21,7 @@ pub mod PackedFound
 pub mod PackedWritten
 pub mod PackedAnswers
 pub mod Packed
+pub mod Worth
 pub mod Directions
 pub mod BeforeE7
 pub mod ClosedFaces
@@ -32,4 +33,5 @@ pub mod ThreeSides
 pub mod FaceParts
 pub mod Faithful
 pub mod Origins
+pub mod Reasons
 pub mod All

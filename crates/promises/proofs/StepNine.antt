@@ -134,7 +134,7 @@ placed-from n (c ∷ m) =
     (every-both (λ t p q. (0, omega (arith, p .name), subst (λ (k : ℕ). List·Memᴰ t (pieces k c)) (sym (p .name)) q)) (pieces-face n c) (every-mem (λ t. List·Memᴰ t (pieces n c)) (pieces n c) (λ t q. q)))
     (every-map (λ t r. (suc (r .0), omega (arith, r .1), r .2)) (placed-from (suc n) m))
 
-placed : (m : List (List Corner)) (t : Triangle) → List·Memᴰ t (allTriangles m) → List·Memᴰ t (pieces (t .face) (getD m (t .face) []))
+pub placed : (m : List (List Corner)) (t : Triangle) → List·Memᴰ t (allTriangles m) → List·Memᴰ t (pieces (t .face) (getD m (t .face) []))
 placed m t h =
     let r = every-at (placed-from 0 m) h in
     let e : r .0 ≡ t .face = omega (arith, r .1) in
@@ -148,7 +148,7 @@ in-mesh n (c ∷ m) zero t h = Memᴰ·append-left (triangles (numbered (suc n) 
 in-mesh n (c ∷ m) (suc f) t h = Memᴰ·append-right (pieces n c) (in-mesh (suc n) m f t (subst (λ (k : ℕ). List·Memᴰ t (pieces k (getD m f []))) (omega arith) h))
 
 -- a sound triangle is a triangle, and sound; and the other way round
-sound-is : (ts : List Triangle) (t : Triangle) → List·Memᴰ t (sound ts) → List·Memᴰ t ts × (t .degenerate ≡ false)
+pub sound-is : (ts : List Triangle) (t : Triangle) → List·Memᴰ t (sound ts) → List·Memᴰ t ts × (t .degenerate ≡ false)
 unfolding sound isSound
 sound-is ts t h = (every-at (every-keep isSound (every-mem (λ x. List·Memᴰ x ts) ts (λ x k. k))) h, not-true (t .degenerate) (every-at (keep-passes isSound ts) h))
   where
@@ -265,7 +265,7 @@ module _ (m : List (List Corner)) where
       eq-of (List·Memᴰ·tail q) = absurd (List·Memᴰ·not-nil q)
 
   -- a corner of a degenerate triangle takes a slot
-  broken-slot : (f : ℕ) (k : Kept) → Broken m f k → List·Memᴰ k (slotsAt m f)
+  pub broken-slot : (f : ℕ) (k : Kept) → Broken m f k → List·Memᴰ k (slotsAt m f)
   broken-slot f k B =
       let t = B .tri in
       let p = placed m t (B .inside) in
@@ -284,7 +284,7 @@ module _ (m : List (List Corner)) where
         ∙ every-at (mapped (finalOf bs (soundTriangles m) f (pieces f (getD m f []))) Absent 0 (usable (getD m f []))) q .at (k .which) (omega arith)
 
     -- that of a corner of a sound triangle is what was brought
-    own-reading : (s : Spot) → There m s → finalReading h m (s .tri .face) (slotOf s) ≡ broughtReading h m (s .tri .face) (slotOf s)
+    pub own-reading : (s : Spot) → There m s → finalReading h m (s .tri .face) (slotOf s) ≡ broughtReading h m (s .tri .face) (slotOf s)
     unfolding slotOf
     own-reading s T =
         let f = s .tri .face in
@@ -292,7 +292,7 @@ module _ (m : List (List Corner)) where
         final-is f (kept (s .tri) (s .at)) (T .slot) ∙ every-at (faces.own bs (soundTriangles m) f (getD m f [])) (placed m (s .tri) (q .0)) (q .1) (s .at)
 
     -- the reading of a slot that is copied to, by what is found
-    broken-reading : (f : ℕ) (k : Kept) → Broken m f k → finalReading h m f (k .which) ≡ copied false bs (firstWelded m (k .corner))
+    pub broken-reading : (f : ℕ) (k : Kept) → Broken m f k → finalReading h m f (k .which) ≡ copied false bs (firstWelded m (k .corner))
     unfolding fromSound
     broken-reading f k B =
         let t = B .tri in
@@ -320,16 +320,19 @@ module _ (m : List (List Corner)) where
 
   -- ---- no source is a target
 
-  source-stays : (s : Spot) → List·Memᴰ s (spots (soundTriangles m)) → takesCopy (pieces (s .tri .face) (getD m (s .tri .face) [])) (slotOf s) ≡ false
+  pub source-stays : (s : Spot) → List·Memᴰ s (spots (soundTriangles m)) → takesCopy (pieces (s .tri .face) (getD m (s .tri .face) [])) (slotOf s) ≡ false
   source-stays s h =
       let q = sound-is (allTriangles m) (s .tri) (corner-tri (soundTriangles m) s h) in
       let f = s .tri .face in
       every-at (sources-stay f (getD m f [])) (corners-in (sound (pieces f (getD m f []))) (s .tri) (s .at) (is-sound (pieces f (getD m f [])) (s .tri) (q .1) (placed m (s .tri) (q .0))))
 
-  target-takes : (f : ℕ) (k : Kept) (s : Spot) → Copies m f k s → takesCopy (pieces f (getD m f [])) (k .which) ≡ true
-  target-takes f k s (from-welded B e) =
+  pub broken-takes : (f : ℕ) (k : Kept) → Broken m f k → takesCopy (pieces f (getD m f [])) (k .which) ≡ true
+  broken-takes f k B =
       let p = subst (λ (g : ℕ). List·Memᴰ (B .tri) (pieces g (getD m g []))) (B .face) (placed m (B .tri) (B .inside)) in
       every-at (takes f (getD m f [])) p .broken (B .degenerate) (B .plain) (k .which)
+
+  pub target-takes : (f : ℕ) (k : Kept) (s : Spot) → Copies m f k s → takesCopy (pieces f (getD m f [])) (k .which) ≡ true
+  target-takes f k s (from-welded B e) = broken-takes f k B
   target-takes f k s (from-kept t M e) =
       let q = sound-is (allTriangles m) t (M .inside) in
       let p = subst (λ (g : ℕ). List·Memᴰ t (pieces g (getD m g []))) (M .face) (placed m t (q .0)) in

@@ -5,6 +5,7 @@ use Rattle.promises.specs.Determined as Determined
 use Rattle.promises.specs.Demand3 as Demand3
 use Rattle.promises.specs.Directions as Directions
 use Rattle.promises.specs.Origins as Origins
+use Rattle.promises.specs.Reasons as Reasons
 use Rattle.promises.specs.BeforeE7 as BeforeE7
 use Rattle.promises.specs.Impostors as Impostors
 use Rattle.promises.specs.Faithful as Faithful
@@ -23,6 +24,7 @@ use Rattle.promises.specs.ThreeSides as ThreeSides
 use Rattle.promises.specs.Cards.{CardsPromised}
 use Rattle.promises.specs.Appends.{AppendsPromised}
 use Rattle.promises.specs.Packed.{PackedPromised}
+use Rattle.promises.specs.Worth.{WorthPromised}
 
 pub record AllPromised : Type 1 where
   -- the public call: demands 1, 2 and 3, one outcome, directions (E6)
@@ -34,6 +36,7 @@ pub record AllPromised : Type 1 where
   pub directions : Directions.Promised
   -- where a frame came from, and how many stood behind it (E7); the first ten words of every slot are those of before
   pub origins : Origins.Promised
+  pub reasons : Reasons.Promised
   pub before-e7 : BeforeE7.Promised
   -- what tells the definition from its impostors
   pub impostors : Impostors.Promised
@@ -61,7 +64,8 @@ pub record AllPromised : Type 1 where
   pub own-accepted : Examiner.OwnAccepted
   pub own-lists : Examiner.OwnLists
   pub three-sides : ThreeSides.Promised
-  -- cards (E1), appending (E14), packed frames (E5)
+  -- cards (E1), appending (E14), packed frames (E5), a verdict on every slot
   pub cards : CardsPromised
   pub appends : AppendsPromised
   pub packed : PackedPromised
+  pub worth : WorthPromised

@@ -14,6 +14,7 @@ pub mod Cosines
 pub mod Cards
 pub mod Appends
 pub mod Packed
+pub mod Worth
 pub mod Directions
 pub mod BeforeE7
 pub mod ClosedFaces
@@ -24,4 +25,5 @@ pub mod ThreeSides
 pub mod FaceParts
 pub mod Faithful
 pub mod Origins
+pub mod Reasons
 pub mod All

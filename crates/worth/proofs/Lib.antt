@@ -1,0 +1,9 @@
+pub mod Hidden
+pub mod Counting
+pub mod Filling
+pub mod Outcomes
+pub mod Some
+pub mod Meaning
+pub mod Packing
+pub mod Judging
+pub mod Floats
