@@ -1,5 +1,5 @@
 #!/usr/bin/env python3
-"""Writes crates/definition/proofs/Samples.antt: document 01's samples, computed by the checker from the definitions.
+"""Writes crates/definition/proofs/Samples.antt and crates/laws/proofs/SamplesMore.antt: document 01's samples, computed by the checker from the definitions.
 
 Run it in the repository, with no argument: `python3 tools/samples.py`, then `rt fmt` (which leaves the file as it is).
 Each number stands as its bits. The proofs unfold every definition that is marked `unfoldable` in the specs/ of the crates
@@ -335,6 +335,18 @@ use Rattle.definition.specs.Desk.{shown}
 """
 
 
+NUMBERS = """
+-- numbers, by their bits
+abbrev numbers : List ℕ → List Float
+numbers l = map number l
+
+"""
+
+# what no must-fail edit of `definition` falls at stands in `laws`, which has none: each of those edits computes all samples of `definition`
+MORE = {"two-quads", "quad-filled", "no-normal", "earlier", "sides", "far", "point-alone", "point-shared", "point-absent"}
+MORE_HEAD = "-- More meshes, computed from the definitions. Written by tools/samples.py. Assumes nothing.\n"
+
+
 def unfolded():
     uses, names = [], []
     for crate, modules in CRATES.items():
@@ -356,12 +368,7 @@ def listed(rows):
 def main():
     uses, names = unfolded()
     out = HEAD + uses
-    out += """
--- numbers, by their bits
-abbrev numbers : List ℕ → List Float
-numbers l = map number l
-
--- the same words
+    out += NUMBERS + """-- the same words
 unfoldable sameWords : List ℕ → List ℕ → Bool
 sameWords [] [] = true
 sameWords [] (y ∷ m) = false
@@ -380,9 +387,10 @@ sameWhole a b = leZ a b && leZ b a
     out += "-- the samples marked *, as tests, in document 01's order; then, for each slip that was seen coming, what tells it from the rule\npub starred : List Bool\nstarred =\n"
     out += "    " + " ∷\n    ".join(f"({test})" for _, test in STARRED) + " ∷ []\n\n"
     out += f"-- one proof over all of them: no test fails\npub starred-hold : Lists′.has not starred ≡ false\nunfolding starred sameWords {names} {IEEE} xor flatMap\nstarred-hold = refl\n\n"
-    for name, note, call, result in WHOLE:
-        out += f"-- {note}\npub {name} : {call} ≡ {result}\nunfolding {names} {IEEE} xor flatMap\n{name} = refl\n\n"
-    open("crates/definition/proofs/Samples.antt", "w", encoding="utf-8").write(out.rstrip("\n") + "\n")
+    shows = lambda rows: "\n".join(f"-- {note}\npub {name} : {call} ≡ {result}\nunfolding {names} {IEEE} xor flatMap\n{name} = refl\n" for name, note, call, result in rows)
+    open("crates/definition/proofs/Samples.antt", "w", encoding="utf-8").write(out + shows(row for row in WHOLE if row[0] not in MORE))
+    more = MORE_HEAD + HEAD.split("\n", 1)[1] + uses + NUMBERS + shows(row for row in WHOLE if row[0] in MORE)
+    open("crates/laws/proofs/SamplesMore.antt", "w", encoding="utf-8").write(more.replace("Rattle.definition.specs.", "Rattle.definition.specs."))
 
 
 if __name__ == "__main__":

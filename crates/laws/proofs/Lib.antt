@@ -26,6 +26,7 @@ pub mod Reached
 pub mod OneGroup
 pub mod Verdict
 pub mod Old
+pub mod SamplesMore
 pub mod SamplesOld
 pub mod Readings
 pub mod Finite
