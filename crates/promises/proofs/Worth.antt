@@ -1,14 +1,24 @@
 -- What is promised of a verdict on every slot holds. Assumes nothing.
 use Prim.Native.Nat.{ℕ}
-use mathlib.Core.Path.{sym, _∙_}
+use native.Mathlib.Omega.{arith}
+use mathlib.Core.Path.{_≡_, refl, sym, _∙_, ap, subst}
+use mathlib.Core.Bool.{Bool, true, false, cond}
 use mathlib.Core.List.{List}
-use lib.ListN.{length}
+use lib.ListN.{length, getD}
+use Rattle.tangent.specs.declared.Evaluated.{Evaluated}
+use Rattle.tangent.specs.declared.Reading.{Reading}
+use Rattle.tangent.specs.declared.Reading.the-variants.{Absent, Single, Combined, Copied, Filled}
+use Rattle.tangent.specs.Slot.{singleOrigin, combinedOrigin, copiedOrigin, filledOrigin, tenWords, present, words}
+use Rattle.packed.specs.Component.{within}
+use Rattle.worth.specs.Worth.{absentSlot, goodSlot, lostSlot, blankSlot, longSlot, shortSlot, shown, inBoth, inAll, directed, presentWorth, worth}
+use Rattle.promises.specs.Calls.{readingAt}
+use Rattle.promises.proofs.Directions.{taken-slot}
 use Rattle.worth.proofs.Outcomes.{is-broken, is-endless, is-tight, is-none}
 use Rattle.worth.proofs.Meaning.{told, told-only, good-is, is-good}
 use Rattle.worth.proofs.Packing.{packs-well, worth-alike}
 use Rattle.worth.proofs.Floats.{finite-is, counts-is}
 use Rattle.worth.proofs.Judging.{number-is, refused-is, past-kept, verdict-is, count-is, first-other, all-good-first, first-all-good, all-good-count, count-all-good, words-alone, one-judging}
-use Rattle.promises.specs.Worth.{OneSlot, OneCall, WorthPromised}
+use Rattle.promises.specs.Worth.{OneSlot, OneCall, AnswerWorth, WorthPromised}
 
 one-slot : OneSlot
 one-slot =
@@ -41,5 +51,40 @@ one-call l v =
       count-all = count-all-good l v;
     }
 
+-- ---- the slots of an answer
+
+-- what is there is neither lost nor absent
+kinds : (a b c : Bool) (k : ℕ) → cond a (cond b (cond c goodSlot shortSlot) longSlot) blankSlot ≡ k → (k ≡ lostSlot → ⊥) × (k ≡ absentSlot → ⊥)
+kinds true true true k e = (λ p. omega (arith, e, p), λ p. omega (arith, e, p))
+kinds true true false k e = (λ p. omega (arith, e, p), λ p. omega (arith, e, p))
+kinds true false c k e = (λ p. omega (arith, e, p), λ p. omega (arith, e, p))
+kinds false b c k e = (λ p. omega (arith, e, p), λ p. omega (arith, e, p))
+
+present-kinds : (n : ℕ) (e : Evaluated) (o : Bool) → (worth (present n e o) ≡ lostSlot → ⊥) × (worth (present n e o) ≡ absentSlot → ⊥)
+unfolding worth present tenWords presentWorth
+present-kinds n e o = let l = present n e o in kinds (directed l) (inAll within l) (inBoth shown l) _ refl
+
+there : (n : ℕ) (e : Evaluated) (o : Bool) (r : Reading) → (r ≡ Absent → ⊥) → AnswerWorth (present n e o) r
+there n e o r h = let k = present-kinds n e o in record { not-lost = k .0; absent = λ p. absurd (h p); absent-only = λ p. absurd (k .1 p) }
+
+-- a reading whose first word is 1 is not absent
+not-absent : (r : Reading) → getD (words r) 0 0 ≡ 1 → r ≡ Absent → ⊥
+unfolding words
+not-absent r e p = let z : _≡_ {A = ℕ} 0 1 = sym (ap (λ (q : Reading). getD (words q) 0 0) p) ∙ e in omega (arith, z)
+
+words-worth : (r : Reading) → AnswerWorth (words r) r
+unfolding words worth present tenWords
+words-worth Absent = record { not-lost = λ p. omega (arith, p); absent = λ p. refl; absent-only = λ p. refl }
+words-worth (Single e o) = there singleOrigin e o (Single e o) (not-absent (Single e o) refl)
+words-worth (Combined e o) = there combinedOrigin e o (Combined e o) (not-absent (Combined e o) refl)
+words-worth (Copied e o) = there copiedOrigin e o (Copied e o) (not-absent (Copied e o) refl)
+words-worth (Filled e o) = there filledOrigin e o (Filled e o) (not-absent (Filled e o) refl)
+
 pub worth-promised : WorthPromised
-worth-promised = record { slot = one-slot; call = one-call; words-alone = words-alone; one-judging = one-judging }
+worth-promised = record {
+  slot = one-slot;
+  call = one-call;
+  words-alone = words-alone;
+  one-judging = one-judging;
+  answers = λ x z a n f i h. subst (λ (ws : List ℕ). AnswerWorth ws (readingAt x f i)) (sym (taken-slot x z a n f i h)) (words-worth (readingAt x f i));
+}

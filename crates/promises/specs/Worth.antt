@@ -6,13 +6,20 @@ use mathlib.Core.List.{List}
 use lib.ListN.{length, getD, drop}
 use Rattle.bits.specs.Word.{number, isFinite}
 use Rattle.math.specs.Vector.{counts}
+use Rattle.tangent.specs.declared.Reading.{Reading}
+use Rattle.tangent.specs.declared.Reading.the-variants.{Absent}
 use Rattle.tangent.specs.Slot.{slotWords}
 use Rattle.packed.specs.Packer.{slotAt, slotsIn}
 use Rattle.packed.specs.Reader.{FirstFailing}
-use Rattle.worth.specs.Worth.{goodSlot, finite, counted, worth, countBelow}
+use Rattle.worth.specs.Worth.{absentSlot, goodSlot, lostSlot, finite, counted, worth, countBelow}
 use Rattle.worth.specs.Meaning.{IsGood, Told, PacksWell, Alike}
 use Rattle.worth.specs.Contract.{mostSlots, goodAt, notJudged, judgeLeft, Judges}
 use Rattle.worth.specs.declared.Judged.{Judged}
+use Rattle.definition.specs.Handed.{Call}
+use Rattle.definition.specs.Outcome.{Result}
+use Rattle.view.specs.Answer.{HasSlot}
+use Rattle.promises.specs.Calls.{Answers, readingAt}
+use Rattle.promises.specs.Directions.{slotIn}
 
 -- each slot of an answer list is good
 abbrev pub AllGood : List ℕ → Type 0
@@ -55,6 +62,14 @@ pub record OneCall (l v : List ℕ) : Type 0 where
   pub all-count : judgeLeft l v .number ≡ 0 → AllGood l → judgeLeft l v .good ≡ slotsIn l
   pub count-all : judgeLeft l v .number ≡ 0 → judgeLeft l v .good ≡ slotsIn l → AllGood l
 
+-- of a slot of an accepted call, whose reading is r
+pub record AnswerWorth (slot : List ℕ) (r : Reading) : Type 0 where
+  -- it is not lost
+  pub not-lost : worth slot ≡ lostSlot → ⊥
+  -- and absent exactly where its reading is
+  pub absent : r ≡ Absent → worth slot ≡ absentSlot
+  pub absent-only : worth slot ≡ absentSlot → r ≡ Absent
+
 pub record WorthPromised : Type 0 where
   pub slot : OneSlot
   pub call : (l v : List ℕ) → OneCall l v
@@ -62,3 +77,5 @@ pub record WorthPromised : Type 0 where
   pub words-alone : (l m v u : List ℕ) (s t : ℕ) → judgeLeft l v .number ≡ 0 → judgeLeft m u .number ≡ 0 → s < slotsIn l → t < slotsIn m → slotAt l s ≡ slotAt m t → getD (judgeLeft l v .verdicts) s 0 ≡ getD (judgeLeft m u .verdicts) t 0
   -- any two outcomes that satisfy the contract are equal
   pub one-judging : (l v u t : List ℕ) (r s : Judged) → Judges l v r u → Judges l v s t → (r ≡ s) × (u ≡ t)
+  -- of every accepted call, each slot
+  pub answers : (x : Call) (z : Result) → Answers x z → z .number ≡ 0 → (f i : ℕ) → HasSlot (x .mesh .sizes) f i → AnswerWorth (slotIn (x .mesh .sizes) f i (z .answer)) (readingAt x f i)
