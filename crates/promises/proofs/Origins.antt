@@ -44,7 +44,7 @@ use Rattle.view.specs.Answer.{HasSlot}
 use Rattle.promises.specs.Calls.{Answers, Accepted, readingAt}
 use Rattle.copies.proofs.Places.{slot-below}
 use Rattle.promises.specs.Faithful.{SlotEnds, own, copy as copied-to, none-welded, allTriangles, soundTriangles, timesReached, finalReading, broughtReading, Copies, inQuad}
-use Rattle.promises.specs.Origins.{presentWord, originWord, behindWord, marksOf, reaching, standing, standingBehind, CopyWords, SlotFrom, brought, copy, none, SlotWords, Promised}
+use Rattle.promises.specs.Origins.{presentWord, originWord, behindWord, marksOf, reaching, standing, standingBehind, CopyWords, SlotFrom, brought, copy, nowhere, SlotWords, Promised}
 use Rattle.promises.specs.Directions.{slotIn}
 use Rattle.promises.proofs.Acceptance.{no-row}
 use Rattle.promises.proofs.Directions.{every-or, taken-slot}
@@ -238,10 +238,10 @@ reading-stood x f i l = every-or Stood Absent absent-stood i (every-or (Every St
 -- by how step 9 leaves the slot
 from-ends : (h : Float) (m : List (List Corner)) → length m ≤ faceLimit → (f i : ℕ) → SlotEnds h m f i → SlotFrom h m f i (words (finalReading h m f i))
 unfolding words
-from-ends h m l f i (own s T g j e) = brought (ap (λ (r : Reading). originWord (words r)) e ∙ by-times h m f i) (ap (λ (r : Reading). behindWord (words r)) e ∙ by-sum h m f i l)
+from-ends h m l f i (own s T g j e) = brought s T g j (ap (λ (r : Reading). originWord (words r)) e ∙ by-times h m f i) (ap (λ (r : Reading). behindWord (words r)) e ∙ by-sum h m f i l)
 from-ends h m l f i (copied-to k s e c) =
     copy k s c e (subst (λ (n : ℕ). CopyWords (cond (inQuad c) filledOrigin copiedOrigin) (words (finalReading h m (s .tri .face) (slotOf s))) (words (finalReading h m f n))) e (by-copy h m f k s c))
-from-ends h m l f i (none-welded k g B w e) = none (ap words e)
+from-ends h m l f i (none-welded k g B w e) = nowhere k g B w (ap words e)
 
 slot-from : (x : Call) (z : Result) → Answers x z → z .number ≡ 0 → (f i : ℕ) → HasSlot (x .mesh .sizes) f i → SlotFrom (x .threshold) (meshOf (x .mesh)) f i (slotIn (x .mesh .sizes) f i (z .answer))
 unfolding readingAt

@@ -1,5 +1,5 @@
 -- What is packed of a slot, and what is read of that. Assumes nothing.
-use Prim.Native.Nat.{ℕ, zero, suc, _+_, _≤_, _<_}
+use Prim.Native.Nat.{ℕ, _+_, _≤_, _<_}
 use native.Mathlib.Omega.{arith}
 use mathlib.Core.Path.{_≡_, refl, sym, ap, _∙_, subst}
 use mathlib.Core.Bool.{Bool, true, false, cond, not, _&&_, _||_, and-false, or-true, true≢false}
@@ -17,6 +17,7 @@ use Rattle.packed.specs.Reader.{allNothing, framed, isPacked, wide, absentWords
 use Rattle.promises.specs.Packed.{Lacks, unmarked, turned, beyond, Holds, ReadsBack}
 use Rattle.packed.proofs.Range.{component-not-nothing}
 use Rattle.packed.proofs.Places.{frame-at, frame-last, words-at, words-last}
+use Rattle.worth.proofs.Some.{every-failing}
 
 -- a slot that lacks nothing
 record Complete (slot : List ℕ) : Type 0 where
@@ -28,16 +29,6 @@ record Complete (slot : List ℕ) : Type 0 where
 abbrev inside : List ℕ → ℕ → Bool
 inside slot i = within (getD slot (1 + i) 0)
 
--- one place that fails, where not all pass
-failing : {P : Type 0} (n : ℕ) (p : ℕ → Bool) → everyBelow n p ≡ false → ((i : ℕ) → i < n → p i ≡ false → P) → P
-unfolding everyBelow
-failing zero p e f = absurd (true≢false e)
-failing {P} (suc n) p e f = go (everyBelow n p) refl (λ h. failing n p h (λ i l. f i (omega arith)))
-  where
-    go : (t : Bool) → everyBelow n p ≡ t → (everyBelow n p ≡ false → P) → P
-    go true h g = f n (omega arith) (sym (ap (λ (b : Bool). b && p n) h) ∙ e)
-    go false h g = g h
-
 -- a slot lacks something or nothing
 decided : (slot : List ℕ) → Lacks slot ⊎ Complete slot
 unfolding within
@@ -46,7 +37,7 @@ decided slot = go (eqb (getD slot 0 0) 1) (leb (getD slot 9 0) 1) (everyBelow 6 
     go : (a b c : Bool) → eqb (getD slot 0 0) 1 ≡ a → leb (getD slot 9 0) 1 ≡ b → everyBelow 6 (inside slot) ≡ c → Lacks slot ⊎ Complete slot
     go false b c x y z = inl (unmarked (eqb-false _ _ x))
     go true false c x y z = inl (turned (leb-false _ _ y))
-    go true true false x y z = failing 6 (inside slot) z (λ i l h. inl (beyond i l (leb-false _ _ h)))
+    go true true false x y z = every-failing 6 (inside slot) z (λ i l h. inl (beyond i l (leb-false _ _ h)))
     go true true true x y z = inr (record { first = eqb-true _ _ x; last = leb-true _ _ y; six = λ i l. every-at 6 i (inside slot) z l })
 
 -- and so it has no frame to pack, or one

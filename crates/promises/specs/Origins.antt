@@ -3,6 +3,7 @@ use Prim.Native.Nat.{ℕ, _≤_, _<_}
 use mathlib.Core.Path.{_≡_}
 use mathlib.Core.Bool.{cond, not, _&&_}
 use mathlib.Core.List.{List, map, List·Memᴰ}
+use mathlib.Core.Option.{none}
 use lib.Dec.{eqb}
 use lib.ListN.{length, getD, take, replicate}
 use lib.Ieee.{Float}
@@ -22,7 +23,7 @@ use Rattle.view.specs.Answer.{HasSlot}
 use Rattle.promises.specs.Calls.{Answers}
 use Rattle.promises.specs.Directions.{slotIn}
 use Rattle.promises.specs.BeforeE7.{slotWordsBefore}
-use Rattle.promises.specs.Faithful.{soundTriangles, timesReached, finalReading, broughtReading, Copies, inQuad}
+use Rattle.promises.specs.Faithful.{soundTriangles, timesReached, finalReading, broughtReading, Broken, firstWelded, Copies, inQuad, There}
 
 -- of a slot's words: whether a frame is there, where it came from, how many triangles stood behind it
 abbrev pub presentWord : List ℕ → ℕ
@@ -71,12 +72,12 @@ pub record SlotWords (slot : List ℕ) : Type 0 where
 
 -- where the words of slot i of face f of the mesh m come from, at the threshold h
 pub data SlotFrom (h : Float) (m : List (List Corner)) (f i : ℕ) (slot : List ℕ) : Type 0 where
-  -- 'single' or 'combined': it is what was brought to it
-  brought : originWord slot ≡ timesReached h m f i → behindWord slot ≡ standingBehind h m f i → SlotFrom h m f i slot
+  -- 'single' or 'combined': it is a slot of the corner s of a sound triangle, and has what was brought to it
+  brought : (s : Spot) → There m s → s .tri .face ≡ f → slotOf s ≡ i → originWord slot ≡ timesReached h m f i → behindWord slot ≡ standingBehind h m f i → SlotFrom h m f i slot
   -- 'copied': its words are those of a copy of the slot of the corner s
   copy : (k : Kept) (s : Spot) (c : Copies m f k s) → k .which ≡ i → CopyWords (cond (inQuad c) filledOrigin copiedOrigin) (words (finalReading h m (s .tri .face) (slotOf s))) slot → SlotFrom h m f i slot
-  -- 'absent': there is no corner to copy
-  none : slot ≡ replicate slotWords 0 → SlotFrom h m f i slot
+  -- 'absent': its corner k is one of a degenerate triangle, and no sound corner is welded to it
+  nowhere : (k : Kept) → k .which ≡ i → Broken m f k → firstWelded m (k .corner) ≡ none → slot ≡ replicate slotWords 0 → SlotFrom h m f i slot
 
 pub record Promised : Type 0 where
   -- '0 absent, 1 single, 2 combined': what steps 7 and 8 bring to a slot has in word 10 how often it was reached, also where the two readings are equal by comparison

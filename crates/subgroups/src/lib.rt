@@ -95,13 +95,25 @@ fn mark_subgroup(
 
 // ---- its sum
 
+// What a `group_with_any` triangle adds to a sum, and to its count: nothing.
+fn none_added(z: Sum) -> Sum
+    ensures { λ y. ⌜ y ≡ z ⌝ }
+{
+    let sum = z.weighted;
+    Sum {
+        angles: z.angles,
+        weighted: sum,
+        behind: z.behind,
+    }
+}
+
 // The contribution of the corner at row r; none of a `group_with_any` triangle.
 fn add_row(work: &[u32], rows: usize, r: usize, z: Sum) -> Sum
     requires { ⌜ (r < rows) × (columns * rows ≤ length (now work)) ⌝ }
     ensures { λ y. ⌜ y ≡ spec.addRow rows (now (work .entry)) r z ⌝ }
 {
     if records::is_any(work, rows, r / 3) { // it brings nothing
-        return z;
+        return none_added(z);
     }
     let s = contributions::s_at(work, rows, r);
     let t = contributions::t_at(work, rows, r);

@@ -14,9 +14,10 @@ use Rattle.subgroups.proofs.add_row.Tie as tie
 returns : tie.Need-returns
 unfolding addRow
 returns c =
-    let a = c .before .before .before .args in
-    let h : eqb (cell (a .rows) anyColumn (a .r / 3) (a .work .now)) 1 ≡ true = sym (c .before .is-any .ensures) ∙ c .if1 .taken in
-    simp h
+    let e = c .before in
+    let a = e .before .before .before .args in
+    let h : eqb (cell (a .rows) anyColumn (a .r / 3) (a .work .now)) 1 ≡ true = sym (e .before .is-any .ensures) ∙ e .if1 .taken in
+    simp h (c .none-added .ensures)
 
 returns-2 : tie.Need-returns-2
 unfolding addRow spaceAt
@@ -35,6 +36,6 @@ pub add-row-spec : {M : Type 1} → statement M
 add-row-spec =
     tie.close
     (tie.spec
-    (λ c κs. search needs) returns (λ c κs. search needs) (λ c κs. search needs) (λ c κs. search needs) (λ c κs. search needs)
+    (λ c κs. search needs) (λ c κs. search needs) returns (λ c κs. search needs) (λ c κs. search needs) (λ c κs. search needs) (λ c κs. search needs)
     (λ c. search needs) (λ c. search needs) (λ c. search needs) (λ c. search needs) (λ c κs. search needs) (λ c κs. search needs)
     returns-2)
