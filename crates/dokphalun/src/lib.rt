@@ -3,6 +3,8 @@
 ghost use Rattle.definition.specs.Handed.{call, handed};
 ghost use mathlib.Core.Path.{_≡_};
 ghost use Rattle.mikktspace.specs.Contract.{Contract};
+ghost use Rattle.reasons.specs.Contract.{Explains};
+ghost use Rattle.worth.specs.Contract.{Judges};
 ghost use Rattle.mesh.specs.Parts.{spanOf};
 ghost use Rattle.labels.specs.Labels.{Labels};
 ghost use Rattle.apart.specs.Call.{lists, Contract as Islands};
@@ -25,6 +27,7 @@ use mesh::Span;
 use mikktspace::Outcome;
 use packed::Packed;
 use packed::Unpacked;
+use worth::Judged;
 
 // The words of a slot.
 const SLOT_WORDS: u32 = tangent::SLOT_WORDS as u32;
@@ -62,6 +65,40 @@ pub extern "C" fn dokphalun_frames(
     ensures { λ r. ⌜ Contract (call (handed (now (sizes .entry)) (now (positions .entry)) (now (normals .entry)) (now (texture .entry))) threshold (now (answer .entry)) (now (work .entry))) r (now (answer .exit)) (now (work .exit)) ⌝ }
 {
     mikktspace::generate_tangent_space(sizes, positions, normals, texture, threshold, answer, work)
+}
+
+// See reasons::explain.
+#[no_mangle]
+pub extern "C" fn dokphalun_reasons(
+    sizes: &[u8],
+    positions: &[f32],
+    normals: &[f32],
+    texture: &[f32],
+    threshold: f32,
+    answer: &mut [u32],
+    work: &mut [u32],
+    reasons: &mut [u8],
+) -> Outcome
+    ensures { λ r. ⌜ Explains (call (handed (now (sizes .entry)) (now (positions .entry)) (now (normals .entry)) (now (texture .entry))) threshold (now (answer .entry)) (now (work .entry))) (now (reasons .entry)) r (now (answer .exit)) (now (work .exit)) (now (reasons .exit)) ⌝ }
+{
+    reasons::explain(
+        sizes,
+        positions,
+        normals,
+        texture,
+        threshold,
+        answer,
+        work,
+        reasons,
+    )
+}
+
+// See worth::judge.
+#[no_mangle]
+pub extern "C" fn dokphalun_judge(answer: &[u32], verdicts: &mut [u8]) -> Judged
+    ensures { λ r. ⌜ Judges (now (answer .entry)) (now (verdicts .entry)) r (now (verdicts .exit)) ⌝ }
+{
+    worth::judge(answer, verdicts)
 }
 
 // See mesh::span_of.

@@ -7,3 +7,4 @@ pub mod Meaning
 pub mod Weaving
 pub mod Labels
 pub mod Samples
+pub mod Nine

@@ -2,7 +2,7 @@
 use Prim.Native.Nat.{ℕ, _*_, _≤_, _<_}
 use native.Mathlib.Omega.{arith}
 use mathlib.Core.Path.{_≡_, refl, sym, ap, _∙_}
-use mathlib.Core.Bool.{Bool, true, false, cond, true≢false}
+use mathlib.Core.Bool.{Bool, true, false}
 use mathlib.Core.List.{List}
 use mathlib.Core.Option.{Option, none, some, Option·none-ne-some, Option·some-injective}
 use lib.Dec.{ltb}
@@ -15,6 +15,7 @@ use Rattle.lists.specs.Every.{Each, each-none, each-some}
 use Rattle.laws.proofs.Verdict.{verdict-numbered, InTable}
 use Rattle.desk.specs.Verdict.{asVerdict}
 use Rattle.islands.specs.Nine.{nine, afterwards}
+use Rattle.islands.proofs.Nine.{passed}
 use Rattle.labels.specs.declared.Labelled.{Labelled}
 use Rattle.mikktspace.specs.Alone.{deskVerdict, longestAnswer}
 use Rattle.labels.specs.Labels.{Leaving, left, answered, labelsVerdict}
@@ -33,19 +34,7 @@ pub too-short : (o : Option Row) (b : Bool) (z : Leaving) (l w : List ℕ) → o
 unfolding answered left afterwards
 too-short o b z l w e h = sym (ap (λ x. answered (afterwards x b) z l w) e ∙ ap (λ x. answered (afterwards none x) z l w) h)
 
--- neither
-pub passes : (o : Option Row) (b : Bool) → o ≡ none → b ≡ false → afterwards o b ≡ none
-unfolding afterwards
-passes o b e h = ap (λ x. afterwards x b) e ∙ ap (afterwards none) h
-
--- where nothing is refused the table has no row, and the list is long enough
-pub passed : (o : Option Row) (b : Bool) → afterwards o b ≡ none → (o ≡ none) × (b ≡ false)
-unfolding afterwards
-passed (some r) b e = absurd (Option·none-ne-some r (sym e))
-passed none true e = absurd (Option·none-ne-some nine (sym e))
-passed none false e = (refl, refl)
-
--- the same of the lists
+-- where nothing is refused the table has no row, and there is a label a face
 pub passed-labels : (mesh : Handed) (labels work : ℕ) → labelsVerdict mesh labels work ≡ none → (deskVerdict mesh work ≡ none) × (length (mesh .sizes) ≤ labels)
 unfolding labelsVerdict
 passed-labels mesh labels work e = let p = passed _ _ e in (p .0, ltb-false labels (length (mesh .sizes)) (p .1))

@@ -70,7 +70,7 @@ evaluate-held c l = finish-held (run (contribute c) emptySum l) (run-held c l em
 
 -- ---- what is brought, and readings
 
-abbrev HeldBrought : Brought → Type 0
+abbrev pub HeldBrought : Brought → Type 0
 HeldBrought b = HeldSpace (b .value .space)
 
 brought-held : (h : Float) (ss : List Triangle) (ms l : List Mark) → Every HeldBrought (map (bring h ss ms) l)
@@ -83,7 +83,8 @@ every-take zero r = every-nil
 every-take (suc n) every-nil = every-nil
 every-take (suc n) (every-cons p r) = every-cons p (every-take n r)
 
-puts-held : (r : Reading) {l : List Brought} → HeldReading r → Every HeldBrought l → HeldReading (run put r l)
+-- a reading, when more is brought
+pub puts-held : (r : Reading) {l : List Brought} → HeldReading r → Every HeldBrought l → HeldReading (run put r l)
 unfolding run put
 puts-held r h every-nil = h
 puts-held r h (every-cons {x} p q) = puts-held _ (reached-held r (x .value) (x .orientation) h p) q

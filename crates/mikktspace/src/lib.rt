@@ -40,7 +40,7 @@ fn clear_first(list: &mut [u32], count: usize)
 }
 
 // Steps 1 to 9 for a mesh that the desk accepts; the result is how many slots there are.
-fn make_frames(
+pub fn make_frames(
     sizes: &[u8],
     positions: &[f32],
     normals: &[f32],

@@ -32,7 +32,7 @@ fn words_at(answer: &[u32], slot: usize) -> [u32; tangent::SLOT_WORDS]
 }
 
 // Words into a slot.
-fn put(answer: &mut [u32], slot: usize, words: [u32; tangent::SLOT_WORDS])
+pub fn put(answer: &mut [u32], slot: usize, words: [u32; tangent::SLOT_WORDS])
     requires { ⌜ slotWords * slot + slotWords ≤ length (now answer) ⌝ }
     ensures { λ _. ⌜ now (answer .exit) ≡ sets (now (answer .entry)) (slotWords * slot) words ⌝ }
 {

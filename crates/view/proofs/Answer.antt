@@ -15,6 +15,8 @@ use Rattle.tangent.specs.declared.Reading.the-variants.{Absent}
 use Rattle.tangent.specs.Slot.{slotWords, words}
 use Rattle.tangent.proofs.Slots.{words-length}
 use Rattle.lists.specs.Loops.{listOf}
+use Rattle.lists.specs.Parts.{joined}
+use Rattle.lists.proofs.Parts.{joined-add}
 use Rattle.lists.proofs.Loops.{length-listOf, getD-listOf}
 use Rattle.definition.specs.declared.Corner.{Corner}
 use Rattle.definition.specs.declared.Triangle.{Triangle}
@@ -68,6 +70,15 @@ absent-words (suc n) = ap (λ (l : List ℕ). replicate slotWords 0 ++ l) (absen
   where
     at : slotWords + slotWords * n ≡ slotWords * suc n
     at = omega arith
+
+-- a reading's words, so many times
+one-words : (r : Reading) (n : ℕ) → flatMap words (replicate n r) ≡ joined n (λ k. words r)
+unfolding flatMap joined
+one-words r zero = refl
+one-words r (suc n) = ap (λ (l : List ℕ). words r ++ l) (one-words r n) ∙ sym (joined-add 1 n (λ k. words r)) ∙ ap (λ (k : ℕ). joined k (λ k. words r)) (at n)
+  where
+    at : (n : ℕ) → 1 + n ≡ suc n
+    at n = omega arith
 
 -- ---- the slots of all faces, by face and corner
 
@@ -130,11 +141,11 @@ set-from g (n ∷ sizes) R Q h (suc f) i e s o =
     at : length (listOf (slotsOf n) (R g)) + slotNumber sizes f i ≡ slotsOf n + slotCount (take f sizes) + i
     at = omega (arith, length-listOf (slotsOf n) (R g))
 
--- readings that are all absent
-absent-from : (g : ℕ) (sizes : List ℕ) → slotsFrom g sizes (λ f i. Absent) ≡ replicate (slotCount sizes) Absent
+-- readings that are all one
+one-from : (r : Reading) (g : ℕ) (sizes : List ℕ) → slotsFrom g sizes (λ f i. r) ≡ replicate (slotCount sizes) r
 unfolding slotsFrom slotCount
-absent-from g [] = refl
-absent-from g (n ∷ sizes) = (λ z. listOf-one (slotsOf n) Absent z ++ absent-from (suc g) sizes z) ∙ replicate-append-replicate (slotsOf n) (slotCount sizes) Absent
+one-from r g [] = refl
+one-from r g (n ∷ sizes) = (λ z. listOf-one (slotsOf n) r z ++ one-from r (suc g) sizes z) ∙ replicate-append-replicate (slotsOf n) (slotCount sizes) r
 
 -- ---- readings of which one is changed
 
@@ -195,9 +206,13 @@ module _ (sizes a₀ : List ℕ) where
   pub length-shown : slotWords * slotCount sizes ≤ length a₀ → (R : ℕ → ℕ → Reading) (a : List ℕ) → Shows sizes R a₀ a → length a ≡ length a₀
   length-shown b R a e = shown-length R a e ∙ omega (arith, b, length-drop (slotWords * slotCount sizes) a₀)
 
+  -- a reading's words in every slot show it
+  pub one-shown : (r : Reading) → Shows sizes (λ f i. r) a₀ (joined (slotCount sizes) (λ k. words r) ++ drop (slotWords * slotCount sizes) a₀)
+  one-shown r = ap (λ (l : List ℕ). l ++ drop (slotWords * slotCount sizes) a₀) (sym (ap (flatMap words) (one-from r 0 sizes) ∙ one-words r (slotCount sizes)))
+
   -- zeros show slots that are all absent
   pub absent-shown : Shows sizes (λ f i. Absent) a₀ (replicate (slotWords * slotCount sizes) 0 ++ drop (slotWords * slotCount sizes) a₀)
-  absent-shown = ap (λ (l : List ℕ). l ++ drop (slotWords * slotCount sizes) a₀) (sym (ap (flatMap words) (absent-from 0 sizes) ∙ absent-words (slotCount sizes)))
+  absent-shown = ap (λ (l : List ℕ). l ++ drop (slotWords * slotCount sizes) a₀) (sym (ap (flatMap words) (one-from Absent 0 sizes) ∙ absent-words (slotCount sizes)))
 
 -- ---- the frames
 

@@ -14,7 +14,8 @@ use Rattle.definition.specs.Desk.{Row, shown}
 use Rattle.mikktspace.proofs.Verdicts.{no-refusal}
 use Rattle.mikktspace.specs.Alone.{deskVerdict, longestAnswer}
 use Rattle.labels.specs.Labels.{Leaving, left, answered, acceptedLabels, labelsVerdict, labelsOutcome}
-use Rattle.labels.proofs.Verdicts.{left-same, refused, too-short, passes}
+use Rattle.islands.proofs.Nine.{passes}
+use Rattle.labels.proofs.Verdicts.{left-same, refused, too-short}
 use Rattle.labels.proofs.label_faces.Statement.{statement}
 use Rattle.labels.proofs.label_faces.Tie as tie
 

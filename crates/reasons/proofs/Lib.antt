@@ -1,0 +1,4 @@
+pub mod Trial
+pub mod Bytes
+pub mod Whole
+pub mod Verdicts

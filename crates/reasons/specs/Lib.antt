@@ -1,0 +1,3 @@
+pub mod Trial
+pub mod Reasons
+pub mod Contract
