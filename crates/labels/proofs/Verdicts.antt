@@ -1,21 +1,19 @@
 -- The verdict of the call for labels, as its code has it. Assumes nothing.
 use Prim.Native.Nat.{ℕ, _*_, _≤_, _<_}
-use native.Mathlib.Omega.{arith}
 use mathlib.Core.Path.{_≡_, refl, sym, ap, _∙_}
-use mathlib.Core.Bool.{Bool, true, false}
+use mathlib.Core.Bool.{Bool, true}
 use mathlib.Core.List.{List}
-use mathlib.Core.Option.{Option, none, some, Option·none-ne-some, Option·some-injective}
+use mathlib.Core.Option.{Option, none, some}
 use lib.Dec.{ltb}
 use lib.ListN.{length}
 use borrow.Author.Tests.{ltb-false}
 use Rattle.definition.specs.Handed.{Handed}
 use Rattle.definition.specs.Desk.{Row, shown}
 use Rattle.bits.specs.Single.{zeroᶠ}
-use Rattle.lists.specs.Every.{Each, each-none, each-some}
-use Rattle.laws.proofs.Verdict.{verdict-numbered, InTable}
+use Rattle.laws.proofs.Verdict.{verdict-numbered}
 use Rattle.desk.specs.Verdict.{asVerdict}
-use Rattle.islands.specs.Nine.{nine, afterwards}
-use Rattle.islands.proofs.Nine.{passed}
+use Rattle.islands.specs.Nine.{afterwards}
+use Rattle.islands.proofs.Nine.{passed, numbered-row}
 use Rattle.labels.specs.declared.Labelled.{Labelled}
 use Rattle.mikktspace.specs.Alone.{deskVerdict, longestAnswer}
 use Rattle.labels.specs.Labels.{Leaving, left, answered, labelsVerdict}
@@ -41,10 +39,5 @@ passed-labels mesh labels work e = let p = passed _ _ e in (p .0, ltb-false labe
 
 -- the number of a row that is given is not 0
 pub given-number : (mesh : Handed) (labels work : ℕ) (r : Row) → labelsVerdict mesh labels work ≡ some r → 0 < r .number
-unfolding labelsVerdict afterwards
-given-number mesh labels work r e = go (deskVerdict mesh work) (verdict-numbered (shown mesh zeroᶠ longestAnswer work)) (ltb labels (length (mesh .sizes))) e
-  where
-    go : (o : Option Row) → Each InTable o → (b : Bool) → afterwards o b ≡ some r → 0 < r .number
-    go none each-none true e = let q = ap (λ x. x .number) (Option·some-injective nine r e) in omega (arith, q)
-    go none each-none false e = absurd (Option·none-ne-some r e)
-    go (some s) (each-some f) b e = let q = ap (λ x. x .number) (Option·some-injective s r e) in omega (arith, q, f .known .0)
+unfolding labelsVerdict
+given-number mesh labels work r e = numbered-row (deskVerdict mesh work) (verdict-numbered (shown mesh zeroᶠ longestAnswer work)) (ltb labels (length (mesh .sizes))) r e

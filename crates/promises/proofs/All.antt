@@ -20,6 +20,7 @@ use Rattle.promises.proofs.NarrowAngles as NarrowAngles
 use Rattle.promises.proofs.Cosines as Cosines
 use Rattle.promises.proofs.ClosedFaces as ClosedFaces
 use Rattle.promises.proofs.Islands as Islands
+use Rattle.promises.proofs.Explained as Explained
 use Rattle.promises.proofs.Labels as Labels
 use Rattle.promises.proofs.Examiner as Examiner
 use Rattle.promises.proofs.OwnGiven as OwnGiven
@@ -58,6 +59,7 @@ all-promised =
       own-accepted = Examiner.own-accepted;
       own-lists = OwnGiven.own-lists;
       three-sides = ThreeSides.three-sides;
+      explained = Explained.explained;
       cards = Cards.cards-promised;
       appends = Appends.appends-promised;
       packed = Packed.packed-promised;

@@ -13,7 +13,7 @@ use Rattle.tangent.specs.declared.Reading.the-variants.{Absent}
 use Rattle.tangent.specs.Slot.{slotWords, words}
 use Rattle.tangent.proofs.Slots.{absent-alone}
 use Rattle.definition.specs.Limits.{workWords, highestRefusal}
-use Rattle.definition.specs.Handed.{Call, meshOf, slotCount}
+use Rattle.definition.specs.Handed.{Call, meshOf, slotCount, Handed}
 use Rattle.definition.specs.declared.Corner.{Corner}
 use Rattle.definition.specs.declared.Triangle.{Triangle}
 use Rattle.definition.specs.Step4Order.{sound}
@@ -73,6 +73,13 @@ frames-at bs ss n k [] f e h = absurd (omega arith)
 frames-at bs ss n k (c ∷ m) zero e h = let q : n ≡ k = omega arith in ap (λ (j : ℕ). faceReadings bs ss (record { number = j; corners = c })) q
 frames-at bs ss n k (c ∷ m) (suc f) e h = frames-at bs ss (suc n) k m f (omega arith) (omega arith)
 
+-- the final reading of a slot, whatever was brought
+pub final-at : (m : Handed) (bs : List Brought) (f i : ℕ) → HasSlot (m .sizes) f i → finalAt bs (sound (trianglesOf m)) (meshOf m) f i ≡ getD (getD (framesFrom (numbered 0 (meshOf m)) (sound (trianglesOf m)) bs) f []) i Absent
+unfolding finalAt
+final-at m bs f i h =
+    let q : f ≡ 0 + f = omega arith in
+    ap (λ (l : List Reading). getD l i Absent) (sym (frames-at bs (sound (trianglesOf m)) 0 f (meshOf m) f q (subst (λ (n : ℕ). f < n) (sym (mesh-length (m .positions) (m .normals) (m .texture) 0 (m .sizes))) (h .face))))
+
 module _ (x : Call) where
   abbrev sizes : List ℕ
   sizes = x .mesh .sizes
@@ -87,10 +94,8 @@ module _ (x : Call) where
   bs = broughtAll (x .threshold) ss (marks ss (links ss))
 
   reading-is : (f i : ℕ) → HasSlot sizes f i → finalAt bs ss mesh f i ≡ readingAt x f i
-  unfolding finalAt readingAt frames framesOf
-  reading-is f i h =
-      let q : f ≡ 0 + f = omega arith in
-      ap (λ (l : List Reading). getD l i Absent) (sym (frames-at bs ss 0 f mesh f q (subst (λ (n : ℕ). f < n) (sym (mesh-length (x .mesh .positions) (x .mesh .normals) (x .mesh .texture) 0 sizes)) (h .face))))
+  unfolding readingAt frames framesOf
+  reading-is f i h = final-at (x .mesh) bs f i h
 
   slot-tells : (f i : ℕ) → HasSlot sizes f i → (a : List ℕ) → a ≡ answerWords (frames (x .threshold) mesh) ++ drop (slotWords * slotCount sizes) (x .answer) → SlotTells (take slotWords (drop (slotWords * slotNumber sizes f i) a)) (readingAt x f i)
   unfolding frames framesOf words

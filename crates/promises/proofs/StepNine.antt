@@ -35,6 +35,7 @@ use Rattle.definition.specs.Step4Order.{isSound, sound, spots}
 use Rattle.definition.specs.Step5Links.{links}
 use Rattle.definition.specs.Step6Groups.{marks}
 use Rattle.definition.specs.Step7Sums.{Brought, broughtAll}
+use Rattle.definition.specs.Step8Slots.{reading}
 use Rattle.definition.specs.Step9Copies.{copied, fromSound, finalOf, nooks, faceReadings}
 use Rattle.definition.specs.Frames as Frames′
 use Rattle.definition.specs.Frames.{numbered, framesFrom, framesOf, frames}
@@ -93,7 +94,7 @@ face-at G n (c ∷ m) zero h = ap (λ (k : ℕ). G (record { number = k; corners
 face-at G n (c ∷ m) (suc f) h = face-at G (suc n) m f (omega arith) ∙ ap (λ (k : ℕ). G (record { number = k; corners = getD m f [] })) (omega arith)
 
 -- a face that has a slot is there
-in-range : (m : List (List Corner)) (f : ℕ) → 0 < length (slotsAt m f) → f < length m
+pub in-range : (m : List (List Corner)) (f : ℕ) → 0 < length (slotsAt m f) → f < length m
 unfolding usable nooks
 in-range [] f h = absurd (omega arith)
 in-range (c ∷ m) zero h = omega arith
@@ -249,12 +250,12 @@ takes f (c0 ∷ c1 ∷ c2 ∷ c3 ∷ c4 ∷ l) = every-nil
 
 module _ (m : List (List Corner)) where
   -- the corners of a sound triangle are there
-  there : (s : Spot) → List·Memᴰ s (spots (soundTriangles m)) → There m s
+  pub there : (s : Spot) → List·Memᴰ s (spots (soundTriangles m)) → There m s
   there s h =
       let p = placed m (s .tri) (sound-is (allTriangles m) (s .tri) (corner-tri (soundTriangles m) s h) .0) in
       record { sound = h; slot = every-at (kept-slots (λ k. List·Memᴰ k (slotsAt m (s .tri .face))) (s .tri .face) (getD m (s .tri .face) []) (every-mem _ (slotsAt m (s .tri .face)) (λ k q. q))) p (s .at) }
 
-  source-in : (f : ℕ) (k : Kept) (s : Spot) → Copies m f k s → List·Memᴰ s (spots (soundTriangles m))
+  pub source-in : (f : ℕ) (k : Kept) (s : Spot) → Copies m f k s → List·Memᴰ s (spots (soundTriangles m))
   source-in f k s (from-welded B e) = first-in _ (spots (soundTriangles m)) s e
   source-in f k s (from-kept t M e) =
       let own-tri : s .tri ≡ t = eq-of (corner-tri (t ∷ []) s (first-in _ (spots (t ∷ [])) s e)) in
@@ -272,48 +273,65 @@ module _ (m : List (List Corner)) where
       let q = every-at (kept-slots (λ k. List·Memᴰ k (slotsAt m (t .face))) (t .face) (getD m (t .face) []) (every-mem _ (slotsAt m (t .face)) (λ k q. q))) p (B .at) in
       subst (λ (g : ℕ). List·Memᴰ k (slotsAt m g)) (B .face) (Memᴰ·cast (sym (B .corner)) q)
 
-  module _ (h : Float) where
-    abbrev bs : List Brought
-    bs = broughtAll h (soundTriangles m) (marks (soundTriangles m) (links (soundTriangles m)))
+  -- whatever was brought
+  module _ (bs : List Brought) where
+    -- what slot i of face f has after step 9
+    abbrev pub after : ℕ → ℕ → Reading
+    after f i = getD (getD (framesFrom (numbered 0 m) (soundTriangles m) bs) f []) i Absent
 
-    -- the final reading of a slot, by the triangles of its face
-    final-is : (f : ℕ) (k : Kept) → List·Memᴰ k (slotsAt m f) → finalReading h m f (k .which) ≡ finalOf bs (soundTriangles m) f (pieces f (getD m f [])) k
-    unfolding frames framesOf framesFrom faceReadings
+    -- by the triangles of its face
+    final-is : (f : ℕ) (k : Kept) → List·Memᴰ k (slotsAt m f) → after f (k .which) ≡ finalOf bs (soundTriangles m) f (pieces f (getD m f [])) k
+    unfolding framesFrom faceReadings
     final-is f k q =
         ap (λ (l : List Reading). getD l (k .which) Absent) (face-at (faceReadings bs (soundTriangles m)) 0 m f (in-range m f (some-there (slotsAt m f) k q)) ∙ ap (λ (g : ℕ). faceReadings bs (soundTriangles m) (record { number = g; corners = getD m f [] })) (omega arith))
         ∙ every-at (mapped (finalOf bs (soundTriangles m) f (pieces f (getD m f []))) Absent 0 (usable (getD m f []))) q .at (k .which) (omega arith)
 
-    -- that of a corner of a sound triangle is what was brought
-    pub own-reading : (s : Spot) → There m s → finalReading h m (s .tri .face) (slotOf s) ≡ broughtReading h m (s .tri .face) (slotOf s)
+    -- a corner of a sound triangle has what was brought
+    pub own-after : (s : Spot) → There m s → after (s .tri .face) (slotOf s) ≡ reading bs (s .tri .face) (slotOf s)
     unfolding slotOf
-    own-reading s T =
+    own-after s T =
         let f = s .tri .face in
         let q = sound-is (allTriangles m) (s .tri) (corner-tri (soundTriangles m) s (T .sound)) in
         final-is f (kept (s .tri) (s .at)) (T .slot) ∙ every-at (faces.own bs (soundTriangles m) f (getD m f [])) (placed m (s .tri) (q .0)) (q .1) (s .at)
 
-    -- the reading of a slot that is copied to, by what is found
-    pub broken-reading : (f : ℕ) (k : Kept) → Broken m f k → finalReading h m f (k .which) ≡ copied false bs (firstWelded m (k .corner))
+    -- a slot that is copied to, by what is found
+    pub broken-after : (f : ℕ) (k : Kept) → Broken m f k → after f (k .which) ≡ copied false bs (firstWelded m (k .corner))
     unfolding fromSound
-    broken-reading f k B =
+    broken-after f k B =
         let t = B .tri in
         let p = subst (λ (g : ℕ). List·Memᴰ t (pieces g (getD m g []))) (B .face) (placed m t (B .inside)) in
         final-is f k (broken-slot f k B) ∙ every-at (faces.ends bs (soundTriangles m) f (getD m f [])) p .broken (B .degenerate) (B .plain) k
 
-    missing-reading : (f : ℕ) (t : Triangle) (k : Kept) → Missing m f t k → finalReading h m f (k .which) ≡ copied true bs (firstKept t (k .corner))
-    missing-reading f t k M =
+    missing-after : (f : ℕ) (t : Triangle) (k : Kept) → Missing m f t k → after f (k .which) ≡ copied true bs (firstKept t (k .corner))
+    missing-after f t k M =
         let q = sound-is (allTriangles m) t (M .inside) in
         let p = subst (λ (g : ℕ). List·Memᴰ t (pieces g (getD m g []))) (M .face) (placed m t (q .0)) in
         final-is f k (M .slot)
         ∙ (ap (λ (i : ℕ). finalOf bs (soundTriangles m) f (pieces f (getD m f [])) (nook i (k .corner))) (M .which) ∙ every-at (faces.ends bs (soundTriangles m) f (getD m f [])) p .missed (q .1) (M .marked) (k .corner))
 
-    -- a copy is a copy of the source's own reading
-    copy-reading : (f : ℕ) (k : Kept) (s : Spot) (c : Copies m f k s) → finalReading h m f (k .which) ≡ copyOf (inQuad c) (broughtReading h m (s .tri .face) (slotOf s))
+    -- a copy is a copy of what was brought to the source
+    pub copy-after : (f : ℕ) (k : Kept) (s : Spot) (c : Copies m f k s) → after f (k .which) ≡ copyOf (inQuad c) (reading bs (s .tri .face) (slotOf s))
     unfolding copied inQuad
-    copy-reading f k s (from-welded B e) = broken-reading f k B ∙ ap (copied false bs) e
-    copy-reading f k s (from-kept t M e) = missing-reading f t k M ∙ ap (copied true bs) e
+    copy-after f k s (from-welded B e) = broken-after f k B ∙ ap (copied false bs) e
+    copy-after f k s (from-kept t M e) = missing-after f t k M ∙ ap (copied true bs) e
+
+  module _ (h : Float) where
+    -- what step 7 brings
+    abbrev pub bs : List Brought
+    bs = broughtAll h (soundTriangles m) (marks (soundTriangles m) (links (soundTriangles m)))
+
+    -- the final reading of a corner of a sound triangle is what was brought
+    pub own-reading : (s : Spot) → There m s → finalReading h m (s .tri .face) (slotOf s) ≡ broughtReading h m (s .tri .face) (slotOf s)
+    unfolding frames framesOf
+    own-reading s T = own-after bs s T
+
+    pub broken-reading : (f : ℕ) (k : Kept) → Broken m f k → finalReading h m f (k .which) ≡ copied false bs (firstWelded m (k .corner))
+    unfolding frames framesOf
+    broken-reading f k B = broken-after bs f k B
 
     pub copies : (f : ℕ) (k : Kept) (s : Spot) (c : Copies m f k s) → finalReading h m f (k .which) ≡ copyOf (inQuad c) (finalReading h m (s .tri .face) (slotOf s))
-    copies f k s c = copy-reading f k s c ∙ ap (copyOf (inQuad c)) (sym (own-reading s (there s (source-in f k s c))))
+    unfolding frames framesOf
+    copies f k s c = copy-after bs f k s c ∙ ap (copyOf (inQuad c)) (sym (own-after bs s (there s (source-in f k s c))))
 
     pub sources : (f : ℕ) (k : Kept) (s : Spot) → Copies m f k s → There m s × (finalReading h m (s .tri .face) (slotOf s) ≡ broughtReading h m (s .tri .face) (slotOf s))
     sources f k s c = let T = there s (source-in f k s c) in (T, own-reading s T)

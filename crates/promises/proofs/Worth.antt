@@ -68,7 +68,7 @@ there : (n : ℕ) (e : Evaluated) (o : Bool) (r : Reading) → (r ≡ Absent →
 there n e o r h = let k = present-kinds n e o in record { not-lost = k .0; absent = λ p. absurd (h p); absent-only = λ p. absurd (k .1 p) }
 
 -- a reading whose first word is 1 is not absent
-not-absent : (r : Reading) → getD (words r) 0 0 ≡ 1 → r ≡ Absent → ⊥
+pub not-absent : (r : Reading) → getD (words r) 0 0 ≡ 1 → r ≡ Absent → ⊥
 unfolding words
 not-absent r e p = let z : _≡_ {A = ℕ} 0 1 = sym (ap (λ (q : Reading). getD (words q) 0 0) p) ∙ e in omega (arith, z)
 

@@ -18,6 +18,7 @@ use Rattle.promises.specs.NarrowAngles as NarrowAngles
 use Rattle.promises.specs.Cosines as Cosines
 use Rattle.promises.specs.ClosedFaces as ClosedFaces
 use Rattle.promises.specs.Islands as Islands
+use Rattle.promises.specs.Explained as Explained
 use Rattle.promises.specs.Labels as Labels
 use Rattle.promises.specs.Examiner as Examiner
 use Rattle.promises.specs.ThreeSides as ThreeSides
@@ -64,6 +65,8 @@ pub record AllPromised : Type 1 where
   pub own-accepted : Examiner.OwnAccepted
   pub own-lists : Examiner.OwnLists
   pub three-sides : ThreeSides.Promised
+  -- frames and reasons by one call
+  pub explained : Explained.Promised
   -- cards (E1), appending (E14), packed frames (E5), a verdict on every slot
   pub cards : CardsPromised
   pub appends : AppendsPromised
