@@ -127,28 +127,6 @@ fn strike(answer: &[u32], reasons: &mut [u8], count: usize)
 
 // ---- the call
 
-// Frames and reasons of a mesh that nothing refuses; the result is how many slots there are.
-fn explain_slots(
-    sizes: &[u8],
-    positions: &[f32],
-    normals: &[f32],
-    texture: &[f32],
-    threshold: f32,
-    answer: &mut [u32],
-    work: &mut [u32],
-    reasons: &mut [u8],
-) -> u32
-    requires { ⌜ contract.reasonsVerdict (call (handed (now sizes) (now positions) (now normals) (now texture)) threshold (now answer) (now work)) (length (now reasons)) ≡ none ⌝ }
-    ensures { λ s. ⌜ contract.left (record { number = 0; place = 0; slots = s }) (now (answer .exit)) (now (work .exit)) (now (reasons .exit)) ≡ contract.acceptedReasons (call (handed (now (sizes .entry)) (now (positions .entry)) (now (normals .entry)) (now (texture .entry))) threshold (now (answer .entry)) (now (work .entry))) (now (reasons .entry)) ⌝ }
-{
-    let slots = mesh::slots_before(sizes, definition::FACE_LIMIT);
-    try_copies(sizes, positions, normals, texture, work, answer, slots);
-    note_reasons(answer, reasons, slots);
-    let made = mikktspace::make_frames(sizes, positions, normals, texture, work, answer, threshold);
-    strike(answer, reasons, slots);
-    made
-}
-
 // Tangent frames of a mesh, as mikktspace::generate_tangent_space makes them, and a byte for each slot: why it is absent, or 0.
 // A refusal (1 to 7 as for frames, and 9 where there is less than one byte a slot) alters no list.
 pub fn explain(
@@ -163,30 +141,19 @@ pub fn explain(
 ) -> Outcome
     ensures { λ r. ⌜ contract.Explains (call (handed (now (sizes .entry)) (now (positions .entry)) (now (normals .entry)) (now (texture .entry))) threshold (now (answer .entry)) (now (work .entry))) (now (reasons .entry)) r (now (answer .exit)) (now (work .exit)) (now (reasons .exit)) ⌝ }
 {
-    let v = desk::judge(
-        sizes,
-        positions,
-        normals,
-        texture,
-        threshold,
-        answer.len(),
-        work.len(),
-    );
+    let room = answer.len();
+    let spare = work.len();
+    let v = desk::judge(sizes, positions, normals, texture, threshold, room, spare);
     if v.number != 0 {
         return said(v.number, v.place, 0);
     }
-    if reasons.len() < mesh::slots_before(sizes, definition::FACE_LIMIT) {
+    let slots = mesh::slots_before(sizes, definition::FACE_LIMIT);
+    if reasons.len() < slots {
         return said(9, 0, 0);
     }
-    let slots = explain_slots(
-        sizes,
-        positions,
-        normals,
-        texture,
-        threshold,
-        answer,
-        work,
-        reasons,
-    );
-    said(0, 0, slots)
+    try_copies(sizes, positions, normals, texture, work, answer, slots);
+    note_reasons(answer, reasons, slots);
+    let made = mikktspace::make_frames(sizes, positions, normals, texture, work, answer, threshold);
+    strike(answer, reasons, slots);
+    said(0, 0, made)
 }

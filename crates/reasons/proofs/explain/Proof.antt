@@ -1,4 +1,5 @@
 -- `reasons::explain` meets its contract. Assumes nothing.
+use Prim.Native.Nat.{_≤_}
 use native.Mathlib.Omega.{arith}
 use mathlib.Core.Path.{_≡_, sym, ap, _∙_}
 use mathlib.Core.Bool.{Bool}
@@ -9,12 +10,12 @@ use denote.Ref.{now}
 use lib.Dec.{ltb}
 use lib.ListN.{length}
 use Rattle.definition.specs.Handed.{Call, call, handed, slotCount}
-use Rattle.definition.specs.Desk.{Row, atDesk, verdict}
-use Rattle.laws.proofs.Verdict.{fine}
+use Rattle.definition.specs.Desk.{Row, shown, atDesk, verdict}
+use Rattle.laws.proofs.Verdict.{Fine, fine}
 use Rattle.mikktspace.proofs.Verdicts.{no-refusal, all-slots}
 use Rattle.islands.proofs.Nine.{passes}
 use Rattle.reasons.specs.Contract.{ReasonsLeft, left, answered, acceptedReasons, reasonsVerdict, reasonsOutcome}
-use Rattle.reasons.proofs.Verdicts.{left-same, refused, too-short}
+use Rattle.reasons.proofs.Verdicts.{left-same, refused, too-short, whole}
 use Rattle.reasons.proofs.explain.Statement.{statement}
 use Rattle.reasons.proofs.explain.Tie as tie
 
@@ -71,20 +72,64 @@ returns-2 c =
     left-same _ _ _ _ _ (c .said2 .ensures)
     ∙ too-short (table s) (short s) (taken s) (now (s .args .answer)) (now (s .args .work)) (now (s .args .reasons)) (unrefused (n .before)) (lt-ltb (length (now (s .args .reasons))) (slotCount (now (s .args .sizes))) (omega (arith, c .before .if2 .taken, counted n)))
 
-explain-slots-requires : tie.Need-explain-slots-requires
-explain-slots-requires c κs = passing (c .before .before .before)
+-- what holds of the lists
+known : (n : tie.After-slots-before) → Fine (atDesk (handed-in (start (n .before .before))))
+known n = fine (atDesk (handed-in (start (n .before .before)))) (unrefused (n .before))
+
+-- and there is a byte a slot
+byte-each : (e : tie.Else2) → slotCount (now (start (e .before .before .before) .args .sizes)) ≤ length (now (start (e .before .before .before) .args .reasons))
+byte-each e = omega (arith, e .if2 .left, counted (e .before))
+
+try-copies-requires : tie.Need-try-copies-requires
+try-copies-requires c κs =
+    let n = c .before .before .before in
+    let k = known n in
+    (k .few, omega (arith, k .work-fits), k .answer-fits, counted n, k .good)
+
+note-reasons-requires : tie.Need-note-reasons-requires
+note-reasons-requires c κs =
+    let t = c .before .before .before .before .before .before in
+    let e = t .before .before .before in
+    let n = e .before in
+    (omega (arith, known n .answer-fits, counted n, t .try-copies .kept .1 .1 .1 .1 .1 .0), omega (arith, byte-each e, counted n))
+
+make-frames-requires : tie.Need-make-frames-requires
+make-frames-requires c κs =
+    let t = c .before .before .before .before .before .before .before .before .before .before .before in
+    let n = t .before .before .before .before in
+    let s = start (n .before .before) in
+    let a = s .args in
+    (λ z. verdict (shown (handed (now (a .sizes)) (now (a .positions)) (now (a .normals)) (now (a .texture))) (a .threshold) (t .try-copies .kept .1 .1 .1 .1 .1 .0 z) (t .try-copies .kept .1 .1 .1 .1 .0 z))) ∙ unrefused (n .before)
+
+strike-requires : tie.Need-strike-requires
+strike-requires c κs =
+    let m = c .before .before .before .before .before .before in
+    let r = m .before .before .before .before .before in
+    let t = r .before .before .before .before .before .before .before in
+    let e = t .before .before .before in
+    let n = e .before in
+    (omega (arith, known n .answer-fits, counted n, t .try-copies .kept .1 .1 .1 .1 .1 .0, m .make-frames .kept .1 .1 .1 .1 .1 .0), omega (arith, byte-each e, counted n, r .note-reasons .kept .1 .0))
 
 returns-3 : tie.Need-returns-3
 unfolding reasonsOutcome answered
 returns-3 c =
-    let n = c .before .before .before .before .before .before .before in
-    let e = n .before .before .before .before in
-    let s = start (e .before .before .before) in
-    left-same _ _ _ _ _ (c .said3 .ensures) ∙ (n .explain-slots .ensures ∙ ap (λ o. answered o (taken s) (now (s .args .answer)) (now (s .args .work)) (now (s .args .reasons))) (sym (passing e)))
+    let k = c .before .before .before in
+    let m = k .before .before .before .before .before .before .before in
+    let r = m .before .before .before .before .before in
+    let t = r .before .before .before .before .before .before .before in
+    let e = t .before .before .before in
+    let n = e .before in
+    let s = start (n .before .before) in
+    let a = s .args in
+    left-same _ _ _ _ _ (c .said3 .ensures)
+    ∙ (whole (handed (now (a .sizes)) (now (a .positions)) (now (a .normals)) (now (a .texture))) (a .threshold) (now (a .answer)) (now (a .work)) (now (a .reasons)) _ _ _ _ _ _ _ _ (counted n) (known n .answer-fits) (t .try-copies .kept .1 .1 .1 .1 .1 .0)
+    (t .try-copies .ensures .0) (t .try-copies .ensures .1) (r .note-reasons .ensures) (m .make-frames .ensures) (m .make-frames .kept .1 .1 .1 .1 .1 .0) (k .strike .ensures)
+    ∙ ap (λ o. answered o (taken s) (now (a .answer)) (now (a .work)) (now (a .reasons))) (sym (passing e)))
 
 pub explain-spec : {M : Type 1} → statement M
 explain-spec =
     tie.close
     (tie.spec
-    (λ c κs. search needs) (λ c κs. search needs) returns (λ c κs. search needs) (λ c κs. search needs) returns-2 explain-slots-requires
-    (λ c κs. search needs) (λ c. search needs) (λ c. search needs) (λ c. search needs) returns-3)
+    (λ c κs. search needs) (λ c κs. search needs) returns (λ c κs. search needs) (λ c κs. search needs) returns-2 try-copies-requires
+    note-reasons-requires make-frames-requires strike-requires (λ c κs. search needs) (λ c. search needs) (λ c. search needs)
+    (λ c. search needs) returns-3)
