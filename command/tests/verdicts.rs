@@ -304,6 +304,30 @@ fn a_card_that_is_absent_where_its_mesh_is_not() {
 }
 
 #[test]
+fn a_reason_stands_in_the_row_of_an_absent_corner_alone() {
+    let room = Room::new("alone");
+    let good = record(ONE, 1, 1);
+    let mut card = Vec::new();
+    write_card(&[[0; 12], good, good].concat(), &mut card).unwrap();
+    room.put("a.card", card);
+    // each corner of the mesh is absent
+    let vertices = [
+        "0 0 0 0 0 1 .5 .5",
+        "1 0 0 0 0 1 .5 .5",
+        "0 1 0 0 0 1 .5 .5",
+    ];
+    room.put("a.ply", ply(&vertices, &["3 0 1 2"]));
+    room.run("read a.card --total 3 --mesh a.ply --report a.csv")
+        .ends(
+            3,
+            &format!("ABSENT        face 0, corner 0: {UNREACHED}; likely"),
+        );
+    let report = room.text("a.csv");
+    let reasons = report.lines().skip(1).map(|row| row.split(',').nth(15));
+    assert_eq!(reasons.collect::<Vec<_>>(), [UNREACHED, "", ""].map(Some));
+}
+
+#[test]
 fn the_exit_status_goes_by_the_archive_s_count() {
     let all = Tally {
         present: 3,

@@ -1,8 +1,10 @@
 //! What comes back for a corner is what the archive's judge says: of answers, and of cards of both kinds.
 use dokphalun::{
-    BLOCK_BYTES, Buffers, Flawed, Kind, Origin, Reading, Record, write_card, write_card_as,
+    Answer, BLOCK_BYTES, Buffers, Flawed, Kind, Mesh, Origin, Reading, Record, write_card,
+    write_card_as,
 };
 use models::{Corner, Faces};
+use std::num::NonZeroUsize;
 
 /// The bits of 1.
 const ONE: u32 = 0x3f80_0000;
@@ -163,4 +165,49 @@ fn nothing_is_left_of_the_call_before() {
     let answer = buffers.frames(faces.mesh(), -1.0).unwrap();
     assert_eq!((answer.total(), answer.good()), (3, 0));
     assert_eq!(answer.readings().count(), 3);
+}
+
+/// So many islands: by turns a triangle on a line, one with its normal along the tangent, a sound one, and one without texture.
+fn islands(count: usize) -> Faces {
+    let mut faces = Faces::default();
+    for i in 0..count {
+        let x = 10.0 * i as f32;
+        let (last, normal, s) = match i % 4 {
+            0 => ([x + 2.0, 0.0, 0.0], [0.0, 0.0, 1.0], 1.0),
+            1 => ([x, 1.0, 0.0], [1.0, 0.0, 0.0], 1.0),
+            2 => ([x, 1.0, 0.0], [0.0, 0.0, 1.0], 1.0),
+            _ => ([x, 1.0, 0.0], [0.0, 0.0, 1.0], 0.0),
+        };
+        let positions = [[x, 0.0, 0.0], [x + 1.0, 0.0, 0.0], last];
+        let texture = [[0.0, 0.0], [s, 0.0], [0.0, 1.0]];
+        faces.push(&[0, 1, 2].map(|i| -> Corner { (positions[i], normal, texture[i]) }));
+    }
+    faces
+}
+
+/// The letters of an answer's readings, and how many are good.
+fn letters(answer: Answer) -> (String, u32) {
+    let readings = answer
+        .readings()
+        .map(|(_, reading)| letter(reading.into()).0);
+    (readings.collect(), answer.good())
+}
+
+#[test]
+fn every_way_to_make_frames_judges_them() {
+    let (faces, three) = (islands(40), NonZeroUsize::new(3).unwrap());
+    let mesh = faces.mesh();
+    let wanted = ("bpbbbbpppaaa".repeat(10), 40);
+    // each call by itself, so that no other has judged before
+    let frames = |made: fn(&mut Buffers, Mesh, NonZeroUsize) -> (String, u32)| {
+        assert_eq!(made(&mut Buffers::new(), mesh, three), wanted);
+    };
+    frames(|buffers, mesh, _| letters(buffers.frames(mesh, -1.0).unwrap()));
+    frames(|buffers, mesh, _| letters(buffers.frames_by_islands(mesh, -1.0).unwrap()));
+    frames(|buffers, mesh, _| letters(buffers.reasons(mesh, -1.0).unwrap().answer));
+    frames(|buffers, mesh, three| {
+        let answer = buffers.frames_on(mesh, -1.0, three).unwrap();
+        assert_eq!(answer.parts(), 3);
+        letters(answer)
+    });
 }
