@@ -185,21 +185,22 @@ fn islands(count: usize) -> Faces {
     faces
 }
 
-/// The letters of an answer's readings, and how many are good.
-fn letters(answer: Answer) -> (String, u32) {
+/// The letters of an answer's readings, and how many are good and how many absent.
+fn letters(answer: Answer) -> (String, u32, usize) {
     let readings = answer
         .readings()
         .map(|(_, reading)| letter(reading.into()).0);
-    (readings.collect(), answer.good())
+    let absent = answer.absent().count();
+    (readings.collect(), answer.good(), absent)
 }
 
 #[test]
 fn every_way_to_make_frames_judges_them() {
     let (faces, three) = (islands(40), NonZeroUsize::new(3).unwrap());
     let mesh = faces.mesh();
-    let wanted = ("bpbbbbpppaaa".repeat(10), 40);
+    let wanted = ("bpbbbbpppaaa".repeat(10), 40, 30);
     // each call by itself, so that no other has judged before
-    let frames = |made: fn(&mut Buffers, Mesh, NonZeroUsize) -> (String, u32)| {
+    let frames = |made: fn(&mut Buffers, Mesh, NonZeroUsize) -> (String, u32, usize)| {
         assert_eq!(made(&mut Buffers::new(), mesh, three), wanted);
     };
     frames(|buffers, mesh, _| letters(buffers.frames(mesh, -1.0).unwrap()));
