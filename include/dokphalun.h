@@ -1,10 +1,12 @@
 /* Tangent frames for scanned steel: the calls of libdokphalun.a, for C and C++.
  *
  * An absent reading is not a good reading. A slot without a frame is twelve zero words, which as numbers would look like
- * smooth steel: so ask every slot with dokphalun_slot, and never take its words for numbers yourself.
+ * smooth steel; and a frame that is there can be of no use, since a direction of it is zero. So ask every slot with
+ * dokphalun_judged_slot, take nothing but DOKPHALUN_JUDGED_GOOD for a reading, and never take a slot's words for numbers yourself.
  *
  * A list is a pointer to its first element and a number of elements. The pointer is not null, not even for a list of no
- * elements, and it is aligned as its type asks (words and numbers to 4 bytes, packed numbers to 2). A lent list (answer, work, card, our own links) stands apart from every other list of the call. Any numbers whatever may be
+ * elements, and it is aligned as its type asks (words and numbers to 4 bytes, packed numbers to 2). A lent list (answer, work,
+ * card, verdicts, reasons, our own links) stands apart from every other list of the call. Any numbers whatever may be
  * handed in; each call ends, and a refusal alters no list. A call needs less than 12 KiB of stack.
  *
  * The archive says what it is: before its first call a program compares dokphalun_interface() with DOKPHALUN_INTERFACE and
@@ -71,6 +73,35 @@ struct dokphalun_outcome {
     uint32_t number;
     uint32_t place;
     uint32_t slots;
+};
+
+/* What dokphalun_judge says: number 0, how many slots are DOKPHALUN_JUDGED_GOOD, and the lowest that is not, or the number of slots where all
+ * are; or a refusal's number and zeros. All slots are good exactly where `good` is their number.
+ *   1  the words are not whole slots, or 2^32 slots or more
+ *   2  the list for the verdicts is shorter than one a slot
+ */
+struct dokphalun_judged {
+    uint32_t number;
+    uint32_t good;
+    size_t first;
+};
+
+/* What a slot is worth, from its words alone. Only DOKPHALUN_JUDGED_GOOD is a reading. */
+enum dokphalun_verdict {
+    DOKPHALUN_JUDGED_ABSENT = 0, /* absent: the corner has no frame */
+    DOKPHALUN_JUDGED_GOOD = 1, /* a frame with two directions, which can be packed */
+    DOKPHALUN_JUDGED_LOST = 2, /* lost: a card's block is not there, or not as it was written */
+    DOKPHALUN_JUDGED_BLANK = 3, /* the orientation is neither 0 nor 1, or a direction is NaN, infinite or has no number above 2^-126 in size */
+    DOKPHALUN_JUDGED_LONG = 4, /* a number of a direction is beyond 1 by more than its last digits (bits 3F800008): it is packed as absent */
+    DOKPHALUN_JUDGED_SHORT = 5 /* a direction is so short that all three numbers of it are packed as 0 */
+};
+
+/* Why a slot is absent. Each absent slot has one of the three, and no other slot has any. */
+enum dokphalun_reason {
+    DOKPHALUN_NO_REASON = 0, /* it is not absent */
+    DOKPHALUN_UNWELDED = 1, /* its corner is one of a degenerate triangle whose face is no marked quad, and no sound corner is welded to it */
+    DOKPHALUN_COPIES_ABSENT = 2, /* it copies a corner that is absent itself */
+    DOKPHALUN_UNREACHED = 3 /* it belongs to sound triangles, all of them group_with_any, and no group reached it */
 };
 
 /* The lists of a mesh that dokphalun_part is asked of. */
@@ -204,6 +235,24 @@ DOKPHALUN_ASK struct dokphalun_outcome dokphalun_frames(
     uint32_t *answer, size_t answer_words,
     uint32_t *work, size_t work_words);
 
+/* The same words as from dokphalun_frames, and a byte for each slot: why it is absent (enum dokphalun_reason). Refusal 9, after all
+ * others: the list of reasons is shorter than one a slot. Past the slots nothing is altered. */
+DOKPHALUN_ASK struct dokphalun_outcome dokphalun_reasons(
+    const uint8_t *sizes, size_t faces,
+    const float *positions, size_t position_numbers,
+    const float *normals, size_t normal_numbers,
+    const float *texture, size_t texture_numbers,
+    float threshold,
+    uint32_t *answer, size_t answer_words,
+    uint32_t *work, size_t work_words,
+    uint8_t *reasons, size_t reason_bytes);
+
+/* A verdict on each slot of a list, a byte each (enum dokphalun_verdict): of an answer, or of what dokphalun_card_read left. Past the
+ * slots nothing is altered. An old card's records are widened with dokphalun_old_to_slot first; the verdict looks at words 0 to 9. */
+DOKPHALUN_ASK struct dokphalun_judged dokphalun_judge(
+    const uint32_t *answer, size_t answer_words,
+    uint8_t *verdicts, size_t verdict_bytes);
+
 /* The part of a list (enum dokphalun_list) that belongs to a face: where it stands, never a copy. It is empty, from 0 on, for a face
  * number that is not below faces, for lists that refusal 1 or 2 would catch, and for a list that there is not. Each call adds up the
  * sizes of the faces before. */
@@ -318,7 +367,7 @@ DOKPHALUN_ASK struct dokphalun_unpacked dokphalun_unpack(
     const int16_t *packed, size_t packed_numbers,
     uint32_t *answer, size_t answer_words);
 
-/* What is known of a slot. Only DOKPHALUN_PRESENT has a frame. */
+/* What word 0 of a slot says. Only DOKPHALUN_PRESENT has a frame, and whether that is of use dokphalun_judge says. */
 enum dokphalun_reading {
     DOKPHALUN_ABSENT = 0, /* the corner has no frame */
     DOKPHALUN_PRESENT = 1,
@@ -334,8 +383,8 @@ enum dokphalun_origin {
     DOKPHALUN_FILLED = 4 /* copied within a quad with one degenerate triangle, to the corner that the other one lacks */
 };
 
-/* The frame of a corner. Each direction is of finite numbers, and can be zero: take such a frame as you take an absent one. (On a card from before
- * request E6 a direction can be no finite number.) The magnitudes can be infinite or NaN. */
+/* The frame of a corner. Of a slot that is DOKPHALUN_JUDGED_GOOD both directions are finite and not zero; take any other as you take an absent
+ * one. The magnitudes can be infinite or NaN. */
 struct dokphalun_frame {
     float tangent[3];
     float bitangent[3];
@@ -365,8 +414,9 @@ static inline enum dokphalun_reading dokphalun_old_words(const uint32_t *words, 
     return words[0] == 1 ? DOKPHALUN_PRESENT : words[0] == 0 ? DOKPHALUN_ABSENT : DOKPHALUN_LOST;
 }
 
-/* What is known of slot k of an answer list. The frame is filled in where it is present; else its directions and magnitudes become
- * NaN, so that an answer that was not asked for does not look like zeros, and preserving, origin and behind, which have no NaN, 0. */
+/* What word 0 of slot k of an answer list says. The frame is filled in where it is present; else its directions and magnitudes become
+ * NaN, so that an answer that was not asked for does not look like zeros, and preserving, origin and behind, which have no NaN, 0.
+ * WARNING: a present frame can be of no use. dokphalun_judged_slot fills in good ones alone. */
 DOKPHALUN_ASK static inline enum dokphalun_reading dokphalun_slot(
     const uint32_t *answer, size_t k, struct dokphalun_frame *frame)
 {
@@ -388,7 +438,20 @@ DOKPHALUN_ASK static inline enum dokphalun_reading dokphalun_old_slot(
     return dokphalun_old_words(records + DOKPHALUN_OLD_SLOT_WORDS * k, frame);
 }
 
-/* A record of an old card as a slot, for dokphalun_pack and dokphalun_slot: its words, and zeros, which say that the origin is not
+/* The archive's verdict on slot k of an answer list. The frame is filled in where the slot is DOKPHALUN_JUDGED_GOOD, and is as dokphalun_slot
+ * leaves that of an absent one for every other verdict. */
+DOKPHALUN_ASK static inline enum dokphalun_verdict dokphalun_judged_slot(
+    const uint32_t *answer, size_t k, struct dokphalun_frame *frame)
+{
+    const uint32_t nothing[DOKPHALUN_SLOT_WORDS] = {0}, *slot = answer + DOKPHALUN_SLOT_WORDS * k;
+    uint8_t verdict = DOKPHALUN_JUDGED_LOST;
+    struct dokphalun_judged judged = dokphalun_judge(slot, DOKPHALUN_SLOT_WORDS, &verdict, 1);
+    enum dokphalun_reading reading = dokphalun_slot(judged.good == 1 ? slot : nothing, 0, frame);
+    (void)reading; /* the verdict says more */
+    return (enum dokphalun_verdict)verdict;
+}
+
+/* A record of an old card as a slot, for dokphalun_judge, dokphalun_pack and dokphalun_slot: its words, and zeros, which say that the origin is not
  * recorded. The two lists stand apart. It is not for dokphalun_card_write: on a new card each frame has an origin, and the command
  * says NO ORIGIN of one that has none. */
 static inline void dokphalun_old_to_slot(const uint32_t old[DOKPHALUN_OLD_SLOT_WORDS], uint32_t slot[DOKPHALUN_SLOT_WORDS])

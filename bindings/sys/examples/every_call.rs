@@ -24,8 +24,10 @@ fn by_islands() -> Outcome {
 }
 
 /// Every call.
-const CALLS: [fn(); 16] = [
+const CALLS: [fn(); 18] = [
     || _ = frames(NOTHING, -1.0, &mut [], &mut []),
+    || _ = reasons(NOTHING, -1.0, &mut [], &mut [], &mut []),
+    || _ = judge(&[], &mut []),
     || _ = part(NOTHING, 0, 0),
     || _ = labels(NOTHING, &mut [], &mut []),
     || _ = by_islands(),

@@ -12,6 +12,17 @@ unsafe extern "C" {
         answer: *mut u32, answer_words: usize,
         work: *mut u32, work_words: usize,
     ) -> Outcome;
+    fn dokphalun_reasons(
+        sizes: *const u8, faces: usize,
+        positions: *const f32, position_numbers: usize,
+        normals: *const f32, normal_numbers: usize,
+        texture: *const f32, texture_numbers: usize,
+        threshold: f32,
+        answer: *mut u32, answer_words: usize,
+        work: *mut u32, work_words: usize,
+        reasons: *mut u8, reason_bytes: usize,
+    ) -> Outcome;
+    fn dokphalun_judge(answer: *const u32, answer_words: usize, verdicts: *mut u8, verdict_bytes: usize) -> Judged;
     fn dokphalun_part(
         sizes: *const u8, faces: usize,
         positions: *const f32, position_numbers: usize,
@@ -144,6 +155,31 @@ pub fn frames(mesh: Mesh, threshold: f32, answer: &mut [u32], work: &mut [u32]) 
         &mut answer,
         &mut work
     ))
+}
+
+/// The frames of a mesh, and why each slot is absent, a byte each: one of the numbers of [`crate::reason`].
+pub fn reasons(
+    mesh: Mesh,
+    threshold: f32,
+    answer: &mut [u32],
+    work: &mut [u32],
+    reasons: &mut [u8],
+) -> Outcome {
+    call!(dokphalun_reasons(
+        &mesh.sizes,
+        &mesh.positions,
+        &mesh.normals,
+        &mesh.texture,
+        threshold,
+        &mut answer,
+        &mut work,
+        &mut reasons
+    ))
+}
+
+/// A verdict on each slot of answer words, a byte each: one of the numbers of [`crate::verdict`].
+pub fn judge(answer: &[u32], verdicts: &mut [u8]) -> Judged {
+    call!(dokphalun_judge(&answer, &mut verdicts))
 }
 
 /// Where the numbers of a face stand in a list: 0 for positions, 1 for normals, 2 for texture.

@@ -44,3 +44,31 @@ pub const ISLAND_ENTRIES: [usize; 5] = [1, 4, 1, 32, 4 * SLOT_WORDS];
 
 /// The words a face of the lists that [`links`] writes: links, groups and orientations.
 pub const LINK_ENTRIES: [usize; 3] = [6, 6, 2];
+
+/// The verdicts of [`judge`]: what a slot is worth.
+pub mod verdict {
+    /// Word 0 is 0: there is no frame.
+    pub const ABSENT: u8 = 0;
+    /// A frame, whose directions can be used and packed.
+    pub const GOOD: u8 = 1;
+    /// Word 0 is neither 0 nor 1: what stood there is lost.
+    pub const LOST: u8 = 2;
+    /// Word 0 is 1, but the orientation is not one, or the tangent or the bi-tangent is not a direction.
+    pub const BLANK: u8 = 3;
+    /// Both are directions, but a component is beyond 3F800008: it is packed as absent.
+    pub const LONG: u8 = 4;
+    /// Both are directions, and none is beyond, but the tangent or the bi-tangent is packed as three zeros.
+    pub const SHORT: u8 = 5;
+}
+
+/// The bytes of [`reasons`]: why a slot is absent.
+pub mod reason {
+    /// The slot is not absent.
+    pub const NONE: u8 = 0;
+    /// Its corner is one of a degenerate triangle whose face is no marked quad, and no sound corner is welded to it.
+    pub const UNWELDED: u8 = 1;
+    /// It copies a corner that is absent itself.
+    pub const COPIES_ABSENT: u8 = 2;
+    /// It belongs to sound triangles, all of them `group_with_any`, and no group reached it.
+    pub const UNREACHED: u8 = 3;
+}

@@ -1,6 +1,6 @@
 //! What the calls say, as they return it. The names and the order are those of include/dokphalun.h.
 
-/// What [`crate::frames`] and [`crate::frames_by_islands`] say.
+/// What [`crate::frames`], [`crate::frames_by_islands`] and [`crate::reasons`] say.
 #[repr(C)]
 #[derive(Clone, Copy, Debug, PartialEq, Eq)]
 pub struct Outcome {
@@ -10,6 +10,18 @@ pub struct Outcome {
     pub place: u32,
     /// How many slots were written.
     pub slots: u32,
+}
+
+/// What [`crate::judge`] says.
+#[repr(C)]
+#[derive(Clone, Copy, Debug, PartialEq, Eq)]
+pub struct Judged {
+    /// The number of a refusal, or 0.
+    pub number: u32,
+    /// How many slots are good.
+    pub good: u32,
+    /// The lowest slot that is not, or the number of slots where all are.
+    pub first: usize,
 }
 
 /// What [`crate::part`] says.

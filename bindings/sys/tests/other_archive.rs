@@ -1,11 +1,14 @@
 //! Archives of other editions are refused at once, by every call, and one that cannot be asked does not link.
+use dokphalun_sys::{reason, verdict};
 use std::fs;
 use std::path::{Path, PathBuf};
 use std::process::{Command, Output};
 
 /// Every call; each ends the program in such an archive.
-const CALLS: [&str; 16] = [
+const CALLS: [&str; 18] = [
     "frames",
+    "reasons",
+    "judge",
     "part",
     "labels",
     "frames_by_islands",
@@ -93,8 +96,8 @@ fn other_editions_are_refused_by_every_call() {
         ),
     ] {
         let [printed, errors] = texts(&every_call(&archive(name, Some(numbers))));
-        assert_eq!(printed, "16 of 16 refused\n", "{errors}");
-        assert_eq!(errors.matches(said).count(), 16, "{errors}");
+        assert_eq!(printed, "18 of 18 refused\n", "{errors}");
+        assert_eq!(errors.matches(said).count(), 18, "{errors}");
     }
     // one that says the right numbers is called, and a signal ends the program
     let right = every_call(&archive("right", Some([3, 12])));
@@ -128,6 +131,22 @@ fn the_header_and_the_archive_say_what_is_declared() {
     ] {
         let line = format!("#define DOKPHALUN_{name} {number}\n");
         assert!(header.contains(&line), "{line}");
+    }
+    for (name, number) in [
+        ("JUDGED_ABSENT", verdict::ABSENT),
+        ("JUDGED_GOOD", verdict::GOOD),
+        ("JUDGED_LOST", verdict::LOST),
+        ("JUDGED_BLANK", verdict::BLANK),
+        ("JUDGED_LONG", verdict::LONG),
+        ("JUDGED_SHORT", verdict::SHORT),
+        ("NO_REASON", reason::NONE),
+        ("UNWELDED", reason::UNWELDED),
+        ("COPIES_ABSENT", reason::COPIES_ABSENT),
+        ("UNREACHED", reason::UNREACHED),
+    ] {
+        let line = format!("    DOKPHALUN_{name} = {number}");
+        let ends = [',', ' '].map(|end| format!("{line}{end}"));
+        assert!(ends.iter().any(|line| header.contains(line)), "{line}");
     }
     assert_eq!(dokphalun_sys::archive(), Ok(()));
 }
