@@ -38,3 +38,29 @@ build_beside() {
     export MIKKTSPACE_SRC=$crate
     build side_by_side "$1"
 }
+
+# How many of the oracle's meshes are asked for: MESHES, else 20,000, and with --gate among the words 2,000.
+meshes_asked() {
+    case " $* " in
+    *" --gate "*) echo "${MESHES:-2000}" ;;
+    *) echo "${MESHES:-20000}" ;;
+    esac
+}
+
+# Has the oracle's generator make $1 random meshes of each further kind, at the rules in force, seed 4; their files are in oracle_files, none
+# where ../shared/oracle is not there.
+oracle_files=()
+oracle_meshes() {
+    local count=$1 kind harness=$root/../shared/oracle/harness/Cargo.toml made_here=$root/target/oracle
+    shift
+    if [ ! -f "$harness" ]; then
+        echo "no ../shared/oracle here: its meshes are left out"
+        return
+    fi
+    cargo build --quiet --offline --release --manifest-path "$harness" --target-dir "$made_here" || exit 1
+    mkdir -p "$root/target/meshes"
+    for kind in "$@"; do
+        "$made_here/release/gen" 4 "$count" "$kind" "$root/target/meshes/$kind" --rules "$(cat "$root/tools/rules")" >/dev/null
+        oracle_files+=("$root/target/meshes/$kind")
+    done
+}

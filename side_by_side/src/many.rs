@@ -76,17 +76,3 @@ pub fn every_spoil_caught<Left>(
     );
     missed.is_empty()
 }
-
-/// The words of a command line: `--gate`, and options with a number; anything else is not understood.
-pub fn numbers<const N: usize>(options: [&str; N]) -> Option<([Option<u64>; N], bool)> {
-    let (mut found, mut gate) = ([None; N], false);
-    let mut words = std::env::args().skip(1);
-    while let Some(word) = words.next() {
-        match options.iter().position(|option| *option == word) {
-            Some(at) => found[at] = Some(words.next()?.parse().ok()?),
-            None if word == "--gate" => gate = true,
-            None => return None,
-        }
-    }
-    Some((found, gate))
-}

@@ -1,9 +1,8 @@
 //! Frames by islands beside one call for frames, and labels beside a plain model: every word of every list. See README.md.
 use models::lent::asked;
+use models::options::numbers;
 use side_by_side::islands::{ENTRIES, Left, expected, left};
-use side_by_side::many::{
-    Spoil, differed, each, every_spoil_caught, flip, kind_of, lengths, numbers,
-};
+use side_by_side::many::{Spoil, differed, each, every_spoil_caught, flip, kind_of, lengths};
 use side_by_side::mesh::Mesh;
 use side_by_side::random::Random;
 use std::process::exit;
