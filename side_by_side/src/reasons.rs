@@ -84,16 +84,8 @@ pub fn compared(
     if let Some(spoil) = spoil {
         spoil(&mut ours);
     }
-    let parts = [
-        ("what the call says", ours.outcome == expected.outcome),
-        ("the answer list", ours.answer == expected.answer),
-        ("the work list", ours.work == expected.work),
-        ("the reasons", ours.reasons == expected.reasons),
-    ];
-    match parts.iter().find(|(_, same)| !same) {
-        None => Ok(expected),
-        Some((what, _)) => Err(format!(
-            "{what}: {ours:X?}, expected {expected:X?}; {mesh:X?}"
-        )),
+    match ours == expected {
+        true => Ok(expected),
+        false => Err(format!("{ours:X?}, expected {expected:X?}, of {mesh:X?}")),
     }
 }

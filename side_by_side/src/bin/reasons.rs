@@ -2,7 +2,9 @@
 use models::options::{meshes, numbers};
 use models::oracle::Words;
 use side_by_side::kinds::named;
-use side_by_side::many::{Spoil, differed, each, every_spoil_caught, flip, kind_of, lengths};
+use side_by_side::many::{
+    SHARES, Spoil, differed, each, every_one_caught, every_spoil_caught, flip, kind_of, lengths,
+};
 use side_by_side::mesh::Mesh;
 use side_by_side::ours::GUARD;
 use side_by_side::plain_reasons::{PLAIN, Plain, SLIPS};
@@ -14,18 +16,6 @@ use std::sync::atomic::{AtomicU64, Ordering::Relaxed};
 use std::time::Instant;
 
 const USAGE: &str = "usage: reasons [--seed N] [--count N] [--gate], or reasons meshes FILE..";
-
-/// The kinds of meshes, each with so many shares of the count.
-const SHARES: [(&str, u64); 8] = [
-    ("mesh", 40),
-    ("shuffle", 15),
-    ("one", 10),
-    ("zeros", 16),
-    ("magnitudes", 5),
-    ("extreme", 5),
-    ("needle", 5),
-    ("refused", 4),
-];
 
 /// How many meshes the gate compares, and how many there are if no other number is asked for.
 const GATE: u64 = 10_000;
@@ -130,10 +120,14 @@ fn main() {
         let (_, mesh, lent) = case(seed, i);
         compared(&mesh, lent, &PLAIN, Some(spoil)).is_err()
     };
+    let slipped = |i: u64, plain: &Plain| {
+        let (_, mesh, _) = case(seed, i);
+        compared(&mesh, mesh.slots(), plain, None).is_err()
+    };
     let right = compare_all(seed, count)
         & compare_large(seed, large)
         & every_spoil_caught(&SPOILS, noticed)
-        & every_slip_noticed(seed);
+        & every_one_caught("slips in the plain model", &SLIPS, TRIED, slipped);
     exit(i32::from(!right));
 }
 
@@ -196,22 +190,4 @@ fn compare_files(names: &[String]) -> bool {
         }
     }
     right & all.whole()
-}
-
-/// True if each slip in the plain model is noticed in one of some cases.
-fn every_slip_noticed(seed: u64) -> bool {
-    let noticed = |plain: &Plain| {
-        (0..TRIED).any(|i| {
-            let (_, mesh, _) = case(seed, i);
-            compared(&mesh, mesh.slots(), plain, None).is_err()
-        })
-    };
-    let missed = SLIPS.iter().filter(|(_, plain)| !noticed(plain));
-    let missed: Vec<&str> = missed.map(|(what, _)| *what).collect();
-    println!(
-        "slips in the plain model: {} of {} noticed; missed: {missed:?}",
-        SLIPS.len() - missed.len(),
-        SLIPS.len()
-    );
-    missed.is_empty()
 }

@@ -1,7 +1,7 @@
 //! Both judges on the same lists, every byte, also outside what was lent; and what came up.
 use models::lent::{Left, answered, same};
 use models::packed::SLOT;
-use models::worth::{NAMES, Said, Verdict, judge};
+use models::worth::{ALL, Said, Worth, judge};
 
 /// Bits of a component without its sign at which a verdict changes, and those beside them.
 pub const EDGES: [u32; 18] = [
@@ -32,10 +32,14 @@ fn ours(answer: &[u32], verdicts: &mut [u8]) -> Said {
 }
 
 /// An answer list into a lent list of `room` bytes, by both; the plain one takes this verdict on each slot.
-pub fn both(verdict: Verdict, answer: &[u32], room: usize) -> Result<Left<u8, Said>, String> {
+pub fn both(
+    verdict: impl Fn(&[u32]) -> Worth,
+    answer: &[u32],
+    room: usize,
+) -> Result<Left<u8, Said>, String> {
     // no byte that is lent is a verdict
     let fill = |i: usize| 0x90 + (i % 64) as u8;
-    let plain = |verdicts: &mut [u8]| judge(verdict, answer, verdicts);
+    let plain = |verdicts: &mut [u8]| judge(&verdict, answer, verdicts);
     same(fill, room, plain, |verdicts| ours(answer, verdicts))
         .map_err(|what| format!("{answer:X?} to {room}: {what}"))
 }
@@ -44,7 +48,7 @@ pub fn both(verdict: Verdict, answer: &[u32], room: usize) -> Result<Left<u8, Sa
 #[derive(Default)]
 pub struct Seen {
     pub slots: u64,
-    verdicts: [u64; NAMES.len()],
+    verdicts: [u64; ALL.len()],
     /// Slots whose word 0 is 1, by an edge's number and the sign, wherever it stands.
     edges: [[u64; 2]; EDGES.len()],
 }
@@ -65,22 +69,22 @@ impl Seen {
 
     /// How often each verdict came up.
     pub fn said(&self) -> String {
-        let counts = NAMES.iter().zip(self.verdicts);
+        let counts = ALL.iter().zip(self.verdicts);
         let counts: Vec<String> = counts
-            .map(|(name, count)| format!("{count} {name}"))
+            .map(|(worth, count)| format!("{count} {worth:?}").to_lowercase())
             .collect();
         format!("{} slots: {}", self.slots, counts.join(", "))
     }
 
     /// How often a verdict came up.
-    pub fn of(&self, verdict: u8) -> u64 {
-        self.verdicts[usize::from(verdict)]
+    pub fn of(&self, worth: Worth) -> u64 {
+        self.verdicts[worth as usize]
     }
 
     /// Whether each verdict came up, and each edge with either sign.
     pub fn whole(&self) -> Result<(), String> {
         if let Some(verdict) = self.verdicts.iter().position(|count| *count == 0) {
-            return Err(format!("no slot is {}", NAMES[verdict]));
+            return Err(format!("{:?} never came up", ALL[verdict]));
         }
         let never = |signs: &[u64; 2]| signs.contains(&0);
         match self.edges.iter().position(never) {

@@ -4,7 +4,7 @@ use models::lent::room;
 use models::oracle::Words;
 use models::packed::SLOT;
 use models::random::Random;
-use models::worth::{LOST, Verdict, verdict};
+use models::worth::{Worth, verdict};
 
 /// Three components: of [-1, 1], or of a few edges that stand beside one another, or zeros, or any bits; some of them mixed.
 fn three(random: &mut Random) -> [u32; 3] {
@@ -36,7 +36,11 @@ fn slot(random: &mut Random) -> [u32; SLOT] {
 }
 
 /// A random answer list, one of eight not in whole slots, into a lent list near the length that is needed; what came up, if it is judged.
-pub fn random_list(verdict: Verdict, random: &mut Random, seen: &mut Seen) -> Result<(), String> {
+pub fn random_list(
+    verdict: impl Fn(&[u32]) -> Worth,
+    random: &mut Random,
+    seen: &mut Seen,
+) -> Result<(), String> {
     let most = random.pick(&[1, 2, 3, 20, 100]);
     let mut answer: Vec<u32> = (0..random.below(most + 1))
         .flat_map(|_| slot(random))
@@ -88,7 +92,7 @@ pub fn meshes(file: &[u8]) -> Result<(u64, Seen), String> {
         seen.count(answer, &verdicts);
         accepted += 1;
     }
-    match (seen.slots, seen.of(LOST)) {
+    match (seen.slots, seen.of(Worth::Lost)) {
         (0, _) => Err("no slot was judged".into()),
         (_, 0) => Ok((accepted, seen)),
         (_, lost) => Err(format!("{lost} slots of accepted meshes are lost")),

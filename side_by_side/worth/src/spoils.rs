@@ -4,106 +4,100 @@ use crate::runs::random_list;
 use models::lent::each_noticed;
 use models::packed::SLOT;
 use models::random::Random;
-use models::worth::{ABSENT, BLANK, GOOD, LONG, LOST, SHORT, Verdict, verdict};
+use models::worth::Worth::{self, Absent, Blank, Good, Long, Lost, Short};
+use models::worth::verdict;
 
 /// In how many random lists a slip is looked for.
 const TRIED: u64 = 2_000;
 
-/// The verdict on a slot with its components altered.
-fn seen_as(slot: &[u32], alter: fn(u32) -> u32) -> u8 {
-    let mut slot = slot.to_vec();
-    slot[1..=6].iter_mut().for_each(|bits| *bits = alter(*bits));
-    verdict(&slot)
+/// A verdict with a slip in it.
+type Slip = Box<dyn Fn(&[u32]) -> Worth>;
+
+/// The verdict on a slot that is altered first.
+fn altered(alter: impl Fn(&mut [u32]) + 'static) -> Slip {
+    Box::new(move |slot| {
+        let mut slot = slot.to_vec();
+        alter(&mut slot);
+        verdict(&slot)
+    })
 }
 
-/// Bits without the sign.
-fn size(bits: u32) -> u32 {
-    bits & 0x7FFF_FFFF
+/// Components for which such bits without the sign are taken to be others.
+fn taken(such: impl Fn(u32) -> bool + 'static, to: u32) -> Slip {
+    altered(move |slot| {
+        let six = slot[1..=6].iter_mut();
+        six.filter(|bits| such(**bits << 1 >> 1))
+            .for_each(|bits| *bits = to);
+    })
 }
 
-/// A component that is taken for another where its size is this.
-fn taken(bits: u32, from: u32, to: u32) -> u32 {
-    if size(bits) == from { to } else { bits }
+/// A component of this size is taken for one of another.
+fn edge(from: u32, to: u32) -> Slip {
+    taken(move |size| size == from, to)
 }
 
-/// The verdict on a slot with one word replaced.
-fn replaced(slot: &[u32], at: usize, by: u32) -> u8 {
-    let mut slot = slot.to_vec();
-    slot[at] = by;
-    verdict(&slot)
+/// A word of the slot that is taken for a 1 where it is such a one.
+fn passing(at: usize, such: impl Fn(u32) -> bool + 'static) -> Slip {
+    altered(move |slot| slot[at] = if such(slot[at]) { 1 } else { slot[at] })
 }
 
 /// One verdict told for another.
-fn told(slot: &[u32], from: u8, to: u8) -> u8 {
-    let told = verdict(slot);
-    if told == from { to } else { told }
+fn told(from: Worth, to: Worth) -> Slip {
+    Box::new(move |slot| match verdict(slot) {
+        told if told == from => to,
+        told => told,
+    })
+}
+
+/// Zeros of either sign in the place of both directions are good.
+fn zeros_good(slot: &[u32]) -> Worth {
+    let zeros = slot[1..=6].iter().all(|bits| bits << 1 == 0);
+    if slot[0] == 1 && zeros {
+        Good
+    } else {
+        verdict(slot)
+    }
 }
 
 /// The slips: what is altered, and the verdict altered so.
-const SLIPS: [(&str, Verdict); 20] = [
-    ("-0.0 is told apart from 0.0", |slot| {
-        seen_as(
-            slot,
-            |bits| if bits == 1 << 31 { 0x8080_0001 } else { bits },
-        )
-    }),
-    ("a NaN is good", |slot| {
-        seen_as(slot, |bits| {
-            if size(bits) > 0x7F80_0000 {
-                0x3F00_0000
-            } else {
-                bits
-            }
-        })
-    }),
-    ("zeros are good", |slot| {
-        let zeros = slot[0] == 1 && slot[9] <= 1 && slot[1..=6].iter().all(|bits| size(*bits) == 0);
-        if zeros { GOOD } else { verdict(slot) }
-    }),
-    ("lost is absent", |slot| told(slot, LOST, ABSENT)),
-    ("absent is lost", |slot| told(slot, ABSENT, LOST)),
-    ("blank is absent", |slot| told(slot, BLANK, ABSENT)),
-    ("long is good", |slot| told(slot, LONG, GOOD)),
-    ("short is good", |slot| told(slot, SHORT, GOOD)),
-    ("infinity is a number", |slot| {
-        seen_as(slot, |bits| taken(bits, 0x7F80_0000, 0x7F7F_FFFF))
-    }),
-    ("the greatest number is infinite", |slot| {
-        seen_as(slot, |bits| taken(bits, 0x7F7F_FFFF, 0x7F80_0000))
-    }),
-    ("2^-126 counts", |slot| {
-        seen_as(slot, |bits| taken(bits, 0x0080_0000, 0x0080_0001))
-    }),
-    ("the number after 2^-126 does not count", |slot| {
-        seen_as(slot, |bits| taken(bits, 0x0080_0001, 0x0080_0000))
-    }),
-    ("3F800008 is beyond", |slot| {
-        seen_as(slot, |bits| taken(bits, 0x3F80_0008, 0x3F80_0009))
-    }),
-    ("3F800009 is not beyond", |slot| {
-        seen_as(slot, |bits| taken(bits, 0x3F80_0009, 0x3F80_0008))
-    }),
-    ("37800100 is packed as 1", |slot| {
-        seen_as(slot, |bits| taken(bits, 0x3780_0100, 0x3780_0101))
-    }),
-    ("37800101 is packed as 0", |slot| {
-        seen_as(slot, |bits| taken(bits, 0x3780_0101, 0x3780_0100))
-    }),
-    ("the orientation is not looked at", |slot| {
-        replaced(slot, 9, 1)
-    }),
-    ("an orientation of 2 passes", |slot| {
-        replaced(slot, 9, if slot[9] == 2 { 1 } else { slot[9] })
-    }),
-    ("a 2 in word 0 is a 1", |slot| {
-        replaced(slot, 0, if slot[0] == 2 { 1 } else { slot[0] })
-    }),
-    ("the bi-tangent is not looked at", |slot| {
-        let mut slot = slot.to_vec();
-        slot.copy_within(1..4, 4);
-        verdict(&slot)
-    }),
-];
+fn slips() -> Vec<(&'static str, Slip)> {
+    let minus_zero = altered(|slot| {
+        let zeros = slot[1..=6].iter_mut().filter(|bits| **bits == 1 << 31);
+        zeros.for_each(|bits| *bits = 0x8080_0001);
+    });
+    vec![
+        ("-0.0 is told apart from 0.0", minus_zero),
+        (
+            "a NaN is good",
+            taken(|size| size > 0x7F80_0000, 0x3F00_0000),
+        ),
+        ("zeros are good", Box::new(zeros_good)),
+        ("lost is absent", told(Lost, Absent)),
+        ("absent is lost", told(Absent, Lost)),
+        ("blank is absent", told(Blank, Absent)),
+        ("long is good", told(Long, Good)),
+        ("short is good", told(Short, Good)),
+        ("infinity is a number", edge(0x7F80_0000, 0x7F7F_FFFF)),
+        ("7F7FFFFF is no number", edge(0x7F7F_FFFF, 0x7F80_0000)),
+        ("2^-126 counts", edge(0x0080_0000, 0x0080_0001)),
+        ("00800001 does not count", edge(0x0080_0001, 0x0080_0000)),
+        ("3F800008 is beyond", edge(0x3F80_0008, 0x3F80_0009)),
+        ("3F800009 is not beyond", edge(0x3F80_0009, 0x3F80_0008)),
+        ("37800100 is packed as 1", edge(0x3780_0100, 0x3780_0101)),
+        ("37800101 is packed as 0", edge(0x3780_0101, 0x3780_0100)),
+        ("no orientation is too great", passing(9, |word| word > 1)),
+        ("an orientation of 2 passes", passing(9, |word| word == 2)),
+        ("a 2 in word 0 is a 1", passing(0, |word| word == 2)),
+        (
+            "the bi-tangent is not looked at",
+            altered(|slot| slot.copy_within(1..4, 4)),
+        ),
+        (
+            "the tangent is not looked at",
+            altered(|slot| slot.copy_within(4..7, 1)),
+        ),
+    ]
+}
 
 /// Judging, also where it is refused, with every word spoiled; how many words.
 pub fn words_noticed() -> Result<usize, String> {
@@ -120,7 +114,8 @@ pub fn words_noticed() -> Result<usize, String> {
 
 /// Each slip in some random lists of a seed; how many slips.
 pub fn slips_noticed(seed: u64) -> Result<usize, String> {
-    for (what, slip) in SLIPS {
+    let slips = slips();
+    for (what, slip) in &slips {
         let differs = |case| {
             let random = &mut Random::of(seed, "lists", case);
             random_list(slip, random, &mut Seen::default()).is_err()
@@ -129,5 +124,5 @@ pub fn slips_noticed(seed: u64) -> Result<usize, String> {
             return Err(format!("a slip is not noticed: {what}"));
         }
     }
-    Ok(SLIPS.len())
+    Ok(slips.len())
 }
