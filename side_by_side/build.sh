@@ -47,20 +47,23 @@ meshes_asked() {
     esac
 }
 
-# Has the oracle's generator make $1 random meshes of each further kind, at the rules in force, seed 4; their files are in oracle_files, none
-# where ../shared/oracle is not there.
+# Has the oracle's generator make $1 random meshes of each further kind, at the rules in force, seed 4; their files are in oracle_files until
+# the command ends, none where ../shared/oracle is not there.
 oracle_files=()
 oracle_meshes() {
-    local count=$1 kind harness=$root/../shared/oracle/harness/Cargo.toml made_here=$root/target/oracle
+    local count=$1 kind harness=$root/../shared/oracle/harness/Cargo.toml programs=$root/target/oracle
     shift
     if [ ! -f "$harness" ]; then
-        echo "no ../shared/oracle here: its meshes are left out"
+        echo "no ../shared/oracle here: its meshes ($*) are left out"
         return
     fi
-    cargo build --quiet --offline --release --manifest-path "$harness" --target-dir "$made_here" || exit 1
-    mkdir -p "$root/target/meshes"
+    cargo build --quiet --offline --release --manifest-path "$harness" --target-dir "$programs" || exit 1
+    if [ ${#oracle_files[@]} -eq 0 ]; then
+        meshes=$(mktemp -d)
+        trap 'rm -rf "$meshes"' EXIT
+    fi
     for kind in "$@"; do
-        "$made_here/release/gen" 4 "$count" "$kind" "$root/target/meshes/$kind" --rules "$(cat "$root/tools/rules")" >/dev/null
-        oracle_files+=("$root/target/meshes/$kind")
+        "$programs/release/gen" 4 "$count" "$kind" "$meshes/$kind" --rules "$(cat "$root/tools/rules")"
+        oracle_files+=("$meshes/$kind")
     done
 }

@@ -1,5 +1,5 @@
 //! Frames and reasons beside the call for frames and a plain model of why a slot is absent: every word, every byte. See README.md.
-use models::options::{meshes, numbers};
+use models::options::{Named, meshes, numbers};
 use models::oracle::Words;
 use side_by_side::kinds::named;
 use side_by_side::many::{
@@ -103,8 +103,9 @@ impl Seen {
 }
 
 fn main() {
-    if let Some(names) = meshes() {
-        exit(i32::from(!compare_files(&names)));
+    if let Some(files) = meshes() {
+        let files = files.expect("the oracle's meshes");
+        exit(i32::from(!compare_files(&files)));
     }
     let Some(([seed, count], gate)) = numbers(["--seed", "--count"]) else {
         eprintln!("{USAGE}");
@@ -171,14 +172,13 @@ fn compare_large(seed: u64, large: &[(&str, u64)]) -> bool {
 }
 
 /// The same of the meshes of the oracle's files; true if besides each reason came up in one of them.
-fn compare_files(names: &[String]) -> bool {
+fn compare_files(files: &[Named]) -> bool {
     let all = Seen::default();
     let mut right = true;
-    for name in names {
+    for (name, file) in files {
         let (start, seen) = (Instant::now(), Seen::default());
-        let file = std::fs::read(name).expect("the meshes");
         within(MODEL, || {
-            let mut words = Words(&file);
+            let mut words = Words(file);
             let calls = std::iter::from_fn(|| words.next_call());
             for (mesh, i) in calls.map(Mesh::from).zip(0..) {
                 seen.compare(0, i, name, &mesh, lent(0, i, &mesh));

@@ -4,7 +4,7 @@ mod runs;
 mod spoils;
 
 use compare::Seen;
-use models::options::{meshes, numbers};
+use models::options::{Named, meshes, numbers};
 use models::random::Random;
 use models::worth::verdict;
 use std::process::ExitCode;
@@ -34,9 +34,8 @@ fn random(seed: u64, count: u64) -> Result<(), String> {
 }
 
 /// The frames of the meshes of some files, judged.
-fn files(names: &[String]) -> Result<(), String> {
-    for name in names {
-        let file = std::fs::read(name).map_err(|what| format!("{name}: {what}"))?;
+fn judged(files: Vec<Named>) -> Result<(), String> {
+    for (name, file) in files {
         let (accepted, seen) = runs::meshes(&file).map_err(|what| format!("{name}: {what}"))?;
         println!("{name}: {accepted} meshes accepted; {}", seen.said());
     }
@@ -45,8 +44,8 @@ fn files(names: &[String]) -> Result<(), String> {
 
 /// What is asked for.
 fn asked() -> Result<(), String> {
-    if let Some(names) = meshes() {
-        return files(&names);
+    if let Some(files) = meshes() {
+        return judged(files?);
     }
     let ([seed, count], gate) = numbers(["--seed", "--count"]).ok_or(USAGE)?;
     let usual = if gate { GATE } else { USUAL };
