@@ -50,6 +50,9 @@ impl Plain {
         let reached: Vec<usize> = reached.map(|row| slot(model, row)).collect();
         (0..rows).for_each(|row| reasons[slot(model, row)] = UNREACHED);
         reached.iter().for_each(|slot| reasons[*slot] = THERE);
+        // what no group reached is of triangles that are all `group_with_any`
+        let mut starting = (0..rows).filter(|row| !model.triangles[row / 3].any);
+        assert!(starting.all(|row| reasons[slot(model, row)] == THERE));
         // step 9 alters no slot that is copied
         let brought = reasons.clone();
         let because = |source: Option<usize>| {
