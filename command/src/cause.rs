@@ -1,7 +1,25 @@
-//! Why a face has an absent corner, as far as its numbers show. A hint for the one who scans; nothing rests on it.
+//! Why a face has an absent corner, or a frame of no use, as far as its numbers show. A hint for the one who scans; nothing rests on it.
 use crate::surface::Surface;
+use dokphalun::Flawed;
 
-/// The likely cause, in words.
+/// What the bits of a blank frame lack, in words. In a frame that is made here a direction is zero; a card can hold others.
+pub fn lacking(frame: &Flawed) -> &'static str {
+    let [directions @ .., _, _, turn] = frame.bits();
+    match directions
+        .iter()
+        .all(|bits| f32::from_bits(*bits).is_finite())
+    {
+        false => "a direction is no finite number: the card is of an older edition",
+        true if turn > 1 => {
+            "the word for its orientation is neither 0 nor 1: no answer has such a one"
+        }
+        true => {
+            "a direction is zero: a normal lies along it, or numbers are too large or too small for single precision"
+        }
+    }
+}
+
+/// The likely cause of an absent corner, in words.
 pub fn cause(surface: &Surface, face: usize, start: usize) -> &'static str {
     let size = usize::from(surface.sizes.get(face).copied().unwrap_or_default());
     let positions = surface

@@ -3,9 +3,10 @@ use crate::meshfile::load;
 use crate::origins::told;
 use crate::papers::Papers;
 use crate::say;
-use crate::state::{Known, State, Tally};
+use crate::state::{BAD, Judged, Known, State, Tally};
 use crate::stop::{Status, Stop};
 use crate::surface::Surface;
+use crate::why::reasons;
 use dokphalun::{BLOCK_BYTES, Buffers, Kind, Record, Refusal};
 use std::num::NonZeroUsize;
 use std::path::{Path, PathBuf};
@@ -43,11 +44,15 @@ pub fn run(asked: &AskedFrames) -> Result<Status, Stop> {
         .readings()
         .map(|(_, reading)| reading.into())
         .collect();
-    let (surface, records) = (&surface, &records[..]);
+    let reasons = reasons(&surface, asked.threshold, &records);
     let known = Known {
-        surface,
-        records,
-        kind: Kind::New,
+        surface: &surface,
+        judged: Judged {
+            records: &records,
+            kind: Kind::New,
+            good: answer.good() as usize,
+        },
+        reasons: &reasons,
     };
     asked
         .papers
@@ -70,7 +75,7 @@ fn threads(surface: &Surface) -> NonZeroUsize {
 
 /// Prints what came out; the result is the exit status.
 fn summary(asked: &AskedFrames, known: &Known, blocks: usize, parts: usize) -> Status {
-    let tally = Tally::of(known.records, known.kind);
+    let tally = Tally::of(known.judged);
     let surface = known.surface;
     let total = tally.all();
     say::line("mesh", asked.mesh.display());
@@ -80,11 +85,10 @@ fn summary(asked: &AskedFrames, known: &Known, blocks: usize, parts: usize) -> S
     if parts > 1 {
         say::line("parts", format!("{parts}, of whole islands, one a core"));
     }
-    say::tally(
-        &tally,
-        &[State::Absent, State::NoDirection, State::NoOrigin],
-    );
-    say::line("origins", told(known.records, known.kind));
+    // a mesh has lost nothing
+    let lost = |state: &State| *state == State::Lost;
+    say::tally(&tally, BAD.into_iter().filter(|state| !lost(state)));
+    say::line("origins", told(known.judged));
     say::faces(known);
     let (records, blocks) = (say::counted(total, "record"), say::counted(blocks, "block"));
     let written = format!("{records} in {blocks}. Keep that number");

@@ -20,3 +20,4 @@ pub mod stop;
 pub mod surface;
 pub mod tank;
 pub mod whole;
+pub mod why;

@@ -28,7 +28,7 @@ const HELP: &str = "dokphalun: tangent frames of a scanned mesh. An absent readi
   dokphalun demo [FOLDER]
       Makes a tank, and runs `frames` and `read` on it. It leaves mesh, card, report and pictures in FOLDER (dokphalun-demo).
 
-Exit status: 0 every slot is present; or lists are written, or accepted. 2 the command line is not understood. 3 some corner has no frame. 4 the mesh is refused.
+Exit status: 0 every slot is present; or lists are written, or accepted. 2 the command line is not understood. 3 some corner has no frame, or none of use. 4 the mesh is refused.
 5 a file cannot be read. 6 a card has lost records, records that no answer has, or torn bytes. 7 a file cannot be written. 8 lists are not accepted.
 ";
 

@@ -3,15 +3,19 @@ use crate::meshfile::{bytes, load};
 use crate::origins::told;
 use crate::papers::Papers;
 use crate::say;
-use crate::state::{BAD, Known, State, Tally};
+use crate::state::{BAD, Judged, Known, Tally};
 use crate::stop::{Status, Stop};
 use crate::surface::Surface;
+use crate::why::reasons;
 use dokphalun::{BLOCK_BYTES, Buffers, Card, Kind, MOST_FACES, MOST_SLOTS, Record, Refusal};
 use std::path::{Path, PathBuf};
 
 /// The greatest total that is read here: the slots of every mesh, and a mistyped total does not take all memory.
 const MOST_RECORDS: u32 = 1_000_000;
 const _: () = assert!(MOST_SLOTS <= MOST_RECORDS as usize);
+
+/// The threshold with which the mesh is asked why corners are absent: a card does not say its own, and the reasons are the same with any.
+const ANY: f32 = -1.0;
 
 /// What is asked for.
 pub struct AskedRead {
@@ -40,10 +44,18 @@ pub fn run(asked: &AskedRead) -> Result<Status, Stop> {
         .read_card(&card, asked.total)
         .map_err(|refusal| Stop::unreadable(&asked.card, refusal))?;
     let records: Vec<Record> = read.records().collect();
-    let known = surface.as_ref().map(|surface| Known {
-        surface,
+    let judged = Judged {
         records: &records,
         kind: read.kind,
+        good: read.good(),
+    };
+    let why = surface
+        .as_ref()
+        .map(|surface| reasons(surface, ANY, &records));
+    let known = surface.as_ref().map(|surface| Known {
+        surface,
+        judged,
+        reasons: why.as_deref().unwrap_or_default(),
     });
     if let Some(known) = &known {
         asked.papers.write(known, &asked.card, None)?;
@@ -56,7 +68,7 @@ pub fn run(asked: &AskedRead) -> Result<Status, Stop> {
     );
     kind(&read);
     asked.papers.say();
-    Ok(summary(&read, &records, known.as_ref()))
+    Ok(summary(&read, judged, known.as_ref()))
 }
 
 /// Says of which kind a card is, and loudly if there is anything of the other on it.
@@ -104,11 +116,11 @@ fn mesh(path: &Path, total: u32) -> Result<Surface, Stop> {
 }
 
 /// Prints what was found; the result is the exit status.
-fn summary(card: &Card, records: &[Record], known: Option<&Known>) -> Status {
-    let (tally, torn) = (Tally::of(records, card.kind), card.torn);
-    say::line("records", records.len());
-    say::tally(&tally, &BAD);
-    say::line("origins", told(records, card.kind));
+fn summary(card: &Card, judged: Judged, known: Option<&Known>) -> Status {
+    let (tally, torn) = (Tally::of(judged), card.torn);
+    say::line("records", judged.records.len());
+    say::tally(&tally, BAD);
+    say::line("origins", told(judged));
     match torn {
         0 => say::line("torn bytes", 0),
         _ => say::loud(
@@ -116,10 +128,10 @@ fn summary(card: &Card, records: &[Record], known: Option<&Known>) -> Status {
             format!("{torn} past the last whole block that the total calls for"),
         ),
     }
-    blocks(records, card.kind);
+    blocks(judged.records, card.kind);
     match known {
         Some(known) => say::faces(known),
-        None => places(records, card.kind),
+        None => places(judged),
     }
     if tally.lost > 0 && tally.lost == tally.all() {
         say::loud(
@@ -153,12 +165,10 @@ fn blocks(records: &[Record], kind: Kind) {
 }
 
 /// The records that are not good, by their numbers, where no mesh says which faces they are.
-fn places(records: &[Record], kind: Kind) {
+fn places(judged: Judged) {
     for state in BAD {
-        let here = records
-            .iter()
-            .enumerate()
-            .filter(|(_, record)| State::of(record, kind) == state);
+        let all = judged.states().enumerate();
+        let here = all.filter(|(_, is)| *is == state);
         let text = say::ranges(here.map(|(number, _)| number));
         if !text.is_empty() {
             say::loud(

@@ -1,18 +1,18 @@
 //! The report: a row of comma-separated values for each corner. What is not there is left empty, and is never a zero.
 use crate::state::{Known, State};
-use dokphalun::{Frame, Kind, Place, Record, corners, takes_slots};
+use dokphalun::{Flawed, Frame, Origin, Place, Record, corners, takes_slots};
 use std::fmt::Write;
 
 /// The names of the columns.
-const TITLES: &str = "face,corner,slot,reading,tangent_x,tangent_y,tangent_z,bitangent_x,bitangent_y,bitangent_z,mag_s,mag_t,orientation,origin,behind\n";
+const TITLES: &str = "face,corner,slot,reading,tangent_x,tangent_y,tangent_z,bitangent_x,bitangent_y,bitangent_z,mag_s,mag_t,orientation,origin,behind,reason\n";
 
-/// What follows the reading where there is no frame: nothing, in each column.
-const NOTHING: &str = ",,,,,,,,,,,";
+/// What stands between the reading and the reason where there is no frame: nothing, in each column.
+const NOTHING: &str = ",,,,,,,,,,";
 
 /// The report's text.
 pub fn report(known: &Known) -> String {
     let mut text = String::from(TITLES);
-    let mut records = known.records.iter().enumerate();
+    let mut slots = 0..known.judged.records.len();
     for place in corners(&known.surface.sizes) {
         let size = known
             .surface
@@ -21,39 +21,55 @@ pub fn report(known: &Known) -> String {
             .copied()
             .unwrap_or_default();
         let slot = match takes_slots(size) {
-            true => records.next(),
+            true => slots.next(),
             false => None,
         };
-        text.push_str(&row(place, slot, known.kind));
+        text.push_str(&row(known, place, slot));
     }
     text
 }
 
-/// The row of a corner and its slot of a kind, if it has one.
-fn row(Place { face, corner }: Place, slot: Option<(usize, &Record)>, kind: Kind) -> String {
-    let Some((slot, record)) = slot else {
-        return format!("{face},{corner},,NO SLOT{NOTHING}\n");
+/// The row of a corner and its slot, if it has one.
+fn row(known: &Known, Place { face, corner }: Place, slot: Option<usize>) -> String {
+    let Some(slot) = slot else {
+        return format!("{face},{corner},,NO SLOT,{NOTHING},\n");
     };
-    let state = State::of(record, kind);
-    let word = state.word();
-    match record {
-        Record::Present(frame) if state != State::NoOrigin => {
-            format!("{face},{corner},{slot},{word},{}\n", numbers(frame))
-        }
-        _ => format!("{face},{corner},{slot},{word}{NOTHING}\n"),
-    }
+    let record = &known.judged.records[slot];
+    let state = State::of(record, known.judged.kind);
+    let held = match (state, record) {
+        (State::NoOrigin, _) | (_, Record::Lost | Record::Absent) => NOTHING.into(),
+        (_, Record::Present(frame)) => numbers(frame),
+        (_, Record::Blank(frame) | Record::Long(frame) | Record::Short(frame)) => bits(frame),
+    };
+    let reason = known.reasons.get(slot).copied().flatten();
+    let reason = reason.filter(|_| state == State::Absent);
+    let reason = reason.map_or("", |reason| reason.words());
+    format!("{face},{corner},{slot},{},{held},{reason}\n", state.word())
 }
 
-/// The numbers of a frame, shortest text that reads back the same; where it comes from in words, and how many triangles stand behind it,
-/// empty where that is not recorded.
-fn numbers(frame: &Frame) -> String {
+/// What a frame holds: eight numbers, shortest text that reads back the same; the orientation; where it comes from in words, and how many
+/// triangles stand behind it, empty where that is not recorded.
+fn columns(numbers: [f32; 8], turn: u32, origin: Origin, behind: Option<u32>) -> String {
     let mut text = String::new();
-    let all = frame.tangent.iter().chain(&frame.bitangent);
-    for number in all.chain([&frame.mag_s, &frame.mag_t]) {
+    for number in numbers {
         // writing to a string does not fail
         let _ = write!(text, "{number},");
     }
-    let behind = frame.behind.map(|count| count.to_string());
-    let (turn, behind) = (u8::from(frame.preserving), behind.unwrap_or_default());
-    text + &format!("{turn},{},{behind}", frame.origin.word())
+    let behind = behind.map(|count| count.to_string()).unwrap_or_default();
+    text + &format!("{turn},{},{behind}", origin.word())
+}
+
+/// Those of a frame.
+fn numbers(frame: &Frame) -> String {
+    let ([a, b, c], [d, e, f]) = (frame.tangent, frame.bitangent);
+    let numbers = [a, b, c, d, e, f, frame.mag_s, frame.mag_t];
+    let turn = u32::from(frame.preserving);
+    columns(numbers, turn, frame.origin, frame.behind)
+}
+
+/// Those of a frame that is of no use: its reading says so, and they are there to be looked at.
+fn bits(frame: &Flawed) -> String {
+    let [numbers @ .., turn] = frame.bits();
+    let numbers = numbers.map(f32::from_bits);
+    columns(numbers, turn, frame.origin(), frame.behind())
 }

@@ -1,8 +1,8 @@
 //! What is printed: counts, and each corner that is not good, loudly.
-use crate::cause::cause;
+use crate::cause::{cause, lacking};
 use crate::state::{BAD, Known, State, Tally};
 use crate::stop::Status;
-use dokphalun::Frame;
+use dokphalun::{Place, Record};
 use std::fmt::Display;
 use std::io::{IsTerminal, Write, stderr, stdout};
 use std::path::Path;
@@ -26,12 +26,12 @@ pub fn loud(name: &str, what: impl Display) {
 }
 
 /// The counts of records; those that are not good are loud where there are any.
-pub fn tally(tally: &Tally, states: &[State]) {
+pub fn tally(tally: &Tally, states: impl IntoIterator<Item = State>) {
     line("present", tally.present);
     for state in states {
-        match tally.count(*state) {
+        match tally.count(state) {
             // an old card's frames have none, and that is no fault of theirs
-            0 if *state == State::NoOrigin => (),
+            0 if state == State::NoOrigin => (),
             0 => line(&state.word().to_lowercase(), 0),
             count => loud(state.word(), count),
         }
@@ -56,7 +56,7 @@ pub fn quoted(path: &Path) -> String {
     }
 }
 
-/// Each face with a corner that is not good: which corners, where the face stands in its file, and the likely cause.
+/// Each face with a corner that is not good: which corners, why, and where the face stands in its file.
 /// Faces and corners are counted from 0.
 pub fn faces(known: &Known) {
     if BAD.iter().any(|state| !known.faces(*state).is_empty()) {
@@ -65,14 +65,12 @@ pub fn faces(known: &Known) {
     let starts = known.surface.starts();
     let spot = |face: usize| format!("{} of the mesh", known.surface.spots[face]);
     for state in BAD {
-        for (face, corners) in known.faces(state) {
+        let why = |slot, place: Place| match state {
+            State::Absent => absent(known, slot, place.face, starts[place.face]),
+            _ => bad(&known.judged.records[slot], state).into(),
+        };
+        for (face, why, corners) in known.told(state, why) {
             let corners: Vec<String> = corners.iter().map(usize::to_string).collect();
-            let why = match state {
-                State::Absent => cause(known.surface, face, starts[face]),
-                State::NoDirection => undirected(known, face),
-                State::NoOrigin => NO_ORIGIN,
-                _ => "not on the card: nothing is known",
-            };
             let which = format!("face {face}, corner {}", corners.join(" "));
             loud(state.word(), format!("{which}: {why} ({})", spot(face)));
         }
@@ -84,23 +82,34 @@ pub fn faces(known: &Known) {
     }
 }
 
+/// Why a slot of a face, which starts there, is absent: the archive's reason, and the likely cause. Where the mesh has a frame there, the
+/// card is not of that mesh.
+fn absent(known: &Known, slot: usize, face: usize, start: usize) -> String {
+    let hint = format!("likely cause: {}", cause(known.surface, face, start));
+    match known.reasons.get(slot) {
+        Some(Some(reason)) => format!("{}; {hint}", reason.words()),
+        Some(None) => "this mesh has a frame there: is the card of another one?".into(),
+        None => hint,
+    }
+}
+
+/// Why a record is in a state that is neither good nor absent.
+fn bad(record: &Record, state: State) -> &'static str {
+    match (state, record) {
+        (State::NoDirection, Record::Blank(frame)) => lacking(frame),
+        (State::TooShort, _) => TOO_SHORT,
+        (State::TooLong, _) => TOO_LONG,
+        (State::NoOrigin, _) => NO_ORIGIN,
+        _ => "not on the card: nothing is known",
+    }
+}
+
 /// What is said of frames of a new card without origin.
 const NO_ORIGIN: &str = "the card's words for origin and count are none that an answer has: nothing is known, write the card again from the mesh";
 
-/// Why a face's frames have no direction. In a frame that is made here it is zero; a card of an older edition can hold others.
-fn undirected(known: &Known, face: usize) -> &'static str {
-    let finite = |frame: &Frame| {
-        let numbers = frame.tangent.iter().chain(&frame.bitangent);
-        numbers.copied().all(f32::is_finite)
-    };
-    let mut frames = known.frames().filter(|(place, _)| place.face == face);
-    match frames.all(|(_, frame)| finite(frame)) {
-        true => {
-            "a direction is zero: a normal lies along it, or numbers are too large or too small for single precision"
-        }
-        false => "a direction is no finite number: the card is of an older edition",
-    }
-}
+/// What is said of frames that are too long or too short to be packed.
+const TOO_LONG: &str = "a direction is longer than 1: numbers are too large or too small for single precision; a viewer would be shown nothing";
+const TOO_SHORT: &str = "a direction is next to nothing: numbers are too large or too small for single precision; a viewer would be shown zeros";
 
 /// What holds of everything that is not good.
 pub const NOT_GOOD: &str = "An absent reading is not a good reading.";

@@ -1,15 +1,19 @@
-//! What is known of a corner, in one word; and how many corners there are of each.
+//! What is known of a corner, in one word, by the archive's verdict; and how many corners there are of each.
 use crate::stop::Status;
 use crate::surface::Surface;
-use dokphalun::{Frame, Kind, Origin, Place, Record, slots, takes_slots};
+use dokphalun::{Frame, Kind, Origin, Place, Reason, Record, slots, takes_slots};
 
 /// What is known of a corner. Only the first is good.
 #[derive(Clone, Copy, Debug, PartialEq, Eq)]
 pub enum State {
-    /// It has a frame.
+    /// It has a frame, and that is good.
     Present,
-    /// It has a frame in which a direction is zero; on a card of an older edition it may be no finite number.
+    /// It has a frame without two directions, or without an orientation.
     NoDirection,
+    /// It has a frame with a direction so short that it is packed as zeros.
+    TooShort,
+    /// It has a frame with a direction so long that it is packed as absent.
+    TooLong,
     /// It has no frame.
     Absent,
     /// A card of the new kind has a frame of it that comes from nowhere, or from no triangle: no answer has such a one.
@@ -19,24 +23,32 @@ pub enum State {
 }
 
 /// The states that are not good, worst last.
-pub const BAD: [State; 4] = [
+pub const BAD: [State; 6] = [
     State::NoDirection,
+    State::TooShort,
+    State::TooLong,
     State::Absent,
     State::NoOrigin,
     State::Lost,
 ];
 
+/// The states of frames that are there and of no use, as the archive judges them.
+pub const FLAWED: [State; 3] = [State::NoDirection, State::TooShort, State::TooLong];
+
 impl State {
-    /// What is known of a record of a kind.
+    /// What is known of a record of a kind: the archive's verdict. A frame that no answer has is worse, whatever that is.
     pub fn of(record: &Record, kind: Kind) -> State {
-        match record {
-            Record::Lost => State::Lost,
-            Record::Absent => State::Absent,
-            Record::Present(frame) if kind == Kind::New && !from_somewhere(frame) => {
-                State::NoOrigin
-            }
-            Record::Present(frame) if frame.directed() => State::Present,
-            Record::Present(_) => State::NoDirection,
+        let (judged, origin, behind) = match record {
+            Record::Lost => return State::Lost,
+            Record::Absent => return State::Absent,
+            Record::Present(frame) => (State::Present, frame.origin, frame.behind),
+            Record::Blank(frame) => (State::NoDirection, frame.origin(), frame.behind()),
+            Record::Short(frame) => (State::TooShort, frame.origin(), frame.behind()),
+            Record::Long(frame) => (State::TooLong, frame.origin(), frame.behind()),
+        };
+        match kind == Kind::New && !from_somewhere(origin, behind) {
+            true => State::NoOrigin,
+            false => judged,
         }
     }
 
@@ -45,6 +57,8 @@ impl State {
         match self {
             State::Present => "present",
             State::NoDirection => "NO DIRECTION",
+            State::TooShort => "TOO SHORT",
+            State::TooLong => "TOO LONG",
             State::Absent => "ABSENT",
             State::NoOrigin => "NO ORIGIN",
             State::Lost => "LOST",
@@ -53,44 +67,76 @@ impl State {
 }
 
 /// Whether a frame says where it comes from, and that some triangle stands behind it: of every answer's frames both is proved.
-fn from_somewhere(frame: &Frame) -> bool {
-    frame.origin != Origin::NotRecorded && frame.behind != Some(0)
+fn from_somewhere(origin: Origin, behind: Option<u32>) -> bool {
+    origin != Origin::NotRecorded && behind != Some(0)
+}
+
+/// Slots or records, as the archive judged them.
+#[derive(Clone, Copy)]
+pub struct Judged<'a> {
+    pub records: &'a [Record],
+    /// How wide the records are: old ones say nothing of origins, and need not.
+    pub kind: Kind,
+    /// How many of them the archive counts as good.
+    pub good: usize,
+}
+
+impl<'a> Judged<'a> {
+    /// The state of each.
+    pub fn states(self) -> impl Iterator<Item = State> + use<'a> {
+        let records = self.records.iter();
+        records.map(move |record| State::of(record, self.kind))
+    }
 }
 
 /// A mesh and what is known of each of its slots.
 pub struct Known<'a> {
     pub surface: &'a Surface,
-    pub records: &'a [Record],
-    /// How wide its records are: old ones say nothing of origins, and need not.
-    pub kind: Kind,
+    pub judged: Judged<'a>,
+    /// Why each slot of the mesh is absent, where that was asked; else nothing.
+    pub reasons: &'a [Option<Reason>],
 }
 
 impl Known<'_> {
-    /// Each slot: its face and corner, and its record.
-    pub fn slots(&self) -> impl Iterator<Item = (Place, &Record)> {
-        slots(&self.surface.sizes).zip(self.records)
+    /// Each slot: its face and corner, and its state.
+    fn states(&self) -> impl Iterator<Item = (Place, State)> {
+        slots(&self.surface.sizes).zip(self.judged.states())
     }
 
-    /// Each slot with a frame, by its face and corner; a frame that comes from nowhere is none.
+    /// Each slot that is present, by its face and corner, with its frame.
     pub fn frames(&self) -> impl Iterator<Item = (Place, &Frame)> {
-        self.slots().filter_map(|(place, record)| match record {
-            Record::Present(frame) if State::of(record, self.kind) != State::NoOrigin => {
-                Some((place, frame))
-            }
+        let present = self.states().zip(self.judged.records);
+        present.filter_map(|slot| match slot {
+            ((place, State::Present), Record::Present(frame)) => Some((place, frame)),
             _ => None,
         })
     }
 
     /// The corners of each face that are in some state, face by face.
     pub fn faces(&self, state: State) -> Vec<(usize, Vec<usize>)> {
-        let mut faces: Vec<(usize, Vec<usize>)> = Vec::new();
-        for (place, _) in self
-            .slots()
-            .filter(|(_, record)| State::of(record, self.kind) == state)
-        {
-            match faces.last_mut() {
-                Some((face, corners)) if *face == place.face => corners.push(place.corner),
-                _ => faces.push((place.face, vec![place.corner])),
+        let faces = self.told(state, |_, _| ());
+        faces
+            .into_iter()
+            .map(|(face, (), corners)| (face, corners))
+            .collect()
+    }
+
+    /// The same, of each face by what is told of a slot and its place.
+    pub fn told<T: PartialEq>(
+        &self,
+        state: State,
+        tell: impl Fn(usize, Place) -> T,
+    ) -> Vec<(usize, T, Vec<usize>)> {
+        let mut faces: Vec<(usize, T, Vec<usize>)> = Vec::new();
+        let here = self.states().enumerate();
+        for (slot, (place, _)) in here.filter(|(_, (_, here))| *here == state) {
+            let told = tell(slot, place);
+            let same =
+                |(face, other, _): &&mut (usize, T, _)| *face == place.face && *other == told;
+            // a face has no more than four corners here
+            match faces.iter_mut().rev().take(4).find(same) {
+                Some((_, _, corners)) => corners.push(place.corner),
+                None => faces.push((place.face, told, vec![place.corner])),
             }
         }
         faces
@@ -110,18 +156,25 @@ impl Known<'_> {
 pub struct Tally {
     pub present: usize,
     pub no_direction: usize,
+    pub too_short: usize,
+    pub too_long: usize,
     pub absent: usize,
     pub no_origin: usize,
     pub lost: usize,
+    /// How many the archive counts as good, whatever is counted above.
+    pub good: usize,
 }
 
 impl Tally {
-    /// Counts records of a kind.
-    pub fn of(records: &[Record], kind: Kind) -> Tally {
-        let mut tally = Tally::default();
-        for record in records {
-            *tally.of_state_mut(State::of(record, kind)) += 1;
-        }
+    /// Counts records.
+    pub fn of(judged: Judged) -> Tally {
+        let mut tally = Tally {
+            good: judged.good,
+            ..Tally::default()
+        };
+        judged
+            .states()
+            .for_each(|state| *tally.of_state_mut(state) += 1);
         tally
     }
 
@@ -129,6 +182,8 @@ impl Tally {
         match state {
             State::Present => &mut self.present,
             State::NoDirection => &mut self.no_direction,
+            State::TooShort => &mut self.too_short,
+            State::TooLong => &mut self.too_long,
             State::Absent => &mut self.absent,
             State::NoOrigin => &mut self.no_origin,
             State::Lost => &mut self.lost,
@@ -142,19 +197,18 @@ impl Tally {
 
     /// How many there are.
     pub fn all(&self) -> usize {
-        self.present + self.no_direction + self.absent + self.no_origin + self.lost
+        let bad = BAD.iter().map(|state| self.count(*state));
+        self.present + bad.sum::<usize>()
     }
 
-    /// The exit status: good only where there is a slot and each is present; so many faces have none.
+    /// The exit status: good only where there is a slot, the archive counts every one as good, and so many faces without slots are none.
+    /// What no answer has, or is lost, makes it worse.
     pub fn status(&self, without_slots: usize) -> Status {
+        let all_good = self.all() > 0 && self.good == self.all();
         match self {
             Tally { lost: 1.., .. } | Tally { no_origin: 1.., .. } => Status::Lost,
-            Tally { absent: 1.., .. }
-            | Tally {
-                no_direction: 1.., ..
-            } => Status::Absent,
-            _ if self.present == 0 || without_slots > 0 => Status::Absent,
-            _ => Status::Good,
+            _ if all_good && without_slots == 0 => Status::Good,
+            _ => Status::Absent,
         }
     }
 }

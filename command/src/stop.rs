@@ -9,7 +9,7 @@ pub enum Status {
     Good = 0,
     /// The command line is not understood.
     Usage = 2,
-    /// Some corner has no frame.
+    /// Some corner has no frame, or none that is good.
     Absent = 3,
     /// The mesh is refused.
     Refused = 4,

@@ -51,7 +51,7 @@ fn lost_blocks_are_never_good() {
     ran.ends(6, "LOST BLOCKS   1\n");
     ran.ends(6, "LOST          face 3, corner 0 1 2 3: not on the card");
     ran.ends(6, "10 LOST; 14 of 24 slots present");
-    assert!(room.text("b.csv").contains("\n3,0,12,LOST,,,,,,,,,,,\n"));
+    assert!(room.text("b.csv").contains("\n3,0,12,LOST,,,,,,,,,,,,\n"));
     assert!(room.text("b.svg").contains("<path fill=\"url(#lost)\""));
 }
 

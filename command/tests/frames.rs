@@ -57,14 +57,19 @@ fn an_absent_corner_is_loud_everywhere() {
     room.put("a.ply", ABSENT);
     let ran = room.run("frames a.ply -o a.card --report a.csv --picture a.svg");
     ran.ends(3, "ABSENT        3\n");
-    ran.ends(3, "ABSENT        face 1, corner 0 1 2: its texture coordinates enclose no area (line 22 of the mesh)");
+    ran.ends(3, "ABSENT        face 1, corner 0 1 2: all its triangles are group_with_any and no group reached it; likely cause: its texture coordinates enclose no area (line 22 of the mesh)");
     ran.ends(3, "An absent reading is not a good reading.");
     let report = room.text("a.csv");
     assert!(
-        report.contains("\n0,0,0,present,1,0,0,0,1,0,1,1,1,single,1\n"),
+        report.contains("\n0,0,0,present,1,0,0,0,1,0,1,1,1,single,1,\n"),
         "{report}"
     );
-    assert!(report.contains("\n1,0,3,ABSENT,,,,,,,,,,,\n"), "{report}");
+    assert!(
+        report.contains(
+            "\n1,0,3,ABSENT,,,,,,,,,,,,all its triangles are group_with_any and no group reached it\n"
+        ),
+        "{report}"
+    );
     assert!(
         room.text("a.svg")
             .contains("<title>ABSENT: 3 of the corners of face 1</title>")
@@ -86,7 +91,7 @@ fn a_frame_without_a_direction_is_not_good() {
     );
     assert!(
         room.text("a.csv")
-            .contains("\n0,0,0,NO DIRECTION,0,0,0,0,1,0,1,1,1,combined,4\n")
+            .contains("\n0,0,0,NO DIRECTION,0,0,0,0,1,0,1,1,1,combined,4,\n")
     );
     assert!(
         room.text("a.svg")
@@ -108,9 +113,12 @@ fn a_face_too_large_for_single_precision_is_absent() {
     let ran = room.run("frames far.ply -o far.card --report far.csv");
     ran.ends(
         3,
-        "ABSENT        face 0, corner 0 1 2: its texture or its sides are too small or too large for single precision",
+        "ABSENT        face 0, corner 0 1 2: all its triangles are group_with_any and no group reached it; likely cause: its texture or its sides are too small or too large for single precision",
     );
-    assert!(room.text("far.csv").contains("\n0,0,0,ABSENT,,,,,,,,,,,\n"));
+    assert!(
+        room.text("far.csv")
+            .contains("\n0,0,0,ABSENT,,,,,,,,,,,,all its triangles are")
+    );
 }
 
 #[test]
@@ -122,7 +130,7 @@ fn a_face_without_slots_is_not_good() {
     ran.ends(3, "NO SLOT       face 3: 5 corners");
     assert!(
         room.text("five.csv")
-            .contains("\n3,4,,NO SLOT,,,,,,,,,,,\n")
+            .contains("\n3,4,,NO SLOT,,,,,,,,,,,,\n")
     );
     room.put("only.ply", shapes::ply_text(&[FIVE]));
     room.run("frames only.ply -o only.card")

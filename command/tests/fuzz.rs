@@ -2,8 +2,9 @@
 //! corner accounted for. DOKPHALUN_FUZZ_SECONDS says for how long (2 where it is not set), DOKPHALUN_FUZZ_SEED from where.
 use command::picture::picture;
 use command::report::report;
-use command::state::{Known, Tally};
+use command::state::{Judged, Known, Tally};
 use command::surface::Surface;
+use command::why::reasons;
 use command::{obj, ply, tank};
 use dokphalun::{Buffers, Kind, Record};
 use models::files as shapes;
@@ -155,11 +156,15 @@ impl Ends {
         };
         let readings = answer.readings();
         let records: Vec<Record> = readings.map(|(_, reading)| reading.into()).collect();
-        let records = &records[..];
+        let judged = Judged {
+            records: &records,
+            kind: Kind::New,
+            good: answer.good() as usize,
+        };
         let known = Known {
             surface,
-            records,
-            kind: Kind::New,
+            judged,
+            reasons: &reasons(surface, -1.0, &records),
         };
         let rows = report(&known).lines().count();
         assert_eq!(rows, 1 + surface.positions.len(), "a corner has no row");
@@ -168,7 +173,7 @@ impl Ends {
             assert!(picture(&known, "fuzz", origins).ends_with("</svg>\n"));
         }
         self.answers += 1;
-        self.with_absent += u64::from(Tally::of(records, Kind::New).absent > 0);
+        self.with_absent += u64::from(Tally::of(judged).absent > 0);
     }
 
     /// Both together.

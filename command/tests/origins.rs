@@ -10,7 +10,7 @@ use room::{Ran, Room};
 const MESH: &str = include_str!("../../bindings/rust/tests/old/steel.ply");
 const CARD: &[u8] = include_bytes!("../../bindings/rust/tests/old/steel.card");
 
-/// The last two columns of its report: each slot's origin, and how many triangles stand behind it.
+/// Two columns of its report: each slot's origin, and how many triangles stand behind it.
 const ORIGINS: [&str; 17] = [
     "combined,4",
     "single,2",
@@ -44,9 +44,10 @@ fn steel(name: &str) -> Room {
     room
 }
 
-/// The rows of a report without its titles, each cut before its last two columns.
+/// The rows of a report without its titles, each cut before the columns of origin and count, and without the reason behind them.
 fn rows(report: &str) -> Vec<(String, String)> {
     let rows = report.lines().skip(1).map(|row| {
+        let (row, _) = row.rsplit_once(',').expect("a reason");
         let (at, _) = row.rmatch_indices(',').nth(1).expect("two columns");
         (row[..at].to_string(), row[at + 1..].to_string())
     });
@@ -62,13 +63,13 @@ fn the_report_says_where_frames_come_from() {
             .lines()
             .next()
             .unwrap()
-            .ends_with(",orientation,origin,behind")
+            .ends_with(",orientation,origin,behind,reason")
     );
     let origins: Vec<String> = rows(&report).into_iter().map(|(_, last)| last).collect();
     assert_eq!(origins, ORIGINS);
     // each row has a value or nothing in every column
     let columns = |row: &str| row.matches(',').count();
-    assert!(report.lines().all(|row| columns(row) == 14), "{report}");
+    assert!(report.lines().all(|row| columns(row) == 15), "{report}");
     let ran = room.run("read new.card --total 17 --mesh steel.ply --report again.csv");
     ran.ends(
         3,
@@ -204,7 +205,7 @@ fn a_new_card_s_frame_that_comes_from_nowhere_is_loud_and_never_good() {
         );
         assert!(
             room.text("b.csv")
-                .contains("\n3,1,13,NO ORIGIN,,,,,,,,,,,\n")
+                .contains("\n3,1,13,NO ORIGIN,,,,,,,,,,,,\n")
         );
         assert!(room.text("b.svg").contains(">NO ORIGIN (1)<"));
     }

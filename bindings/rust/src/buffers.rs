@@ -4,13 +4,19 @@ use crate::islands::{Batch, Own};
 use crate::mesh::{MOST_FACES, Mesh, Place, slots, takes_slots};
 use crate::reading::Reading;
 use crate::refusal::{CardRefusal, Refusal};
-use dokphalun_sys::{self as archive, OLD_SLOT_WORDS, SLOT_WORDS, WORK_WORDS};
+use crate::verdicts::judge;
+use dokphalun_sys::{self as archive, OLD_SLOT_WORDS, SLOT_WORDS, WORK_WORDS, verdict};
 
 /// The lists that are lent to the archive. They grow to what the largest call needed, and are used again.
 #[derive(Debug, Default)]
 pub struct Buffers {
     pub(crate) answer: Vec<u32>,
     pub(crate) work: Vec<u32>,
+    /// The verdict on each slot or record, and how many are good.
+    verdicts: Vec<u8>,
+    good: usize,
+    /// Why slots are absent.
+    pub(crate) reasons: Vec<u8>,
     /// The islands' own lists.
     pub(crate) own: Own,
     /// What is handed to each thread.
@@ -25,19 +31,33 @@ impl Buffers {
 
     /// The frames of a mesh. The threshold is the cosine of the angle up to which tangents are joined; -1 sets no limit.
     pub fn frames<'a>(&'a mut self, mesh: Mesh<'a>, threshold: f32) -> Result<Answer<'a>, Refusal> {
+        self.make(mesh, threshold)?;
+        Ok(self.judged().answer(mesh.sizes, 1))
+    }
+
+    /// Makes the frames of a mesh, and does not judge them.
+    pub(crate) fn make(&mut self, mesh: Mesh, threshold: f32) -> Result<(), Refusal> {
         self.lend(mesh.sizes);
         let outcome = archive::frames(mesh.flat(), threshold, &mut self.answer, &mut self.work);
         match Refusal::of(outcome.number, outcome.place, mesh.sizes) {
             Some(refusal) => Err(refusal),
-            None => Ok(self.answer(mesh.sizes, 1)),
+            None => Ok(()),
         }
     }
 
-    /// The answer of faces of these sizes, made in so many parts.
+    /// Has the archive judge each slot that was made.
+    pub(crate) fn judged(&mut self) -> &Buffers {
+        self.good = judge(Kind::New, &self.answer, &mut self.verdicts);
+        self
+    }
+
+    /// The answer of faces of these sizes, made in so many parts and judged.
     pub(crate) fn answer<'a>(&'a self, sizes: &'a [u8], parts: usize) -> Answer<'a> {
         Answer {
             sizes,
             words: &self.answer,
+            verdicts: &self.verdicts,
+            good: self.good,
             parts,
         }
     }
@@ -73,11 +93,18 @@ impl Buffers {
         of_other_kind: usize,
     ) -> Result<Card<'_>, CardRefusal> {
         let torn = read_as(kind, card, total, &mut self.answer)?;
-        Ok(Card::of(&self.answer, kind, torn, of_other_kind))
+        let records = total as usize;
+        self.verdicts.clear();
+        let room = self.verdicts.try_reserve_exact(records);
+        room.map_err(|_| CardRefusal::NoMemory { records })?;
+        let good = judge(kind, &self.answer, &mut self.verdicts);
+        let (words, verdicts) = (&self.answer, &self.verdicts);
+        Ok(Card::of(words, verdicts, good, kind, torn, of_other_kind))
     }
 
-    /// Makes both lists as long as faces of these sizes need; past the limit, where all is refused, no longer than at it.
-    pub(crate) fn lend(&mut self, sizes: &[u8]) {
+    /// Makes both lists as long as faces of these sizes need; past the limit, where all is refused, no longer than at it. The result is
+    /// how many slots there is room for.
+    pub(crate) fn lend(&mut self, sizes: &[u8]) -> usize {
         let sizes = &sizes[..sizes.len().min(MOST_FACES)];
         let with_slots = sizes.iter().filter(|&&size| takes_slots(size));
         let slots: usize = with_slots.map(|&size| usize::from(size)).sum();
@@ -85,6 +112,7 @@ impl Buffers {
         if self.work.len() < sizes.len() * WORK_WORDS {
             self.work.resize(sizes.len() * WORK_WORDS, 0);
         }
+        slots
     }
 }
 
@@ -93,21 +121,29 @@ impl Buffers {
 pub struct Answer<'a> {
     sizes: &'a [u8],
     words: &'a [u32],
+    verdicts: &'a [u8],
+    good: usize,
     parts: usize,
 }
 
 impl<'a> Answer<'a> {
     /// Each slot: its face and corner, and what is known of it.
     pub fn readings(&self) -> impl Iterator<Item = (Place, Reading)> + Clone + use<'a> {
-        let slots_words = self.words.as_chunks().0.iter();
-        slots(self.sizes).zip(slots_words.map(Reading::of))
+        let judged = self.words.chunks_exact(SLOT_WORDS).zip(self.verdicts);
+        let readings = judged.map(|(words, &verdict)| Reading::of(words, verdict));
+        slots(self.sizes).zip(readings)
     }
 
     /// The corners that have no frame.
     pub fn absent(&self) -> impl Iterator<Item = Place> + Clone + use<'a> {
-        self.readings()
-            .filter(|(_, reading)| *reading == Reading::Absent)
-            .map(|(place, _)| place)
+        let judged = slots(self.sizes).zip(self.verdicts);
+        let absent = judged.filter(|(_, byte)| **byte == verdict::ABSENT);
+        absent.map(|(place, _)| place)
+    }
+
+    /// How many slots are good, as the archive counts them: all are exactly where this is [`Answer::total`].
+    pub fn good(&self) -> u32 {
+        self.good as u32
     }
 
     /// How many slots there are. A reader of the card has to be told this number.
@@ -120,7 +156,8 @@ impl<'a> Answer<'a> {
         self.parts
     }
 
-    /// The twelve words of each slot, as the archive wrote them. An absent slot is twelve zeros: ask word 0 first.
+    /// The twelve words of each slot, as the archive wrote them. An absent slot is twelve zeros, and a slot that
+    /// says it is there need not be good: [`Answer::readings`] says which is.
     pub fn words(&self) -> &'a [u32] {
         self.words
     }

@@ -1,7 +1,7 @@
 //! Answers to a card and back. Cards are of two kinds; what is said of no kind is said of the new one.
 use crate::reading::Record;
 use crate::refusal::CardRefusal;
-use dokphalun_sys::{self as archive, OLD_SLOT_WORDS, SLOT_WORDS};
+use dokphalun_sys::{self as archive, OLD_SLOT_WORDS, SLOT_WORDS, verdict};
 
 pub use archive::BLOCK_BYTES;
 
@@ -122,6 +122,8 @@ pub fn append_blocks_as(
 #[derive(Clone, Copy, Debug)]
 pub struct Card<'a> {
     words: &'a [u32],
+    verdicts: &'a [u8],
+    good: usize,
     /// The kind that it was read as.
     pub kind: Kind,
     /// How many bytes stand past the last whole block that the total calls for.
@@ -134,20 +136,34 @@ impl<'a> Card<'a> {
     /// Each record, in the order of the slots.
     pub fn records(&self) -> impl ExactSizeIterator<Item = Record> + Clone + use<'a> {
         let words = self.words.chunks_exact(self.kind.record_words());
-        words.map(Record::of)
+        let judged = words.zip(self.verdicts);
+        judged.map(|(words, &verdict)| Record::of(words, verdict))
     }
 
     /// How many records are found: all but the lost ones.
     pub fn found(&self) -> usize {
-        self.records()
-            .filter(|record| *record != Record::Lost)
-            .count()
+        let lost = |byte: &&u8| **byte == verdict::LOST;
+        self.verdicts.len() - self.verdicts.iter().filter(lost).count()
     }
 
-    /// The card of a list of words as the archive left it.
-    pub(crate) fn of(words: &'a [u32], kind: Kind, torn: usize, of_other_kind: usize) -> Card<'a> {
+    /// How many records are good, as the archive counts them.
+    pub fn good(&self) -> usize {
+        self.good
+    }
+
+    /// The card of a list of words as the archive left it, and judged it.
+    pub(crate) fn of(
+        words: &'a [u32],
+        verdicts: &'a [u8],
+        good: usize,
+        kind: Kind,
+        torn: usize,
+        of_other_kind: usize,
+    ) -> Card<'a> {
         Card {
             words,
+            verdicts,
+            good,
             kind,
             torn,
             of_other_kind,

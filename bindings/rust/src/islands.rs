@@ -64,7 +64,7 @@ impl Batch {
             normals: &self.normals,
             texture: &self.texture,
         };
-        self.refused = self.buffers.frames(part, threshold).is_err();
+        self.refused = self.buffers.make(part, threshold).is_err();
     }
 
     /// Puts each frame in its place: the slots of a face start at that number.
@@ -107,7 +107,7 @@ impl Buffers {
         let said = archive::frames_by_islands(mesh.flat(), threshold, answer, work, own);
         match Refusal::of(said.number, said.place, mesh.sizes) {
             Some(refusal) => Err(refusal),
-            None => Ok(self.answer(mesh.sizes, 1)),
+            None => Ok(self.judged().answer(mesh.sizes, 1)),
         }
     }
 
@@ -139,7 +139,7 @@ impl Buffers {
         for batch in &self.batches[..parts] {
             batch.scatter(&slot_starts, &mut self.answer);
         }
-        Ok(self.answer(mesh.sizes, parts))
+        Ok(self.judged().answer(mesh.sizes, parts))
     }
 
     /// Deals the islands of a mesh to at most so many batches; how many have any. None where the mesh is refused.

@@ -9,10 +9,15 @@ const STEEL: &[u8] = include_bytes!("old/steel.card");
 /// Its letters: present or absent.
 const STEEL_LETTERS: &str = "ppppppppppaaapppp";
 
+/// The bits of a half, and of those numbers next to it that tell a record's number.
+fn half(number: u32) -> u32 {
+    0x3f00_0000 + number
+}
+
 /// The words of a record that tells its number everywhere but in its origin and its orientation.
 fn record(kind: Kind, number: u32) -> Vec<u32> {
-    let n = number;
-    let mut words = vec![1, n, n, n, n, n, n, n, n, 1, 1 + n % 4, 100 + n];
+    let (n, told) = (half(number), [1, 1 + number % 4, 100 + number]);
+    let mut words = [&[1, n, n, n, n, n, n, n, n], &told[..]].concat();
     words.truncate(kind.record_words());
     words
 }
@@ -39,12 +44,15 @@ fn card_as(kind: Kind) -> Vec<u8> {
     card_of(kind, 30)
 }
 
-/// The letters of the records: present, absent or lost.
+/// The letters of the records: present, absent, lost, or of no use: blank, long or short.
 fn letters(card: &Card) -> String {
     let letters = card.records().map(|record| match record {
         Record::Present(_) => 'p',
         Record::Absent => 'a',
         Record::Lost => 'L',
+        Record::Blank(_) => 'b',
+        Record::Long(_) => 'l',
+        Record::Short(_) => 's',
     });
     letters.collect()
 }
@@ -103,7 +111,7 @@ fn to_a_reader_of_one_kind_the_other_is_lost() {
 
 /// The frame of a record of the cards above.
 fn frame(kind: Kind, number: u32) -> Frame {
-    let [tiny, origin] = [number, number % 4];
+    let (half, origin) = (f32::from_bits(half(number)), number % 4);
     let told = [
         Origin::Single,
         Origin::Combined,
@@ -111,10 +119,10 @@ fn frame(kind: Kind, number: u32) -> Frame {
         Origin::Filled,
     ];
     Frame {
-        tangent: [f32::from_bits(tiny); 3],
-        bitangent: [f32::from_bits(tiny); 3],
-        mag_s: f32::from_bits(tiny),
-        mag_t: f32::from_bits(tiny),
+        tangent: [half; 3],
+        bitangent: [half; 3],
+        mag_s: half,
+        mag_t: half,
         preserving: true,
         origin: match kind {
             Kind::Old => Origin::NotRecorded,

@@ -167,15 +167,6 @@ fn a_number_that_is_not_finite_comes_before_a_normal_that_is_zero() {
 }
 
 #[test]
-fn no_direction_is_told() {
-    assert!(FRAME.directed());
-    for tangent in [[0.0, -0.0, 0.0], [1.0, f32::NAN, 0.0]] {
-        let frame = Frame { tangent, ..FRAME };
-        assert!(!frame.directed());
-    }
-}
-
-#[test]
 fn the_page_s_table_has_the_numbers_and_names_of_all_refusals() {
     let page = Path::new(env!("CARGO_MANIFEST_DIR")).join("../../docs/PROGRAMMERS.md");
     let page = fs::read_to_string(page).unwrap();

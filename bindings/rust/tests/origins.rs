@@ -61,7 +61,7 @@ fn told(record: Record) -> Option<(Origin, Option<u32>)> {
     match record {
         Record::Present(frame) => Some((frame.origin, frame.behind)),
         Record::Absent => None,
-        Record::Lost => panic!("it is lost"),
+        other => panic!("{other:?}"),
     }
 }
 
@@ -116,6 +116,7 @@ fn an_old_card_has_the_same_frames_without_their_origins() {
                 (frame.origin, frame.behind) = (Origin::NotRecorded, None);
                 Record::Present(frame)
             }
+            other => panic!("{other:?}"),
         };
         assert_eq!(record, wanted);
     }

@@ -1,4 +1,4 @@
-/* How much stack the calls on a mesh take: each is made in a thread whose stack was painted before. A line for each call: its name, and the
+/* How much stack the calls on a mesh and on its answer take: each is made in a thread whose stack was painted before. A line for each call: its name, and the
  * bytes for one quad and for a sheet of as many as are accepted. */
 #define _POSIX_C_SOURCE 200112L
 #include "dokphalun.h"
@@ -12,7 +12,7 @@ enum { STACK = 256 * 1024, PAINT = 0xA5, SIDE = 256 };
 /* Lists of a mesh of quads, and those that some call takes besides. */
 struct call {
     size_t faces;
-    uint8_t *sizes, *own_sizes;
+    uint8_t *sizes, *own_sizes, *bytes;
     float *positions, *normals, *texture, *own_numbers;
     uint32_t *answer, *work, *labels, *order, *own_frames, *links, *groups, *ways;
     uint32_t (*made)(struct call *); /* makes the call, and says its number */
@@ -28,6 +28,18 @@ struct call {
 static uint32_t frames(struct call *c)
 {
     return dokphalun_frames(MESH, -1.0f, ANSWER, WORK).number;
+}
+
+static uint32_t reasons(struct call *c)
+{
+    return dokphalun_reasons(MESH, -1.0f, ANSWER, WORK, c->bytes, 4 * c->faces).number;
+}
+
+/* Of the answer that the calls for frames leave: each slot is good. */
+static uint32_t judge(struct call *c)
+{
+    struct dokphalun_judged said = dokphalun_judge(ANSWER, c->bytes, 4 * c->faces);
+    return said.number + (said.good != 4 * c->faces);
 }
 
 static uint32_t labels(struct call *c)
@@ -70,6 +82,7 @@ static struct call sheet(size_t faces)
     c.faces = faces;
     c.sizes = list(faces, 1);
     c.own_sizes = list(faces, 1);
+    c.bytes = list(4 * faces, 1);
     c.positions = list(12 * faces, sizeof(float));
     c.normals = list(12 * faces, sizeof(float));
     c.texture = list(8 * faces, sizeof(float));
@@ -124,9 +137,9 @@ static size_t used(struct call *c, uint32_t (*made)(struct call *))
 int main(void)
 {
     struct call one = sheet(1), most = sheet(DOKPHALUN_MOST_FACES);
-    uint32_t (*const calls[])(struct call *) = {frames, labels, islands, links, examine};
-    const char *const names[] = {"frames", "labels", "islands", "links", "examine"};
-    for (int i = 0; i < 5; i++)
+    uint32_t (*const calls[])(struct call *) = {frames, reasons, judge, labels, islands, links, examine};
+    const char *const names[] = {"frames", "reasons", "judge", "labels", "islands", "links", "examine"};
+    for (int i = 0; i < 7; i++)
         printf("%s %lu %lu\n", names[i], (unsigned long)used(&one, calls[i]), (unsigned long)used(&most, calls[i]));
     return 0;
 }

@@ -14,7 +14,7 @@ fn a_call_takes_little_stack() {
     assert!(said.status.success(), "{}", said.status);
     let text = String::from_utf8_lossy(&said.stdout).into_owned();
     println!("bytes of stack, for one face and for 65,536:\n{text}");
-    assert_eq!(text.lines().count(), 5);
+    assert_eq!(text.lines().count(), 7);
     for line in text.lines() {
         let bytes = line.split(' ').skip(1).map(|word| word.parse().unwrap());
         assert!(bytes.clone().count() == 2, "{line}");

@@ -1,7 +1,7 @@
 //! The marks of corners that are not good: one at each place, with how many corners stand there and of which faces.
 use super::plane::Plane;
 use crate::say::ranges;
-use crate::state::{Known, State};
+use crate::state::{FLAWED, Known, State};
 use crate::stop::shown;
 use std::collections::BTreeMap;
 use std::fmt::Write;
@@ -108,14 +108,10 @@ fn names(marks: &BTreeMap<[i64; 2], Mark>) -> String {
 
 /// The sign of a state, around 0, 0.
 pub fn sign(state: State) -> String {
-    let inside = match state {
-        State::NoDirection => "#ffffff",
-        State::NoOrigin => "#111111",
-        _ => ABSENT,
-    };
-    let cross = match state {
-        State::NoDirection => ABSENT,
-        _ => "#ffffff",
+    let (inside, cross) = match state {
+        _ if FLAWED.contains(&state) => ("#ffffff", ABSENT),
+        State::NoOrigin => ("#111111", "#ffffff"),
+        _ => (ABSENT, "#ffffff"),
     };
     format!(
         r##"<circle r="9" fill="{inside}" stroke="{ABSENT}" stroke-width="2.5"/><path d="M-4 -4L4 4M-4 4L4 -4" stroke="{cross}" stroke-width="2.6" stroke-linecap="round"/>"##

@@ -5,13 +5,13 @@ mod page;
 mod plane;
 mod strokes;
 
-use crate::state::{Known, State, Tally};
+use crate::state::{FLAWED, Known, State, Tally};
 use plane::Plane;
 
 /// The picture of a mesh and what is known of it, as SVG; where frames come from is marked if that is asked for.
 pub fn picture(known: &Known, name: &str, origins: bool) -> String {
     let plane = Plane::of(&known.surface.texture);
-    let tally = Tally::of(known.records, known.kind);
+    let tally = Tally::of(known.judged);
     let more = if origins { origins::HIGH } else { 0.0 };
     let mut svg = page::start(&plane, known, name, &tally, more);
     svg.push_str(&plane.grid());
@@ -20,7 +20,7 @@ pub fn picture(known: &Known, name: &str, origins: bool) -> String {
     if origins {
         svg.push_str(&origins::origins(&plane, known));
     }
-    for state in [State::NoDirection, State::NoOrigin, State::Absent] {
+    for state in FLAWED.into_iter().chain([State::NoOrigin, State::Absent]) {
         svg.push_str(&marks::marks(&plane, known, state));
     }
     svg.push_str("</svg>\n");

@@ -14,7 +14,7 @@ pub const HIGH: f64 = 30.0;
 pub fn origins(plane: &Plane, known: &Known) -> String {
     let starts = known.surface.starts();
     let mut paths = [const { String::new() }; ORIGINS.len()];
-    for (place, frame) in known.frames().filter(|(_, frame)| frame.directed()) {
+    for (place, frame) in known.frames() {
         let size = usize::from(known.surface.sizes[place.face]);
         let face = Face::of(known, starts[place.face], size);
         let spot = face.and_then(|face| face.spot(plane, place.corner));
@@ -63,7 +63,7 @@ impl Sign {
 
 /// What each mark stands for, and how many frames there are of it.
 fn legend(plane: &Plane, known: &Known) -> String {
-    let entries = counts(known.records, known.kind).map(|(origin, count)| {
+    let entries = counts(known.judged).map(|(origin, count)| {
         let there = origin != Origin::NotRecorded || count > 0;
         let word = origin.word();
         let Some(sign) = Sign::of(origin) else {

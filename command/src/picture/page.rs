@@ -70,8 +70,15 @@ fn patch(how: &str) -> String {
 
 /// The legend: what is drawn how. What is absent is always named, and the rest where there is any.
 fn legend(tally: &Tally, without: usize) -> String {
-    let (absent, no_direction, lost) = (tally.absent, tally.no_direction, tally.lost);
-    let no_origin = tally.no_origin;
+    let (absent, lost) = (tally.absent, tally.lost);
+    let counted = |state: State| {
+        let count = tally.count(state);
+        (
+            count > 0,
+            sign(state),
+            format!("{} ({count})", state.word()),
+        )
+    };
     let hatched = patch(r##"fill="url(#lost)" stroke="#111111""##);
     let dotted = patch(r##"fill="url(#none)" stroke="#334155" stroke-dasharray="5 3""##);
     let entries = [
@@ -82,16 +89,10 @@ fn legend(tally: &Tally, without: usize) -> String {
             sign(State::Absent),
             format!("ABSENT: no frame ({absent})"),
         ),
-        (
-            no_direction > 0,
-            sign(State::NoDirection),
-            format!("NO DIRECTION ({no_direction})"),
-        ),
-        (
-            no_origin > 0,
-            sign(State::NoOrigin),
-            format!("NO ORIGIN ({no_origin})"),
-        ),
+        counted(State::NoDirection),
+        counted(State::TooShort),
+        counted(State::TooLong),
+        counted(State::NoOrigin),
         (lost > 0, hatched, format!("LOST on the card ({lost})")),
         (
             without > 0,

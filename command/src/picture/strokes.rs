@@ -1,7 +1,7 @@
 //! The faces, each by what is known of it, and the tangents of present corners as strokes.
 use super::plane::Plane;
 use crate::cause::area;
-use crate::state::{Known, State};
+use crate::state::{BAD, Known, State};
 use std::fmt::Write;
 
 /// How faces are drawn: plain, mirrored, without slots, with an absent corner, with a lost one; later ones over earlier ones.
@@ -31,12 +31,10 @@ pub fn faces(plane: &Plane, known: &Known) -> String {
         kinds[face] = usize::from(area(own) < 0.0);
     }
     known.without_slots().for_each(|face| kinds[face] = 2);
-    for (kind, states) in [
-        (3, &[State::NoDirection, State::NoOrigin, State::Absent][..]),
-        (4, &[State::Lost]),
-    ] {
-        let bad = states.iter().flat_map(|state| known.faces(*state));
-        bad.for_each(|(face, _)| kinds[face] = kind);
+    for state in BAD {
+        let kind = if state == State::Lost { 4 } else { 3 };
+        let bad = known.faces(state);
+        bad.iter().for_each(|(face, _)| kinds[*face] = kind);
     }
     let mut paths = [const { String::new() }; FACES.len()];
     for (face, &kind) in kinds.iter().enumerate() {

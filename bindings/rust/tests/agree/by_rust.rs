@@ -2,9 +2,9 @@
 use crate::case::Case;
 use crate::lines::Lines;
 use dokphalun::{
-    Answer, Buffers, Card, CardRefusal, Frame, Kind, List, Lists, Next, Objection, Origin, Packed,
-    Reading, Record, Refusal, append_blocks, append_blocks_as, next_block, next_block_as, pack,
-    unpack, write_card, write_card_as,
+    Answer, Buffers, Card, CardRefusal, Flawed, Frame, Kind, List, Lists, Next, Objection, Origin,
+    Packed, Reading, Reason, Record, Refusal, append_blocks, append_blocks_as, next_block,
+    next_block_as, pack, unpack, write_card, write_card_as,
 };
 use std::error::Error;
 
@@ -13,19 +13,51 @@ fn frame(lines: &mut Lines, frame: Frame) {
     let numbers = [frame.tangent, frame.bitangent].concat();
     let magnitudes = [frame.mag_s, frame.mag_t];
     let bits = numbers.into_iter().chain(magnitudes).map(f32::to_bits);
-    let origin = match frame.origin {
+    let [origin, behind] = told(frame.origin, frame.behind);
+    let more = [u32::from(frame.preserving), origin, behind];
+    lines.list("present", bits.chain(more));
+}
+
+/// A frame that is of no use, field by field.
+fn flawed(lines: &mut Lines, name: &str, flawed: Flawed) {
+    let more = told(flawed.origin(), flawed.behind());
+    lines.list(name, flawed.bits().iter().chain(&more));
+}
+
+/// The number of an origin, and how many triangles stand behind it.
+fn told(origin: Origin, behind: Option<u32>) -> [u32; 2] {
+    let origin = match origin {
         Origin::NotRecorded => 0,
         Origin::Single => 1,
         Origin::Combined => 2,
         Origin::Copied => 3,
         Origin::Filled => 4,
     };
-    let more = [
-        u32::from(frame.preserving),
-        origin,
-        frame.behind.unwrap_or(0),
-    ];
-    lines.list("present", bits.chain(more));
+    [origin, behind.unwrap_or(0)]
+}
+
+/// What a record holds.
+fn record(lines: &mut Lines, record: Record) {
+    match record {
+        Record::Absent => lines.nothing("absent"),
+        Record::Lost => lines.nothing("lost"),
+        Record::Present(known) => frame(lines, known),
+        Record::Blank(known) => flawed(lines, "blank", known),
+        Record::Long(known) => flawed(lines, "long", known),
+        Record::Short(known) => flawed(lines, "short", known),
+    }
+}
+
+/// The number of the verdict on a record.
+fn verdict(record: &Record) -> u8 {
+    match record {
+        Record::Absent => 0,
+        Record::Present(_) => 1,
+        Record::Lost => 2,
+        Record::Blank(_) => 3,
+        Record::Long(_) => 4,
+        Record::Short(_) => 5,
+    }
 }
 
 /// A refusal of a mesh: its number, and its place counted over all corners.
@@ -56,14 +88,54 @@ fn answer(lines: &mut Lines, name: &str, case: &Case, answer: Result<Answer, Ref
         }
         Ok(answer) => {
             lines.said(name, 0, 0, answer.total() as usize);
-            for (_, reading) in answer.readings() {
-                match reading {
-                    Reading::Absent => lines.nothing("absent"),
-                    Reading::Present(known) => frame(lines, known),
-                }
-            }
+            readings(lines, answer);
         }
     }
+}
+
+/// Each slot of an answer; those that are good, and those that are absent, are as many as it says.
+fn readings(lines: &mut Lines, answer: Answer) {
+    let (mut good, mut absent) = (0, 0);
+    for (_, reading) in answer.readings() {
+        good += u32::from(matches!(reading, Reading::Present(_)));
+        absent += usize::from(reading == Reading::Absent);
+        record(lines, reading.into());
+    }
+    assert_eq!((answer.good(), answer.absent().count()), (good, absent));
+}
+
+/// Frames again, and why slots are absent.
+fn reasons(case: &Case, buffers: &mut Buffers, lines: &mut Lines) {
+    let number = |reason: Option<Reason>| match reason {
+        None => 0,
+        Some(Reason::Unwelded) => 1,
+        Some(Reason::CopiesAbsent) => 2,
+        Some(Reason::Unreached) => 3,
+    };
+    match buffers.reasons(case.faces.mesh(), case.threshold) {
+        Err(refusal) => {
+            let (number, place) = refused(case, refusal);
+            lines.said("reasons", number, place, 0);
+            lines.nothing("why");
+        }
+        Ok(made) => {
+            lines.said("reasons", 0, 0, made.answer.total() as usize);
+            readings(lines, made.answer);
+            lines.list("why", made.reasons().map(|(_, reason)| number(reason)));
+        }
+    }
+}
+
+/// The records judged, as a card has them: how many are good, and the first that is not.
+fn judged(case: &Case, buffers: &mut Buffers, lines: &mut Lines) {
+    let mut card = vec![];
+    write_card(&case.words, &mut card).expect("it is not written");
+    let card = buffers.read_card_as(Kind::New, &card, case.records());
+    let card = card.expect("it is not read");
+    let verdicts: Vec<u8> = card.records().map(|record| verdict(&record)).collect();
+    let first = verdicts.iter().position(|&verdict| verdict != 1);
+    lines.said("judge", 0, card.good(), first.unwrap_or(verdicts.len()));
+    lines.list("verdicts", verdicts);
 }
 
 /// The islands.
@@ -134,13 +206,12 @@ fn read(lines: &mut Lines, name: &str, card: Result<Card, CardRefusal>) {
 
 /// Each record of a card.
 fn records(lines: &mut Lines, card: Card) {
-    for record in card.records() {
-        match record {
-            Record::Absent => lines.nothing("absent"),
-            Record::Lost => lines.nothing("lost"),
-            Record::Present(known) => frame(lines, known),
-        }
+    let mut good = 0;
+    for known in card.records() {
+        good += usize::from(matches!(known, Record::Present(_)));
+        record(lines, known);
     }
+    assert_eq!(card.good(), good);
 }
 
 /// A card with one byte turned, as long as the case has it.
@@ -300,6 +371,8 @@ pub fn case(case: &Case, buffers: &mut Buffers, lines: &mut Lines) {
     let by = buffers.frames_by_islands(mesh, threshold);
     answer(lines, "by islands", case, by);
     islands(case, buffers, lines);
+    reasons(case, buffers, lines);
+    judged(case, buffers, lines);
     links(case, buffers, lines);
     cards(case, buffers, lines);
     appends(case, lines);

@@ -6,30 +6,33 @@ use dokphalun_sys::{self as archive, IslandLists, Mesh};
 /// The words of work that any case needs.
 const WORK: usize = 128 * 16;
 
-/// The words of each slot of twelve; with another origin than the four the last two are 0.
+/// The words of each slot of twelve, by the verdict on it; with another origin than the four the last two are 0.
 fn slots(lines: &mut Lines, words: &[u32]) {
-    for slot in words.chunks_exact(12) {
+    let mut verdicts = vec![9; words.len() / 12];
+    assert_eq!(archive::judge(words, &mut verdicts).number, 0);
+    for (slot, verdict) in words.chunks_exact(12).zip(verdicts) {
         let more = match slot[10] {
             1..=4 => [slot[10], slot[11]],
             _ => [0; 2],
         };
-        one(lines, slot, more);
+        let all = slot[1..10].iter().chain(&more);
+        match verdict {
+            0 => lines.nothing("absent"),
+            1 => lines.list("present", all),
+            2 => lines.nothing("lost"),
+            3 => lines.list("blank", all),
+            4 => lines.list("long", all),
+            5 => lines.list("short", all),
+            _ => lines.nothing("no verdict"),
+        }
     }
 }
 
 /// The words of each record of ten, and two zeros for those that are not there.
 fn old_slots(lines: &mut Lines, words: &[u32]) {
-    let records = words.chunks_exact(10);
-    records.for_each(|record| one(lines, record, [0; 2]));
-}
-
-/// One slot: its words from 1 to 9, and two more.
-fn one(lines: &mut Lines, slot: &[u32], more: [u32; 2]) {
-    match slot[0] {
-        0 => lines.nothing("absent"),
-        1 => lines.list("present", slot[1..10].iter().chain(&more)),
-        _ => lines.nothing("lost"),
-    }
+    let wide = words.chunks_exact(10);
+    let wide: Vec<u32> = wide.flat_map(|old| [old, &[0; 2]].concat()).collect();
+    slots(lines, &wide);
 }
 
 /// The mesh of a case.
@@ -78,6 +81,24 @@ fn frames(case: &Case, lines: &mut Lines) {
         by.slots as usize,
     );
     slots(lines, &answer[..12 * by.slots as usize]);
+}
+
+/// Frames again, and why slots are absent.
+fn reasons(case: &Case, lines: &mut Lines) {
+    let (mut answer, mut work, mut why) = (vec![0; 4 * 12 * 16], vec![0; WORK], vec![9; 4 * 16]);
+    let said = archive::reasons(mesh(case), case.threshold, &mut answer, &mut work, &mut why);
+    let made = said.slots as usize;
+    lines.said("reasons", said.number, said.place as usize, made);
+    slots(lines, &answer[..12 * made]);
+    lines.list("why", &why[..made]);
+}
+
+/// The records judged: how many are good, and the first that is not.
+fn judged(case: &Case, lines: &mut Lines) {
+    let mut verdicts = vec![9; case.records() as usize];
+    let said = archive::judge(&case.words, &mut verdicts);
+    lines.said("judge", said.number, said.good as usize, said.first);
+    lines.list("verdicts", &verdicts);
 }
 
 /// The islands.
@@ -252,6 +273,8 @@ pub fn case(case: &Case, lines: &mut Lines) {
     parts(case, lines);
     frames(case, lines);
     labels(case, lines);
+    reasons(case, lines);
+    judged(case, lines);
     links(case, lines);
     cards(case, lines);
     appends(case, lines);

@@ -57,8 +57,22 @@ fn faces(random: &mut Random) -> Faces {
     faces
 }
 
-/// A record: present or not, numbers that can be packed most of the time, magnitudes of any bits, an orientation, an origin that can be none
-/// of those that there are, and any count.
+/// A direction at the edges of what is one, and of what is packed as one.
+fn edge(random: &mut Random) -> [u32; 3] {
+    let sizes = [
+        0,
+        0x0080_0000,
+        0x0080_0001,
+        0x3780_0100,
+        0x3780_0101,
+        0x3f80_0008,
+        0x3f80_0009,
+    ];
+    [0; 3].map(|_| random.pick(&sizes[..5]).max(random.pick(&sizes)) | random.pick(&[0, 1 << 31]))
+}
+
+/// A record: present or not, numbers that can be packed most of the time, magnitudes of any bits, an orientation that in one of sixteen is
+/// none, an origin that can be none of those that there are, and any count.
 fn record(random: &mut Random) -> [u32; 12] {
     let mut words = [0; 12].map(|_| random.signed().to_bits());
     words[0] = random.below(2) as u32;
@@ -69,6 +83,13 @@ fn record(random: &mut Random) -> [u32; 12] {
     words[11] = random.word();
     if random.chance(1, 8) {
         words[random.from_to(1, 6)] = random.word();
+    }
+    if random.chance(1, 4) {
+        let at = random.pick(&[1, 4]);
+        words[at..at + 3].copy_from_slice(&edge(random));
+    }
+    if random.chance(1, 16) {
+        words[9] = random.pick(&[2, u32::MAX]);
     }
     words
 }

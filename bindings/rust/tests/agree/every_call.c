@@ -19,7 +19,7 @@ static uint32_t words[DOKPHALUN_SLOT_WORDS * RECORDS], old_words[DOKPHALUN_OLD_S
 static uint32_t answer[4 * DOKPHALUN_SLOT_WORDS * FACES], work[DOKPHALUN_WORK_WORDS * FACES];
 static uint32_t labels[FACES], order[DOKPHALUN_ORDER_WORDS * FACES], own_frames[DOKPHALUN_OWN_FRAME_WORDS * FACES];
 static float own_numbers[DOKPHALUN_OWN_NUMBERS * FACES];
-static uint8_t own_sizes[FACES];
+static uint8_t own_sizes[FACES], reasons[4 * FACES], verdicts[RECORDS];
 static uint32_t links[DOKPHALUN_LINK_WORDS * FACES], groups[DOKPHALUN_LINK_WORDS * FACES];
 static uint32_t orientations[DOKPHALUN_ORIENTATION_WORDS * FACES];
 static uint8_t card[DOKPHALUN_CARD_BYTES(RECORDS)], old_card[DOKPHALUN_OLD_CARD_BYTES(RECORDS)];
@@ -110,21 +110,45 @@ static unsigned long number(enum dokphalun_origin origin)
     return 5;
 }
 
-/* A slot, field by field; one without a frame has to be all NaN, and 0 where there is no NaN. */
-static void slot(enum dokphalun_reading reading, struct dokphalun_frame f)
+/* The word of a verdict, by its name. */
+static const char *word(enum dokphalun_verdict verdict)
+{
+    switch (verdict) {
+    case DOKPHALUN_JUDGED_ABSENT: return "absent";
+    case DOKPHALUN_JUDGED_GOOD: return "present";
+    case DOKPHALUN_JUDGED_LOST: return "lost";
+    case DOKPHALUN_JUDGED_BLANK: return "blank";
+    case DOKPHALUN_JUDGED_LONG: return "long";
+    case DOKPHALUN_JUDGED_SHORT: return "short";
+    }
+    return "no verdict";
+}
+
+/* The fields of a frame; one that is not there has to be all NaN, and 0 where there is no NaN. */
+static void fields(int there, struct dokphalun_frame f)
 {
     const float numbers[8] = {f.tangent[0], f.tangent[1], f.tangent[2], f.bitangent[0], f.bitangent[1], f.bitangent[2], f.mag_s, f.mag_t};
     size_t i;
-    printf(reading == DOKPHALUN_PRESENT ? "present" : reading == DOKPHALUN_ABSENT ? "absent" : "lost");
     for (i = 0; i < 8; i++)
-        if (reading == DOKPHALUN_PRESENT)
+        if (there)
             printf(" %lu", (unsigned long)bits(numbers[i]));
         else if (!isnan(numbers[i]))
             printf(" a number");
-    if (reading == DOKPHALUN_PRESENT)
+    if (there)
         printf(" %lu %lu %lu", (unsigned long)f.preserving, number(f.origin), (unsigned long)f.behind);
     else if (f.preserving != 0 || f.origin != DOKPHALUN_NOT_RECORDED || f.behind != 0)
         printf(" not 0");
+}
+
+/* A slot: the verdict on it, and its frame. What was filled in with the verdict has to be that frame where it is good, and nothing else. */
+static void slot(enum dokphalun_verdict verdict, struct dokphalun_frame good, enum dokphalun_reading reading, struct dokphalun_frame f)
+{
+    printf("%s", word(verdict));
+    fields(reading == DOKPHALUN_PRESENT, f);
+    if (verdict != DOKPHALUN_JUDGED_GOOD)
+        fields(0, good);
+    else if (memcmp(&good, &f, sizeof f) != 0)
+        printf(" another frame");
     printf("\n");
 }
 
@@ -133,9 +157,10 @@ static void slots(const uint32_t *all, size_t count)
 {
     size_t k;
     for (k = 0; k < count; k++) {
-        struct dokphalun_frame f;
+        struct dokphalun_frame f, good;
         enum dokphalun_reading reading = dokphalun_slot(all, k, &f);
-        slot(reading, f);
+        enum dokphalun_verdict verdict = dokphalun_judged_slot(all, k, &good);
+        slot(verdict, good, reading, f);
     }
 }
 
@@ -144,9 +169,13 @@ static void old_slots(const uint32_t *all, size_t count)
 {
     size_t k;
     for (k = 0; k < count; k++) {
-        struct dokphalun_frame f;
+        struct dokphalun_frame f, good;
+        uint32_t wide[DOKPHALUN_SLOT_WORDS];
         enum dokphalun_reading reading = dokphalun_old_slot(all, k, &f);
-        slot(reading, f);
+        enum dokphalun_verdict verdict;
+        dokphalun_old_to_slot(all + DOKPHALUN_OLD_SLOT_WORDS * k, wide);
+        verdict = dokphalun_judged_slot(wide, 0, &good);
+        slot(verdict, good, reading, f);
     }
 }
 
@@ -179,6 +208,41 @@ static void frames(void)
     labelled = dokphalun_labels(MESH, LENT(labels), LENT(work));
     said("labels", labelled.number, labelled.place, labelled.islands);
     list("of faces", labels, labelled.number == 0 ? in.faces : 0);
+}
+
+/* The number of a reason, by its name. */
+static uint8_t why(uint8_t reason)
+{
+    switch ((enum dokphalun_reason)reason) {
+    case DOKPHALUN_NO_REASON: return 0;
+    case DOKPHALUN_UNWELDED: return 1;
+    case DOKPHALUN_COPIES_ABSENT: return 2;
+    case DOKPHALUN_UNREACHED: return 3;
+    }
+    return 4;
+}
+
+/* Frames again, and why slots are absent. */
+static void explained(void)
+{
+    struct dokphalun_outcome made;
+    size_t k;
+    memset(answer, 0x5A, sizeof answer);
+    memset(reasons, 0x5A, sizeof reasons);
+    made = dokphalun_reasons(MESH, threshold, LENT(answer), LENT(work), LENT(reasons));
+    said("reasons", made.number, made.place, made.slots);
+    slots(answer, made.slots);
+    for (k = 0; k < made.slots; k++)
+        reasons[k] = why(reasons[k]);
+    bytes("why", reasons, made.slots);
+}
+
+/* The records judged: how many are good, and the first that is not. */
+static void judged(void)
+{
+    struct dokphalun_judged found = dokphalun_judge(words, DOKPHALUN_SLOT_WORDS * in.records, LENT(verdicts));
+    said("judge", found.number, found.good, found.first);
+    bytes("verdicts", verdicts, in.records);
 }
 
 /* The lists of so many triangles, examined. */
@@ -346,6 +410,8 @@ int main(void)
     while (take_case()) {
         parts();
         frames();
+        explained();
+        judged();
         hung();
         cards();
         appends();

@@ -19,10 +19,20 @@ use std::process::Command;
 const CASES: u64 = 400;
 
 /// Starts of lines that have to come about.
-const CAME_ABOUT: [&str; 18] = [
+const CAME_ABOUT: [&str; 28] = [
     "present ",
     "absent\n",
     "lost\n",
+    "blank ",
+    "long ",
+    "short ",
+    "reasons 0 ",
+    "reasons 3 ",
+    "reasons 4 ",
+    "reasons 7 ",
+    "why 1 1 1",
+    "judge 0 0 0\n",
+    "judge 0 2 2\n",
     "part 2 6 8\n",
     "frames 3 ",
     "frames 4 ",
@@ -92,6 +102,9 @@ fn rust_c_and_the_archive_s_words_agree_in_every_field() {
     for line in CAME_ABOUT {
         assert!(words.0.contains(&format!("\n{line}")), "no line {line}");
     }
+    let why = words.0.lines().filter(|line| line.starts_with("why "));
+    let given: String = why.map(|line| &line[4..]).collect();
+    assert!(['0', '1', '2', '3'].iter().all(|&one| given.contains(one)));
 }
 
 #[test]
@@ -114,5 +127,5 @@ fn the_c_program_makes_every_call_of_the_header() {
         );
         count += 1;
     }
-    assert_eq!(count, 20, "the header's calls");
+    assert_eq!(count, 23, "the header's calls");
 }
