@@ -38,3 +38,32 @@ build_beside() {
     export MIKKTSPACE_SRC=$crate
     build side_by_side "$1"
 }
+
+# How many of the oracle's meshes are asked for: MESHES, else 20,000, and with --gate among the words 2,000.
+meshes_asked() {
+    case " $* " in
+    *" --gate "*) echo "${MESHES:-2000}" ;;
+    *) echo "${MESHES:-20000}" ;;
+    esac
+}
+
+# Has the oracle's generator make $1 random meshes of each further kind, at the rules in force, seed 4; their files are in oracle_files until
+# the command ends, none where ../shared/oracle is not there.
+oracle_files=()
+oracle_meshes() {
+    local count=$1 kind harness=$root/../shared/oracle/harness/Cargo.toml programs=$root/target/oracle
+    shift
+    if [ ! -f "$harness" ]; then
+        echo "no ../shared/oracle here: its meshes ($*) are left out"
+        return
+    fi
+    cargo build --quiet --offline --release --manifest-path "$harness" --target-dir "$programs" || exit 1
+    if [ ${#oracle_files[@]} -eq 0 ]; then
+        meshes=$(mktemp -d)
+        trap 'rm -rf "$meshes"' EXIT
+    fi
+    for kind in "$@"; do
+        "$programs/release/gen" 4 "$count" "$kind" "$meshes/$kind" --rules "$(cat "$root/tools/rules")"
+        oracle_files+=("$meshes/$kind")
+    done
+}

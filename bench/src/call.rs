@@ -1,19 +1,11 @@
 //! The call for frames beside the oracle: what it says, every word of the answer list, and the work list by its hash.
-use crate::files::{Answer, Call, Words, hash};
-use dokphalun_sys::{Mesh, SLOT_WORDS, frames};
+use dokphalun_sys::SLOT_WORDS;
+use models::oracle::{Answer, Call, Words, hash};
 use std::fs::read;
 
 /// What our call leaves.
 fn called(call: &Call) -> Answer {
-    let [positions, normals, texture] = call.numbers();
-    let mesh = Mesh {
-        sizes: &call.sizes,
-        positions: &positions,
-        normals: &normals,
-        texture: &texture,
-    };
-    let (mut words, mut work) = (call.fresh_answer(), call.fresh_work());
-    let said = frames(mesh, f32::from_bits(call.threshold), &mut words, &mut work);
+    let (said, words, work) = call.framed();
     Answer {
         number: said.number,
         place: said.place,

@@ -1,7 +1,6 @@
 //! The proved desk beside the oracle: the verdict on every mesh of a file, number and place.
-use crate::files::{Answer, Call, Words, hash};
-use dokphalun_sys::Mesh;
 use dokphalun_sys::exports::judge;
+use models::oracle::{Answer, Call, Words, hash};
 use std::fs::read;
 
 /// Whether the oracle altered a list or counted a slot.
@@ -13,14 +12,8 @@ fn altered(call: &Call, answer: &Answer) -> bool {
 
 /// The desk's number and place.
 fn judged(call: &Call) -> (u32, u32) {
-    let [positions, normals, texture] = call.numbers();
-    let mesh = Mesh {
-        sizes: &call.sizes,
-        positions: &positions,
-        normals: &normals,
-        texture: &texture,
-    };
-    judge(mesh, f32::from_bits(call.threshold), call.answer, call.work)
+    let threshold = f32::from_bits(call.threshold);
+    call.with_mesh(|mesh| judge(mesh, threshold, call.answer, call.work))
 }
 
 /// Compares the desk with the oracle's answers (OUT) on the meshes of an ext file, and that a refusal altered neither list.

@@ -10,7 +10,6 @@
 mod call;
 mod desk;
 mod distance;
-mod files;
 mod walks;
 
 use dokphalun_sys::exports::{acos, acos_all, sqrt};

@@ -4,6 +4,18 @@ use crate::random::Random;
 use std::sync::atomic::{AtomicU64, Ordering::Relaxed};
 use std::thread::{available_parallelism, scope};
 
+/// The kinds of meshes, each with so many shares of all cases, for calls on any mesh.
+pub const SHARES: [(&str, u64); 8] = [
+    ("mesh", 40),
+    ("shuffle", 25),
+    ("one", 10),
+    ("zeros", 8),
+    ("magnitudes", 7),
+    ("extreme", 5),
+    ("refused", 4),
+    ("needle", 1),
+];
+
 /// In how many cases a spoiled word is looked for.
 const SPOILT: u64 = 200;
 
@@ -66,27 +78,23 @@ pub fn every_spoil_caught<Left>(
     spoils: &[Spoil<Left>],
     noticed: impl Fn(u64, fn(&mut Left)) -> bool,
 ) -> bool {
-    let caught = |spoil: &&Spoil<Left>| (0..SPOILT).any(|i| noticed(i, spoil.1));
-    let missed = spoils.iter().filter(|spoil| !caught(spoil));
-    let missed: Vec<&str> = missed.map(|(name, _)| *name).collect();
-    println!(
-        "spoiled words: {} of {} caught; missed: {missed:?}",
-        spoils.len() - missed.len(),
-        spoils.len()
-    );
-    missed.is_empty()
+    every_one_caught("spoiled words", spoils, SPOILT, |i, spoil| {
+        noticed(i, *spoil)
+    })
 }
 
-/// The words of a command line: `--gate`, and options with a number; anything else is not understood.
-pub fn numbers<const N: usize>(options: [&str; N]) -> Option<([Option<u64>; N], bool)> {
-    let (mut found, mut gate) = ([None; N], false);
-    let mut words = std::env::args().skip(1);
-    while let Some(word) = words.next() {
-        match options.iter().position(|option| *option == word) {
-            Some(at) => found[at] = Some(words.next()?.parse().ok()?),
-            None if word == "--gate" => gate = true,
-            None => return None,
-        }
-    }
-    Some((found, gate))
+/// True if each of some things that are wrong on purpose is noticed in one of so many cases.
+pub fn every_one_caught<T>(
+    what: &str,
+    all: &[(&str, T)],
+    cases: u64,
+    noticed: impl Fn(u64, &T) -> bool,
+) -> bool {
+    let missed = all
+        .iter()
+        .filter(|(_, wrong)| !(0..cases).any(|i| noticed(i, wrong)));
+    let missed: Vec<&str> = missed.map(|(name, _)| *name).collect();
+    let (count, caught) = (all.len(), all.len() - missed.len());
+    println!("{what}: {caught} of {count} caught; missed: {missed:?}");
+    missed.is_empty()
 }

@@ -1,6 +1,7 @@
 //! What is handed in and lent in one call.
 use dokphalun_sys as archive;
 use models::Faces;
+use models::oracle::Call;
 
 /// The words of a slot (request E7), written out once more, so that the bindings' number is held against something else.
 pub const SLOT_WORDS: usize = 12;
@@ -155,6 +156,22 @@ impl Mesh {
             self.texture[2 * i],
             self.texture[2 * i + 1],
         ]
+    }
+}
+
+impl From<Call> for Mesh {
+    /// A call of the oracle's files.
+    fn from(call: Call) -> Mesh {
+        let [positions, normals, texture] = call.lists;
+        Mesh {
+            sizes: call.sizes,
+            positions,
+            normals,
+            texture,
+            threshold: call.threshold,
+            answer: call.answer,
+            work: call.work,
+        }
     }
 }
 

@@ -76,10 +76,19 @@ pub fn left(mesh: &Mesh) -> Result<Left, String> {
 
 /// The same, where something is altered between the call and the look at what it left.
 pub fn left_with(mesh: &Mesh, alter: impl FnOnce(&mut Held)) -> Result<Left, String> {
+    left_by(mesh, call, alter)
+}
+
+/// The same of another call that takes a mesh and lends both lists.
+pub fn left_by(
+    mesh: &Mesh,
+    call: impl FnOnce(&Mesh, &mut [u32], &mut [u32]) -> Outcome + Send,
+    alter: impl FnOnce(&mut Held),
+) -> Result<Left, String> {
     let mut handed = mesh.clone();
     let mut answer = Guarded::new(fresh_answer(mesh.answer));
     let mut work = Guarded::new(fresh_work(mesh.work));
-    let mut run = || call(&handed, answer.list(), work.list());
+    let run = || call(&handed, answer.list(), work.list());
     let outcome = answered(match mesh.sizes.len() < LARGE {
         true => run(),
         false => stack::within(stack::OURS, run),

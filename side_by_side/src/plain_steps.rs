@@ -39,7 +39,7 @@ fn unit(a: Vector) -> Vector {
 /// The numbers of a corner.
 #[derive(Clone, Copy)]
 pub struct Corner {
-    place: Vector,
+    pub place: Vector,
     normal: Vector,
     texture: [f32; 2],
 }

@@ -1,8 +1,12 @@
 //! What is run: random cards, and every misfortune of a card of three blocks.
 use crate::compare;
 use crate::damage::{block, call_itself, damage, double, swap};
+use crate::lent::room;
 use crate::plain::{BLOCK, KINDS, Kind, put_words, words_of};
 use crate::random::Random;
+
+/// How much longer than needed a lent list is at the most.
+pub const MORE: usize = 700;
 
 /// So many random records; the words 0 are 0 or 1.
 pub fn records(random: &mut Random, kind: Kind, count: usize) -> Vec<u32> {
@@ -29,21 +33,11 @@ pub fn answer(random: &mut Random, kind: Kind) -> Vec<u32> {
     list
 }
 
-/// A length near the one that is needed.
-pub fn room(random: &mut Random, need: usize) -> usize {
-    match random.below(8) {
-        0 => need.saturating_sub(1),
-        1 => random.below(need + 1),
-        2 => need + random.below(700),
-        _ => need,
-    }
-}
-
 /// One random card of either kind: written, damaged, read.
 pub fn random_card(random: &mut Random) -> Result<(), String> {
     let kind = random.pick(&KINDS);
     let list = answer(random, kind);
-    let lent = room(random, kind.bytes(list.len() / kind.width));
+    let lent = room(random, kind.bytes(list.len() / kind.width), MORE);
     let ((number, bytes), mut card) = compare::write(kind, &list, lent)?;
     if number == 0 {
         card.truncate(bytes);
@@ -61,7 +55,7 @@ pub fn random_card(random: &mut Random) -> Result<(), String> {
     let any = random.below(300) as u32;
     let total = random.pick(&[total, total, total, total + 1, total.saturating_sub(1), any]);
     let reader = random.pick(&[kind, kind, kind, kind.other()]);
-    let lent = room(random, total as usize * reader.width);
+    let lent = room(random, total as usize * reader.width, MORE);
     compare::read(reader, &card, total, lent).map(|_| ())
 }
 

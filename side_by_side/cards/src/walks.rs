@@ -1,9 +1,9 @@
 //! Appending: by both on random cards and at the limits, and by a process that is killed.
 use crate::compare;
-use crate::lent::asked;
+use crate::lent::{asked, room};
 use crate::plain::{BLOCK, KINDS, Kind};
 use crate::random::Random;
-use crate::runs::{answer, records, room};
+use crate::runs::{MORE, answer, records};
 use crate::{ours, writer};
 use std::fs;
 use std::os::unix::process::ExitStatusExt;
@@ -35,7 +35,7 @@ pub fn random_append(random: &mut Random) -> Result<(), String> {
         0 => answer(random, kind),
         _ => records(random, kind, count),
     };
-    let lent = room(random, kind.bytes(list.len() / kind.width));
+    let lent = room(random, kind.bytes(list.len() / kind.width), MORE);
     compare::next(kind, long, total)?;
     compare::append(kind, long, total, &list, lent).map(|_| ())
 }

@@ -1,5 +1,6 @@
 //! Lent lists: two calls on the same lists, compared, every element, also outside what was lent. Ours has to be one of the archive's: whoever
 //! makes such a call says so (`answered`), and a plain call in its place is noticed.
+use crate::random::Random;
 use std::cell::Cell;
 use std::fmt::Debug;
 
@@ -122,6 +123,16 @@ pub fn each_noticed(name: &str, compare: impl Fn() -> Result<(), String>) -> Res
         }
     }
     Ok(SPOILS.len())
+}
+
+/// The length of a lent list near the one that is needed: that, one less, any less, or fewer than `more` more.
+pub fn room(random: &mut Random, need: usize, more: usize) -> usize {
+    match random.below(8) {
+        0 => need.saturating_sub(1),
+        1 => random.below(need + 1),
+        2 => need + random.below(more),
+        _ => need,
+    }
 }
 
 /// A call on `count` lent elements between two guards; what it says, and the list with both guards.

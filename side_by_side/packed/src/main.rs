@@ -3,12 +3,11 @@ mod bench;
 mod compare;
 mod ours;
 mod patterns;
-mod plain;
 mod runs;
 mod spoils;
 
 use models::random::Random;
-use models::{lent, random};
+use models::{lent, packed as plain, random};
 use std::env::args;
 use std::process::ExitCode;
 use std::time::Instant;

@@ -1,5 +1,6 @@
 //! What is run: random slots with damage, lists of every length, every number at every place of a seven.
 use crate::compare;
+use crate::lent::room;
 use crate::plain::{self, NOTHING, READ, SEVEN, SLOT};
 use crate::random::Random;
 
@@ -50,16 +51,6 @@ fn slot(random: &mut Random) -> [u32; SLOT] {
     slot
 }
 
-/// A length near the one that is needed.
-fn room(random: &mut Random, need: usize) -> usize {
-    match random.below(8) {
-        0 => need.saturating_sub(1),
-        1 => random.below(need + 1),
-        2 => need + random.below(40),
-        _ => need,
-    }
-}
-
 /// A random answer list: packed, read back, damaged and read again.
 pub fn random_list(random: &mut Random) -> Result<(), String> {
     let most = random.pick(&[1, 2, 3, 20, 100]);
@@ -69,7 +60,7 @@ pub fn random_list(random: &mut Random) -> Result<(), String> {
         answer.truncate(random.below(answer.len() + 1));
     }
     let need = answer.len() / SLOT * SEVEN;
-    let lent = room(random, need);
+    let lent = room(random, need, 40);
     let (said, _) = compare::pack(&answer, lent)?;
     let whole = answer.len().is_multiple_of(SLOT);
     let meant = match (whole, need <= lent) {
@@ -90,7 +81,7 @@ pub fn random_list(random: &mut Random) -> Result<(), String> {
     for _ in 0..random.below(4) {
         damage(random, &mut packed);
     }
-    let lent = room(random, packed.len() / SEVEN * READ);
+    let lent = room(random, packed.len() / SEVEN * READ, 40);
     compare::unpack(&packed, lent).map(drop)
 }
 

@@ -1,11 +1,10 @@
 //! A partner's lists examined beside a plain examiner, and our own lists beside plain steps 5 and 6: what is said, and every word. See README.md.
 use models::lent::asked;
+use models::options::numbers;
 use models::{Faces, shapes};
 use side_by_side::examiner::{ENTRIES, Left, Lists, expected, left, own_expected, own_left};
 use side_by_side::kinds::named;
-use side_by_side::many::{
-    Spoil, differed, each, every_spoil_caught, flip, kind_of, lengths, numbers,
-};
+use side_by_side::many::{Spoil, differed, each, every_spoil_caught, flip, kind_of, lengths};
 use side_by_side::mesh::Mesh;
 use side_by_side::partner::lists;
 use side_by_side::random::Random;

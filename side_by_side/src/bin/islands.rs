@@ -1,8 +1,9 @@
 //! Frames by islands beside one call for frames, and labels beside a plain model: every word of every list. See README.md.
 use models::lent::asked;
+use models::options::numbers;
 use side_by_side::islands::{ENTRIES, Left, expected, left};
 use side_by_side::many::{
-    Spoil, differed, each, every_spoil_caught, flip, kind_of, lengths, numbers,
+    SHARES, Spoil, differed, each, every_spoil_caught, flip, kind_of, lengths,
 };
 use side_by_side::mesh::Mesh;
 use side_by_side::random::Random;
@@ -11,18 +12,6 @@ use std::sync::atomic::{AtomicU64, Ordering::Relaxed};
 use std::time::Instant;
 
 const USAGE: &str = "usage: islands [--seed N] [--count N] [--gate]";
-
-/// The kinds of meshes, each with so many shares of the count.
-const SHARES: [(&str, u64); 8] = [
-    ("mesh", 40),
-    ("shuffle", 25),
-    ("one", 10),
-    ("zeros", 8),
-    ("magnitudes", 7),
-    ("extreme", 5),
-    ("refused", 4),
-    ("needle", 1),
-];
 
 /// How many meshes the gate compares.
 const GATE: u64 = 20_000;

@@ -1,4 +1,5 @@
 //! The oracle's files of meshes and answers.
+use dokphalun_sys::{Mesh, Outcome, frames};
 
 /// A mesh as it is handed in, and the lengths of the lists that are lent.
 #[derive(Clone)]
@@ -12,10 +13,29 @@ pub struct Call {
 
 impl Call {
     /// The three lists as numbers.
-    pub fn numbers(&self) -> [Vec<f32>; 3] {
+    fn numbers(&self) -> [Vec<f32>; 3] {
         self.lists
             .clone()
             .map(|l| l.into_iter().map(f32::from_bits).collect())
+    }
+
+    /// What is made of the mesh that is handed in.
+    pub fn with_mesh<T>(&self, make: impl FnOnce(Mesh) -> T) -> T {
+        let [positions, normals, texture] = self.numbers();
+        make(Mesh {
+            sizes: &self.sizes,
+            positions: &positions,
+            normals: &normals,
+            texture: &texture,
+        })
+    }
+
+    /// What our call for frames says, and both lists as it leaves them.
+    pub fn framed(&self) -> (Outcome, Vec<u32>, Vec<u32>) {
+        let (mut answer, mut work) = (self.fresh_answer(), self.fresh_work());
+        let threshold = f32::from_bits(self.threshold);
+        let said = self.with_mesh(|mesh| frames(mesh, threshold, &mut answer, &mut work));
+        (said, answer, work)
     }
 
     /// The answer list as it is lent.
@@ -61,6 +81,11 @@ impl Words<'_> {
             .chunks_exact(4)
             .map(|b| u32::from_le_bytes([b[0], b[1], b[2], b[3]]))
             .collect()
+    }
+
+    /// The next mesh of an ext file, if there is one more.
+    pub fn next_call(&mut self) -> Option<Call> {
+        (!self.0.is_empty()).then(|| self.call())
     }
 
     /// The next mesh of an ext file.
