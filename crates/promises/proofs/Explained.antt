@@ -41,14 +41,14 @@ use Rattle.reasons.specs.Reasons.{unweldedSlot, copyingSlot, unreachedSlot, ori
 use Rattle.reasons.specs.Contract.{left, reasonsVerdict, reasonBytes, acceptedReasons, answered, reasonsOutcome}
 use Rattle.reasons.proofs.Trial.{tried-reading}
 use Rattle.promises.specs.Calls.{leaves, Accepted}
-use Rattle.promises.specs.Faithful.{finalReading, There, inQuad}
+use Rattle.promises.specs.Faithful.{slotsAt, finalReading, There, inQuad}
 use Rattle.promises.specs.Reasons.{Unwelded, CopiesAbsent, Unreached, Reason, unwelded, copies-absent, unreached}
 use Rattle.promises.specs.Explained.{ReasonsMade, remains, reasonAt, Says, Promised}
 use Rattle.promises.specs.Explained as says
 use Rattle.promises.proofs.StepNine as nine
 use Rattle.promises.proofs.Demand1.{final-at}
 use Rattle.promises.proofs.Worth.{not-absent}
-use Rattle.promises.proofs.Reasons.{reasons}
+use Rattle.promises.proofs.Reasons.{reasons, zero-reach, reach-zero}
 
 -- ---- the words of a slot, whatever was brought
 
@@ -183,6 +183,34 @@ only-one h m f i b c (says.unreached p u) (says.unwelded q v) = absurd (reasons 
 only-one h m f i b c (says.unreached p u) (says.copies-absent q v) = absurd (reasons .not-2-3 h m f i v u)
 only-one h m f i b c (says.unreached p u) (says.unreached q v) = p ∙ sym q
 
+-- ---- the threshold
+
+-- a sound corner is absent at every threshold or at none
+module _ (g h : Float) (m : List (List Corner)) where
+  same-absent : (s : Spot) → There m s → finalReading g m (s .tri .face) (slotOf s) ≡ Absent → finalReading h m (s .tri .face) (slotOf s) ≡ Absent
+  same-absent s T e =
+      let f = s .tri .face in
+      nine.own-reading m h s T ∙ reach-zero m h f (slotOf s) (zero-reach m g f (slotOf s) (sym (nine.own-reading m g s T) ∙ e))
+
+  -- so a reason at one is a reason at another
+  other-reason : (f i : ℕ) → Reason g m f i → Reason h m f i
+  other-reason f i (unwelded u) = unwelded u
+  other-reason f i (copies-absent c) =
+      copies-absent (record { corner = c .corner; source = c .source; which = c .which; copies = c .copies; absent = same-absent (c .source) (nine.there m (c .source) (nine.source-in m f (c .corner) (c .source) (c .copies))) (c .absent) })
+  other-reason f i (unreached u) = unreached u
+
+-- and a byte says the same
+any-threshold-is : (g h : Float) (m : List (List Corner)) (f i b : ℕ) → i < length (slotsAt m f) → Says g m f i b → Says h m f i b
+any-threshold-is g h m f i b l (says.present p n) = says.present p (λ e. n (reasons .so-absent g m f i (other-reason h g m f i (reasons .why h m f i l e))))
+any-threshold-is g h m f i b l (says.unwelded p u) = says.unwelded p u
+any-threshold-is g h m f i b l (says.copies-absent p c) = by-other (other-reason g h m f i (copies-absent c))
+  where
+    by-other : Reason h m f i → Says h m f i b
+    by-other (unwelded u) = absurd (reasons .not-1-2 g m f i u c)
+    by-other (copies-absent e) = says.copies-absent p e
+    by-other (unreached u) = absurd (reasons .not-2-3 g m f i c u)
+any-threshold-is g h m f i b l (says.unreached p u) = says.unreached p u
+
 -- ---- a call
 
 module _ (x : Call) (k : List ℕ) (m : ReasonsMade x k) where
@@ -262,6 +290,7 @@ pub explained : Promised
 explained = record {
   told = λ x k m z. told-by x k m z (which x k m);
   only = only-one;
+  any-threshold = any-threshold-is;
   frames = λ x k m l. frames-by x k m _ refl (le-ltb (length k) (slotCount (x .mesh .sizes)) l);
   table-first = λ x k m h. first-by x k m _ refl _ refl h;
   nine = λ x k m a l. nine-by x k m _ (verdict-numbered (atDesk x)) refl (lt-ltb (length k) (slotCount (x .mesh .sizes)) l) a;

@@ -149,7 +149,12 @@ module _ (m : List (List Corner)) where
 
   -- every absent slot has a reason
   module _ (h : Float) (f i : ℕ) where
-    zero-reach : broughtReading h m f i ≡ Absent → length (reaching m f i) ≡ 0
+    -- what nothing reached is absent
+    pub reach-zero : length (reaching m f i) ≡ 0 → broughtReading h m f i ≡ Absent
+    reach-zero e = absent-of (broughtReading h m f i) (origins.origins .reached h m f i ∙ (origins.origins .times h m f i ∙ e))
+
+    -- and the other way round
+    pub zero-reach : broughtReading h m f i ≡ Absent → length (reaching m f i) ≡ 0
     unfolding words
     zero-reach e = sym (origins.origins .times h m f i) ∙ sym (origins.origins .reached h m f i) ∙ ap (λ (r : Reading). originWord (words r)) e
 
@@ -167,16 +172,12 @@ module _ (m : List (List Corner)) where
     by-reason (unwelded u) = ap (finalReading h m f) (sym (u .which)) ∙ (nine.broken-reading m h f (u .corner) (u .broken) ∙ ap (copied false (broughtAll h ss (marksOf m))) (u .alone))
     by-reason (copies-absent c) = ap (finalReading h m f) (sym (c .which)) ∙ (nine.copies m h f (c .corner) (c .source) (c .copies) ∙ ap (copyOf (inQuad (c .copies))) (c .absent))
     by-reason (unreached u) =
-        let s = u .spot in
-        (λ z. finalReading h m (sym (u .face) z) (sym (u .slot) z)) ∙ (nine.own-reading m h s (u .there)
-        ∙ absent-of (broughtReading h m (s .tri .face) (slotOf s)) (origins.origins .reached h m (s .tri .face) (slotOf s) ∙ (origins.origins .times h m (s .tri .face) (slotOf s) ∙ nobody)))
+        (λ z. finalReading h m (sym (u .face) z) (sym (u .slot) z)) ∙ (nine.own-reading m h (u .spot) (u .there)
+        ∙ ((λ z. broughtReading h m (u .face z) (u .slot z)) ∙ reach-zero (none-at _ (λ k n. let r = reach-known f i k n in u .no-group k (r .0) (r .1) (r .2)))))
       where
         none-at : (l : List Mark) → ((k : Mark) → List·Memᴰ k l → ⊥) → length l ≡ 0
         none-at [] never = refl
         none-at (k ∷ l) never = absurd (never k (List·Memᴰ·head refl))
-
-        nobody : length (reaching m (u .spot .tri .face) (slotOf (u .spot))) ≡ 0
-        nobody = none-at _ (λ k n. let r = reach-known (u .spot .tri .face) (slotOf (u .spot)) k n in u .no-group k (r .0) (r .1 ∙ u .face) (r .2 ∙ u .slot))
 
   -- ---- no two together
 

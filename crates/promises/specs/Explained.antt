@@ -13,7 +13,7 @@ use Rattle.mikktspace.specs.declared.Outcome.{Outcome}
 use Rattle.reasons.specs.Reasons.{noReason, unweldedSlot, copyingSlot, unreachedSlot}
 use Rattle.reasons.specs.Contract.{Explains}
 use Rattle.promises.specs.Calls.{leaves, Answers, Accepted}
-use Rattle.promises.specs.Faithful.{finalReading}
+use Rattle.promises.specs.Faithful.{slotsAt, finalReading}
 use Rattle.promises.specs.Reasons.{Unwelded, CopiesAbsent, Unreached}
 
 -- a call that was made, with the list k lent for the reasons: what it returned, and the three lists after it, as its contract allows
@@ -43,6 +43,8 @@ pub record Promised : Type 0 where
   -- the byte of every slot of an accepted call has its ground, and no two bytes have one for the same slot
   pub told : (x : Call) (k : List ℕ) (m : ReasonsMade x k) → m .returned .number ≡ 0 → (f i : ℕ) → HasSlot (x .mesh .sizes) f i → Says (x .threshold) (meshOf (x .mesh)) f i (reasonAt m f i)
   pub only : (h : Float) (m : List (List Corner)) (f i b c : ℕ) → Says h m f i b → Says h m f i c → b ≡ c
+  -- no byte depends on the threshold
+  pub any-threshold : (g h : Float) (m : List (List Corner)) (f i b : ℕ) → i < length (slotsAt m f) → Says g m f i b → Says h m f i b
   -- where there is a byte a slot, all but the reasons is what the call for frames leaves
   pub frames : (x : Call) (k : List ℕ) (m : ReasonsMade x k) → slotCount (x .mesh .sizes) ≤ length k → Answers x (remains m)
   -- the other refusals come first, then 9 where there is less than a byte a slot
