@@ -69,11 +69,14 @@ part (one-face {k} {ks} {w} {ws} e r) rest (suc n) h =
 
 -- ---- acceptance
 -- the answer begins with the words of the faces
+pub taken-is : (x : Call) → Accepted x → leaves x .answer ≡ answerWords (frames (x .threshold) (meshOf (x .mesh))) ++ drop (slotWords * slotCount (x .mesh .sizes)) (x .answer)
+unfolding leaves outcome answered accepted
+taken-is x e = ap (λ (o : Option Row). answered o (accepted x) (x .answer) (x .work) .answer) (no-row x e)
+
+-- face by face
 answer-is : (x : Call) → Accepted x → leaves x .answer ≡ join (faceWords x) ++ drop (slotWords * slotCount (x .mesh .sizes)) (x .answer)
-unfolding leaves outcome answered accepted faceWords
-answer-is x e =
-    ap (λ (o : Option Row). answered o (accepted x) (x .answer) (x .work) .answer) (no-row x e)
-    ∙ ap (λ (l : List ℕ). l ++ drop (slotWords * slotCount (x .mesh .sizes)) (x .answer)) (joined (frames (x .threshold) (meshOf (x .mesh))))
+unfolding faceWords
+answer-is x e = taken-is x e ∙ ap (λ (l : List ℕ). l ++ drop (slotWords * slotCount (x .mesh .sizes)) (x .answer)) (joined (frames (x .threshold) (meshOf (x .mesh))))
 
 -- what is answered for a face is what the definition has for it
 pub face-is : (x : Call) (z : Result) → Answers x z → z .number ≡ 0 → (n : ℕ) → n < length (x .mesh .sizes) → faceAnswer (x .mesh .sizes) (z .answer) n ≡ getD (faceWords x) n []
@@ -95,7 +98,7 @@ module _ {X : Type 0} (d : X) where
   left-is (left s) (suc n) h = let i = left-is s n (le-of-suc-le-suc h) in (i .0, omega (arith, i .1))
   left-is (right s) n h = let i = left-is s n h in (i .0, omega (arith, i .1))
 
-  right-is : {p : List Bool} {a b m : List X} → Shuffle p a b m → (n : ℕ) → n < length b → (getD m (rightAt p n) d ≡ getD b n d) × (rightAt p n < length m)
+  pub right-is : {p : List Bool} {a b m : List X} → Shuffle p a b m → (n : ℕ) → n < length b → (getD m (rightAt p n) d ≡ getD b n d) × (rightAt p n < length m)
   unfolding rightAt
   right-is done n h = absurd (not-suc-le-zero h)
   right-is (left s) n h = let i = right-is s n h in (i .0, omega (arith, i .1))

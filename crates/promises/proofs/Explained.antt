@@ -270,14 +270,17 @@ module _ (x : Call) (k : List ℕ) (m : ReasonsMade x k) where
   past-by (made-it e) = ap (λ y. drop n (y .reasons)) e ∙ drop-at (reasonBytes x) (drop n k) n (length-listOf n (λ s. onlyAbsent (getD (answerWords (frames (x .threshold) (meshOf (x .mesh)))) (slotWords * s) 0) (reasonBy (getD (answerWords (trial (meshOf (x .mesh)))) (slotWords * s + originWord) 0))))
   past-by (refused-it r p e) = ap (λ y. drop n (y .reasons)) e
 
-  first-by : (o : Option Row) → table ≡ o → (b : Bool) → short ≡ b → (Accepted x → ⊥) → m .returned .number ≡ leaves x .number
+  first-by : (o : Option Row) → table ≡ o → (b : Bool) → short ≡ b → (Accepted x → ⊥) → (m .returned .number ≡ leaves x .number) × (m .returned .place ≡ leaves x .place)
   unfolding left answered afterwards Accepted framesAnswered accepted
   first-by none e b f h = absurd (h (ap (λ y. y .number) (leaves-by none e)))
-  first-by (some r) e b f h = ap (λ y. y .number) (left-by (some r) b e f) ∙ sym (ap (λ y. y .number) (leaves-by (some r) e))
+  first-by (some r) e b f h =
+      let q = left-by (some r) b e f in
+      let z = leaves-by (some r) e in
+      (ap (λ y. y .number) q ∙ sym (ap (λ y. y .number) z), ap (λ y. y .place) q ∙ sym (ap (λ y. y .place) z))
 
-  nine-by : (o : Option Row) → Each InTable o → table ≡ o → short ≡ true → Accepted x → m .returned .number ≡ 9
+  nine-by : (o : Option Row) → Each InTable o → table ≡ o → short ≡ true → Accepted x → (m .returned .number ≡ 9) × (m .returned .place ≡ 0)
   unfolding left answered afterwards Accepted framesAnswered
-  nine-by none i e f a = ap (λ y. y .number) (left-by none true e f)
+  nine-by none i e f a = let q = left-by none true e f in (ap (λ y. y .number) q, ap (λ y. y .place) q)
   nine-by (some r) (each-some i) e f a = let q = sym (ap (λ y. y .number) (leaves-by (some r) e)) ∙ a in absurd (omega (arith, q, i .known .0))
 
 determined-is : (x : Call) (k : List ℕ) (m n : ReasonsMade x k) → (m .returned ≡ n .returned) × (m .answer ≡ n .answer) × (m .work ≡ n .work) × (m .reasons ≡ n .reasons)

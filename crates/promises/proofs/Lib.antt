@@ -21,6 +21,7 @@ pub mod PackedFound
 pub mod PackedWritten
 pub mod PackedAnswers
 pub mod Packed
+pub mod Alike
 pub mod Worth
 pub mod Directions
 pub mod BeforeE7

@@ -3,7 +3,7 @@ use Prim.Native.Nat.{ℕ}
 use native.Mathlib.Omega.{arith}
 use mathlib.Core.Path.{_≡_, refl, sym, _∙_, ap, subst}
 use mathlib.Core.Bool.{Bool, true, false, cond}
-use mathlib.Core.List.{List}
+use mathlib.Core.List.{List, []}
 use lib.ListN.{length, getD}
 use Rattle.tangent.specs.declared.Evaluated.{Evaluated}
 use Rattle.tangent.specs.declared.Reading.{Reading}
@@ -11,14 +11,21 @@ use Rattle.tangent.specs.declared.Reading.the-variants.{Absent, Single, Combine
 use Rattle.tangent.specs.Slot.{singleOrigin, combinedOrigin, copiedOrigin, filledOrigin, tenWords, present, words}
 use Rattle.packed.specs.Component.{within}
 use Rattle.worth.specs.Worth.{absentSlot, goodSlot, lostSlot, blankSlot, longSlot, shortSlot, shown, inBoth, inAll, directed, presentWorth, worth}
-use Rattle.promises.specs.Calls.{readingAt}
+use Rattle.definition.specs.Handed.{Call, meshOf}
+use Rattle.definition.specs.Outcome.{Result}
+use Rattle.definition.specs.Shuffle.{Shuffle, shares}
+use Rattle.definition.proofs.Lengths.{mesh-length}
+use Rattle.promises.specs.Calls.{Answers, readingAt}
+use Rattle.promises.specs.Demand3.{leftAt, rightAt, Promised}
+use Rattle.promises.proofs.Demand3.{left-is, right-is, demand3}
+use Rattle.promises.proofs.Alike.{same-slots}
 use Rattle.promises.proofs.Directions.{taken-slot}
 use Rattle.worth.proofs.Outcomes.{is-broken, is-endless, is-tight, is-none}
 use Rattle.worth.proofs.Meaning.{told, told-only, good-is, is-good}
 use Rattle.worth.proofs.Packing.{packs-well, worth-alike}
 use Rattle.worth.proofs.Floats.{finite-is, counts-is}
 use Rattle.worth.proofs.Judging.{number-is, refused-is, past-kept, verdict-is, count-is, first-other, all-good-first, first-all-good, all-good-count, count-all-good, words-alone, one-judging}
-use Rattle.promises.specs.Worth.{OneSlot, OneCall, AnswerWorth, WorthPromised}
+use Rattle.promises.specs.Worth.{OneSlot, OneCall, AnswerWorth, SameWorth, WorthPromised}
 
 one-slot : OneSlot
 one-slot =
@@ -80,8 +87,23 @@ words-worth (Combined e o) = there combinedOrigin e o (Combined e o) (not-absent
 words-worth (Copied e o) = there copiedOrigin e o (Copied e o) (not-absent (Copied e o) refl)
 words-worth (Filled e o) = there filledOrigin e o (Filled e o) (not-absent (Filled e o) refl)
 
+-- ---- demand 3
+
+same-worth : (p : List Bool) (a b m : Call) (ra rb rm : Result) → Answers a ra → Answers b rb → Answers m rm → Shuffle p (meshOf (a .mesh)) (meshOf (b .mesh)) (meshOf (m .mesh)) → shares (meshOf (a .mesh)) (meshOf (b .mesh)) ≡ false → a .threshold ≡ m .threshold → b .threshold ≡ m .threshold → ra .number ≡ 0 → rb .number ≡ 0 → rm .number ≡ 0 → SameWorth p a b m ra rb rm
+unfolding Promised
+same-worth p a b m ra rb rm qa qb qm s e ha hb ea eb em =
+    let D = demand3 p a b m ra rb rm qa qb qm s e ha hb ea eb em in
+    let la = mesh-length (a .mesh .positions) (a .mesh .normals) (a .mesh .texture) 0 (a .mesh .sizes) in
+    let lb = mesh-length (b .mesh .positions) (b .mesh .normals) (b .mesh .texture) 0 (b .mesh .sizes) in
+    let lm = mesh-length (m .mesh .positions) (m .mesh .normals) (m .mesh .texture) 0 (m .mesh .sizes) in
+    record {
+      first = λ n i h. let l = left-is [] s n (omega (arith, h .face, la)) .1 in ap worth (same-slots a m ra rm qa qm ea em n (leftAt p n) (omega (arith, l, lm)) (D .first n (h .face)) i h);
+      second = λ n i h. let l = right-is [] s n (omega (arith, h .face, lb)) .1 in ap worth (same-slots b m rb rm qb qm eb em n (rightAt p n) (omega (arith, l, lm)) (D .second n (h .face)) i h);
+    }
+
 pub worth-promised : WorthPromised
 worth-promised = record {
+  shuffled = same-worth;
   slot = one-slot;
   call = one-call;
   words-alone = words-alone;

@@ -47,9 +47,9 @@ pub record Promised : Type 0 where
   pub any-threshold : (g h : Float) (m : List (List Corner)) (f i b : ℕ) → i < length (slotsAt m f) → Says g m f i b → Says h m f i b
   -- where there is a byte a slot, all but the reasons is what the call for frames leaves
   pub frames : (x : Call) (k : List ℕ) (m : ReasonsMade x k) → slotCount (x .mesh .sizes) ≤ length k → Answers x (remains m)
-  -- the other refusals come first, then 9 where there is less than a byte a slot
-  pub table-first : (x : Call) (k : List ℕ) (m : ReasonsMade x k) → (Accepted x → ⊥) → m .returned .number ≡ leaves x .number
-  pub nine : (x : Call) (k : List ℕ) (m : ReasonsMade x k) → Accepted x → length k < slotCount (x .mesh .sizes) → m .returned .number ≡ 9
+  -- the other refusals come first, with their places, then 9 at place 0 where there is less than a byte a slot
+  pub table-first : (x : Call) (k : List ℕ) (m : ReasonsMade x k) → (Accepted x → ⊥) → (m .returned .number ≡ leaves x .number) × (m .returned .place ≡ leaves x .place)
+  pub nine : (x : Call) (k : List ℕ) (m : ReasonsMade x k) → Accepted x → length k < slotCount (x .mesh .sizes) → (m .returned .number ≡ 9) × (m .returned .place ≡ 0)
   -- a refusal alters nothing
   pub refused : (x : Call) (k : List ℕ) (m : ReasonsMade x k) → (m .returned .number ≡ 0 → ⊥) → (m .returned .slots ≡ 0) × (m .answer ≡ x .answer) × (m .work ≡ x .work) × (m .reasons ≡ k)
   -- and nothing alters a byte past the slots

@@ -1,7 +1,7 @@
 -- What is promised of a verdict on every slot. Definitions only.
 use Prim.Native.Nat.{ℕ, _/_, _%_, _≤_, _<_}
 use mathlib.Core.Path.{_≡_}
-use mathlib.Core.Bool.{true}
+use mathlib.Core.Bool.{Bool, true, false}
 use mathlib.Core.List.{List}
 use lib.ListN.{length, getD, drop}
 use Rattle.bits.specs.Word.{number, isFinite}
@@ -15,11 +15,13 @@ use Rattle.worth.specs.Worth.{absentSlot, goodSlot, lostSlot, finite, counted, 
 use Rattle.worth.specs.Meaning.{IsGood, Told, PacksWell, Alike}
 use Rattle.worth.specs.Contract.{mostSlots, goodAt, notJudged, judgeLeft, Judges}
 use Rattle.worth.specs.declared.Judged.{Judged}
-use Rattle.definition.specs.Handed.{Call}
+use Rattle.definition.specs.Handed.{Call, meshOf}
+use Rattle.definition.specs.Shuffle.{Shuffle, shares}
 use Rattle.definition.specs.Outcome.{Result}
 use Rattle.view.specs.Answer.{HasSlot}
 use Rattle.promises.specs.Calls.{Answers, readingAt}
 use Rattle.promises.specs.Directions.{slotIn}
+use Rattle.promises.specs.Demand3.{leftAt, rightAt}
 
 -- each slot of an answer list is good
 abbrev pub AllGood : List ℕ → Type 0
@@ -70,10 +72,17 @@ pub record AnswerWorth (slot : List ℕ) (r : Reading) : Type 0 where
   pub absent : r ≡ Absent → worth slot ≡ absentSlot
   pub absent-only : worth slot ≡ absentSlot → r ≡ Absent
 
+-- Demand 3 for verdicts: of three accepted calls, the third mesh a shuffle of the two others, the verdict on each slot of a face is the one that it had alone
+pub record SameWorth (p : List Bool) (a b m : Call) (ra rb rm : Result) : Type 0 where
+  pub first : (n i : ℕ) → HasSlot (a .mesh .sizes) n i → worth (slotIn (m .mesh .sizes) (leftAt p n) i (rm .answer)) ≡ worth (slotIn (a .mesh .sizes) n i (ra .answer))
+  pub second : (n i : ℕ) → HasSlot (b .mesh .sizes) n i → worth (slotIn (m .mesh .sizes) (rightAt p n) i (rm .answer)) ≡ worth (slotIn (b .mesh .sizes) n i (rb .answer))
+
 pub record WorthPromised : Type 0 where
   pub slot : OneSlot
   pub call : (l v : List ℕ) → OneCall l v
-  -- the verdict goes by the slot's words alone: where demand 3 says that two answers have the same words, they have the same verdict
+  -- demand 3: 'Shuffle two meshes that share no welded corner into one': each face gets the verdicts it had alone
+  pub shuffled : (p : List Bool) (a b m : Call) (ra rb rm : Result) → Answers a ra → Answers b rb → Answers m rm → Shuffle p (meshOf (a .mesh)) (meshOf (b .mesh)) (meshOf (m .mesh)) → shares (meshOf (a .mesh)) (meshOf (b .mesh)) ≡ false → a .threshold ≡ m .threshold → b .threshold ≡ m .threshold → ra .number ≡ 0 → rb .number ≡ 0 → rm .number ≡ 0 → SameWorth p a b m ra rb rm
+  -- the verdict goes by the slot's words alone
   pub words-alone : (l m v u : List ℕ) (s t : ℕ) → judgeLeft l v .number ≡ 0 → judgeLeft m u .number ≡ 0 → s < slotsIn l → t < slotsIn m → slotAt l s ≡ slotAt m t → getD (judgeLeft l v .verdicts) s 0 ≡ getD (judgeLeft m u .verdicts) t 0
   -- any two outcomes that satisfy the contract are equal
   pub one-judging : (l v u t : List ℕ) (r s : Judged) → Judges l v r u → Judges l v s t → (r ≡ s) × (u ≡ t)

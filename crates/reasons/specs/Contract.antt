@@ -23,6 +23,7 @@ pub record ReasonsLeft : Type 0 where
   pub work : List ℕ
   pub reasons : List ℕ
 
+-- these, of a call that was made
 unfoldable pub left : Outcome → List ℕ → List ℕ → List ℕ → ReasonsLeft
 left r answer work reasons = record { number = r .number; place = r .place; slots = r .slots; answer = answer; work = work; reasons = reasons }
 

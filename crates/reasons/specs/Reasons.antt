@@ -11,7 +11,7 @@ use Rattle.lists.specs.Loops.{listOf}
 abbrev pub noReason : ℕ
 noReason = 0
 
--- (1) its corner is one of a degenerate triangle, and no sound corner is welded to it
+-- (1) its corner is one of a degenerate triangle whose face isn't a marked quad, and no sound corner is welded to it
 abbrev pub unweldedSlot : ℕ
 unweldedSlot = 1
 

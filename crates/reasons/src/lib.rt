@@ -22,7 +22,7 @@ use mikktspace::Outcome;
 // The slot is there.
 pub const PRESENT: u8 = 0;
 
-// Its corner is one of a degenerate triangle, and no sound corner is welded to it.
+// Its corner is one of a degenerate triangle whose face is no marked quad, and no sound corner is welded to it.
 pub const UNWELDED: u8 = 1;
 
 // It copies a corner that is absent itself.
