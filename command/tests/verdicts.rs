@@ -34,9 +34,9 @@ const ON_A_LINE: &str = "likely cause: its corners stand on a line (line 18 of t
 /// What is said of good corners whose two directions are one.
 const ONE_WAY: &str = "good, and tangent and bi-tangent run one way; ";
 
-// on a line along an axis the parts of the sides beside the others are zero, and the angles at the two ends weigh nothing
+// of this line along an axis the angles at the two ends come out as zero and weigh nothing; of others they need not
 #[test]
-fn three_corners_on_a_line_along_an_axis_are_not_good() {
+fn the_ends_of_a_line_whose_angles_are_zero_are_not_good() {
     let room = Room::new("on_a_line");
     let vertices = ["0 0 0 0 0 1 0 0", "1 0 0 0 0 1 1 0", "2 0 0 0 0 1 0 1"];
     room.put("a.ply", ply(&vertices, &["3 0 1 2"]));
@@ -77,12 +77,22 @@ fn marked(picture: &str) -> usize {
     marks.saturating_sub(1)
 }
 
-// good says that both directions count, and not that they differ
+// good says that both directions count, and not that they differ: of these lines no angle is rounded to zero
 #[test]
-fn three_corners_on_a_slanting_line_are_good_and_are_to_be_looked_at() {
-    let room = Room::new("slanting");
-    let vertices = ["0 0 0 0 0 1 0 0", "1 2 0 0 0 1 1 0", "3 6 0 0 0 1 0 1"];
-    room.put("a.ply", ply(&vertices, &["3 0 1 2"]));
+fn three_corners_on_other_lines_are_good_and_are_to_be_looked_at() {
+    let lines = [
+        ["0 0 0 0 0 1 0 0", "1 2 0 0 0 1 1 0", "3 6 0 0 0 1 0 1"],
+        ["0 0 0 0 0 1 0 0", "41 0 0 0 0 1 1 0", "82 0 0 0 0 1 0 1"],
+    ];
+    for vertices in lines {
+        looked_at(&vertices);
+    }
+}
+
+/// Runs the command on a triangle that is good and has no area, and then on one that has.
+fn looked_at(vertices: &[&str]) {
+    let room = Room::new("looked_at");
+    room.put("a.ply", ply(vertices, &["3 0 1 2"]));
     let ran = room.run("frames a.ply -o a.card --report a.csv --picture a.svg");
     ran.ends(0, "verdict       all 3 slots are good (exit status 0)");
     let look = format!("LOOK AT       face 0, corner 0 1 2: {ONE_WAY}{ON_A_LINE}");

@@ -34,7 +34,7 @@ fn blank(reading: Reading) -> Flawed {
 
 #[test]
 fn a_frame_of_zeros_is_never_present() {
-    // three corners on a line: two of them have a frame of zeros
+    // three corners on a line of which the angles at the ends come out as zero: two have a frame of zeros
     let line = triangle(
         [[0.0; 3], [1.0, 0.0, 0.0], [2.0, 0.0, 0.0]],
         [0.0, 0.0, 1.0],
