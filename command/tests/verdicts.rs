@@ -259,6 +259,17 @@ fn a_triangle_that_no_group_reached() {
     absent("unreached", mesh, &[&line], &[UNREACHED; 3]);
 }
 
+#[test]
+fn a_line_on_which_a_direction_cancels_out_is_absent() {
+    // the second texture coordinate grows as the corners go on, so that nothing is left for the first
+    let vertices = ["0 0 0 0 0 1 0 0", "1 0 0 0 0 1 1 1", "2 0 0 0 0 1 0 2"];
+    let line = format!(
+        "face 0, corner 0 1 2: {UNREACHED}; likely cause: its corners stand on a line (line 18"
+    );
+    let mesh = ply(&vertices, &["3 0 1 2"]);
+    absent("cancels", mesh, &[&line], &[UNREACHED; 3]);
+}
+
 /// The bits of 1, of a NaN, and of the next numbers that are too long and too short.
 const ONE: u32 = 0x3f80_0000;
 const NAN: u32 = 0x7fc0_0000;
