@@ -2,7 +2,7 @@
 use crate::cause::{as_one, cause, lacking};
 use crate::state::{BAD, Known, NO_ANSWERS, State, Tally};
 use crate::stop::Status;
-use dokphalun::{Kind, Place, Record};
+use dokphalun::{Place, Record};
 use std::fmt::Display;
 use std::io::{IsTerminal, Write, stderr, stdout};
 use std::path::Path;
@@ -118,7 +118,7 @@ fn absent(known: &Known, slot: usize, face: usize, start: usize) -> String {
 
 /// Why the record of a slot of a face, which starts there, is in a state that is neither good nor absent.
 fn bad(known: &Known, slot: usize, face: usize, start: usize, state: State) -> String {
-    let kind: Kind = known.judged.kind;
+    let kind = known.judged.kind;
     let plain = match (state, &known.judged.records[slot]) {
         (State::NoDirection, Record::Blank(frame)) => {
             return lacking(frame, kind, known.surface, face, start);

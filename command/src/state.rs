@@ -74,7 +74,7 @@ impl State {
     }
 }
 
-/// What is known of a blank frame of a kind. An old card could be of an edition that wrote other words.
+/// What is known of a blank frame of a kind: of an old card what the archive says, whatever word it has for the orientation.
 fn blank(frame: &Flawed, kind: Kind) -> State {
     let [.., turn] = frame.bits();
     match kind == Kind::New && turn > 1 {

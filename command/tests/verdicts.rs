@@ -380,7 +380,7 @@ fn an_orientation_that_no_answer_has_is_worse_on_a_new_card() {
     assert!(room.text("a.svg").contains(">NO ORIENTATION (1)<"));
     room.run("read a.card --total 3")
         .ends(6, "NO ORIENTATION records 1 (counted from 0;");
-    // an old card may be of an edition that had other words
+    // on an old card it is what the archive says
     with_second(&room, Kind::Old, record(ONE, 2, 1));
     let ran = room.run(line);
     let why = "the word for its orientation is neither 0 nor 1; likely cause: ";
