@@ -59,6 +59,15 @@ extern "C" {
 #define DOKPHALUN_ASK
 #endif
 
+/* What stands before a function that has a better one beside it; a compiler that has a way to warn says which. */
+#if defined(__GNUC__) || defined(__clang__)
+#define DOKPHALUN_DEPRECATED(instead) __attribute__((deprecated(instead)))
+#elif defined(_MSC_VER)
+#define DOKPHALUN_DEPRECATED(instead) __declspec(deprecated(instead))
+#else
+#define DOKPHALUN_DEPRECATED(instead)
+#endif
+
 /* What dokphalun_frames says: number 0, place 0 and how many slots it wrote; or a refusal's number, its place and 0. They are
  * checked in this order, and the first that applies is given:
  *   1  more than DOKPHALUN_MOST_FACES faces
@@ -76,7 +85,8 @@ struct dokphalun_outcome {
 };
 
 /* What dokphalun_judge says: number 0, how many slots are DOKPHALUN_JUDGED_GOOD, and the lowest that is not, or the number of slots where all
- * are; or a refusal's number and zeros. All slots are good exactly where `good` is their number.
+ * are; or a refusal's number and zeros. All slots are good where `number` is 0, there is a slot, and `good` is how many there are; of no slot at
+ * all `good` is 0 too, and nothing was read.
  *   1  the words are not whole slots, or 2^32 slots or more
  *   2  the list for the verdicts is shorter than one a slot
  */
@@ -248,7 +258,10 @@ DOKPHALUN_ASK struct dokphalun_outcome dokphalun_reasons(
     uint8_t *reasons, size_t reason_bytes);
 
 /* A verdict on each slot of a list, a byte each (enum dokphalun_verdict): of an answer, or of what dokphalun_card_read left. Past the
- * slots nothing is altered. An old card's records are widened with dokphalun_old_to_slot first; the verdict looks at words 0 to 9. */
+ * slots nothing is altered. The verdict looks at words 0 to 9. It says nothing else: the two directions of a good slot can be one and the same,
+ * as those of a face whose corners stand on a line are.
+ * WARNING: no old card's records here. Six of them are as long as five slots: they would be judged as five other slots, and not be refused.
+ * Widen each with dokphalun_old_to_slot first, or ask dokphalun_judged_old_slot. */
 DOKPHALUN_ASK struct dokphalun_judged dokphalun_judge(
     const uint32_t *answer, size_t answer_words,
     uint8_t *verdicts, size_t verdict_bytes);
@@ -356,13 +369,18 @@ DOKPHALUN_ASK struct dokphalun_appended dokphalun_old_card_append(
 
 /* Frames packed for a viewer: seven numbers a slot, six directions times 32,767 and 1 or -1 for the orientation; a slot
  * without a frame is seven times -32,768.
+ * WARNING: judge first. A slot that is DOKPHALUN_JUDGED_BLANK or DOKPHALUN_JUDGED_SHORT can be packed with three zeros for a direction (a frame
+ * of zeros as 0 0 0 0 0 0 1): that is unpacked as present, and looks smooth. Make each slot that is not DOKPHALUN_JUDGED_GOOD twelve zeros
+ * before it is packed, or pack none.
  * WARNING: no old card's records here. Six of them are as long as five slots: they are taken for five wrong ones and not refused.
  * Widen each with dokphalun_old_to_slot first. */
 DOKPHALUN_ASK struct dokphalun_packed dokphalun_pack(
     const uint32_t *answer, size_t answer_words,
     int16_t *packed, size_t packed_numbers);
 
-/* Packed frames read: eight words a slot, 1, six numbers and the orientation; an absent one is 0 and seven times -32,768. */
+/* Packed frames read: eight words a slot, 1, six numbers and the orientation; an absent one is 0 and seven times -32,768.
+ * WARNING: where the first three of the six numbers, or the last three, are 0, what was packed was of no use: take it as absent, though its first
+ * word is 1. */
 DOKPHALUN_ASK struct dokphalun_unpacked dokphalun_unpack(
     const int16_t *packed, size_t packed_numbers,
     uint32_t *answer, size_t answer_words);
@@ -414,13 +432,10 @@ static inline enum dokphalun_reading dokphalun_old_words(const uint32_t *words, 
     return words[0] == 1 ? DOKPHALUN_PRESENT : words[0] == 0 ? DOKPHALUN_ABSENT : DOKPHALUN_LOST;
 }
 
-/* What word 0 of slot k of an answer list says. The frame is filled in where it is present; else its directions and magnitudes become
- * NaN, so that an answer that was not asked for does not look like zeros, and preserving, origin and behind, which have no NaN, 0.
- * WARNING: a present frame can be of no use. dokphalun_judged_slot fills in good ones alone. */
-DOKPHALUN_ASK static inline enum dokphalun_reading dokphalun_slot(
-    const uint32_t *answer, size_t k, struct dokphalun_frame *frame)
+/* What the words of a slot say. The frame is filled in where it is present; else its directions and magnitudes become NaN, so that an
+ * answer that was not asked for does not look like zeros, and preserving, origin and behind, which have no NaN, 0. */
+static inline enum dokphalun_reading dokphalun_new_words(const uint32_t *slot, struct dokphalun_frame *frame)
 {
-    const uint32_t *slot = answer + DOKPHALUN_SLOT_WORDS * k;
     enum dokphalun_reading reading = dokphalun_old_words(slot, frame);
     if (reading != DOKPHALUN_PRESENT)
         return reading;
@@ -431,33 +446,52 @@ DOKPHALUN_ASK static inline enum dokphalun_reading dokphalun_slot(
     return reading;
 }
 
-/* What is known of record k of an old card, in the same way. Where its frame comes from is not recorded there. */
+/* What word 0 of slot k of an answer list says. Deprecated: a frame that is present by word 0 can be of no use, and is filled in all the
+ * same. dokphalun_judged_slot fills in good ones alone. */
+DOKPHALUN_DEPRECATED("it goes by word 0: use dokphalun_judged_slot")
+DOKPHALUN_ASK static inline enum dokphalun_reading dokphalun_slot(
+    const uint32_t *answer, size_t k, struct dokphalun_frame *frame)
+{
+    return dokphalun_new_words(answer + DOKPHALUN_SLOT_WORDS * k, frame);
+}
+
+/* What word 0 of record k of an old card says, in the same way. Deprecated, as dokphalun_slot is. */
+DOKPHALUN_DEPRECATED("it goes by word 0: use dokphalun_judged_old_slot")
 DOKPHALUN_ASK static inline enum dokphalun_reading dokphalun_old_slot(
     const uint32_t *records, size_t k, struct dokphalun_frame *frame)
 {
     return dokphalun_old_words(records + DOKPHALUN_OLD_SLOT_WORDS * k, frame);
 }
 
-/* The archive's verdict on slot k of an answer list. The frame is filled in where the slot is DOKPHALUN_JUDGED_GOOD, and is as dokphalun_slot
- * leaves that of an absent one for every other verdict. */
+/* The archive's verdict on slot k of an answer list. The frame is filled in where the slot is DOKPHALUN_JUDGED_GOOD; for every other verdict its
+ * directions and magnitudes become NaN, and preserving, origin and behind 0. */
 DOKPHALUN_ASK static inline enum dokphalun_verdict dokphalun_judged_slot(
     const uint32_t *answer, size_t k, struct dokphalun_frame *frame)
 {
     const uint32_t nothing[DOKPHALUN_SLOT_WORDS] = {0}, *slot = answer + DOKPHALUN_SLOT_WORDS * k;
     uint8_t verdict = DOKPHALUN_JUDGED_LOST;
     struct dokphalun_judged judged = dokphalun_judge(slot, DOKPHALUN_SLOT_WORDS, &verdict, 1);
-    enum dokphalun_reading reading = dokphalun_slot(judged.good == 1 ? slot : nothing, 0, frame);
+    enum dokphalun_reading reading = dokphalun_new_words(judged.good == 1 ? slot : nothing, frame);
     (void)reading; /* the verdict says more */
     return (enum dokphalun_verdict)verdict;
 }
 
-/* A record of an old card as a slot, for dokphalun_judge, dokphalun_pack and dokphalun_slot: its words, and zeros, which say that the origin is not
+/* A record of an old card as a slot, for dokphalun_judge and dokphalun_pack: its words, and zeros, which say that the origin is not
  * recorded. The two lists stand apart. It is not for dokphalun_card_write: on a new card each frame has an origin, and the command
  * says NO ORIGIN of one that has none. */
 static inline void dokphalun_old_to_slot(const uint32_t old[DOKPHALUN_OLD_SLOT_WORDS], uint32_t slot[DOKPHALUN_SLOT_WORDS])
 {
     memset(slot, 0, DOKPHALUN_SLOT_WORDS * sizeof *slot);
     memcpy(slot, old, DOKPHALUN_OLD_SLOT_WORDS * sizeof *old);
+}
+
+/* The archive's verdict on record k of an old card, in the same way as dokphalun_judged_slot. Where its frame comes from is not recorded there. */
+DOKPHALUN_ASK static inline enum dokphalun_verdict dokphalun_judged_old_slot(
+    const uint32_t *records, size_t k, struct dokphalun_frame *frame)
+{
+    uint32_t slot[DOKPHALUN_SLOT_WORDS];
+    dokphalun_old_to_slot(records + DOKPHALUN_OLD_SLOT_WORDS * k, slot);
+    return dokphalun_judged_slot(slot, 0, frame);
 }
 
 #ifdef __cplusplus

@@ -50,7 +50,8 @@ pub fn run(asked: &AskedFrames) -> Result<Status, Stop> {
         judged: Judged {
             records: &records,
             kind: Kind::New,
-            good: answer.good() as usize,
+            all_good: answer.all_good(),
+            torn: 0,
         },
         reasons: &reasons,
     };

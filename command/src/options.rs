@@ -20,7 +20,7 @@ const HELP: &str = "dokphalun: tangent frames of a scanned mesh. An absent readi
       Tangents of one corner are joined up to an angle; by default there is no limit (180 degrees, cosine -1).
       With --origins the picture marks where frames come from: combined, copied or filled in.
   dokphalun read CARD --total N [--mesh MESH] [--report CSV] [--picture SVG [--origins]]
-      What is on a card of N records, of the old kind or the new: present, absent, lost, and torn bytes; with the mesh, which faces.
+      What is on a card of N records, of the old kind or the new: good, absent, lost, and torn bytes; with the mesh, which faces.
   dokphalun links MESH -o LISTS
       Writes our own links, groups and orientations of the mesh's sound triangles, as text.
   dokphalun examine MESH LISTS
@@ -28,8 +28,8 @@ const HELP: &str = "dokphalun: tangent frames of a scanned mesh. An absent readi
   dokphalun demo [FOLDER]
       Makes a tank, and runs `frames` and `read` on it. It leaves mesh, card, report and pictures in FOLDER (dokphalun-demo).
 
-Exit status: 0 every slot is present; or lists are written, or accepted. 2 the command line is not understood. 3 some corner has no frame, or none of use. 4 the mesh is refused.
-5 a file cannot be read. 6 a card has lost records, records that no answer has, or torn bytes. 7 a file cannot be written. 8 lists are not accepted.
+Exit status: 0 every slot is good; or lists are written, or accepted. 2 the command line is not understood. 3 some corner has no frame, or none of use. 4 the mesh is refused.
+5 a file cannot be read. 6 a card has lost records, frames without origin or orientation, or torn bytes. 7 a file cannot be written. 8 lists are not accepted.
 ";
 
 /// The first words that are known.

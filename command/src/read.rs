@@ -47,7 +47,8 @@ pub fn run(asked: &AskedRead) -> Result<Status, Stop> {
     let judged = Judged {
         records: &records,
         kind: read.kind,
-        good: read.good(),
+        all_good: read.all_good(),
+        torn: read.torn,
     };
     let why = surface
         .as_ref()
@@ -140,12 +141,8 @@ fn summary(card: &Card, judged: Judged, known: Option<&Known>) -> Status {
         );
     }
     let without_slots = known.map_or(0, |known| known.without_slots().count());
-    let sum = say::sum(&tally, without_slots);
-    let (sum, status) = match torn {
-        0 => (sum, tally.status(without_slots)),
-        _ => (format!("{sum}, {torn} torn bytes"), Status::Lost),
-    };
-    say::verdict(&sum, status);
+    let status = tally.status(without_slots);
+    say::verdict(&say::sum(&tally, without_slots), status);
     status
 }
 

@@ -1,12 +1,12 @@
 //! The report: a row of comma-separated values for each corner. What is not there is left empty, and is never a zero.
 use crate::state::{Known, State};
-use dokphalun::{Flawed, Frame, Origin, Place, Record, corners, takes_slots};
+use dokphalun::{Frame, Place, Record, corners, takes_slots};
 use std::fmt::Write;
 
 /// The names of the columns.
 const TITLES: &str = "face,corner,slot,reading,tangent_x,tangent_y,tangent_z,bitangent_x,bitangent_y,bitangent_z,mag_s,mag_t,orientation,origin,behind,reason\n";
 
-/// What stands between the reading and the reason where there is no frame: nothing, in each column.
+/// What stands between the reading and the reason where there is no frame, or none of use: nothing, in each column.
 const NOTHING: &str = ",,,,,,,,,,";
 
 /// The report's text.
@@ -37,9 +37,8 @@ fn row(known: &Known, Place { face, corner }: Place, slot: Option<usize>) -> Str
     let record = &known.judged.records[slot];
     let state = State::of(record, known.judged.kind);
     let held = match (state, record) {
-        (State::NoOrigin, _) | (_, Record::Lost | Record::Absent) => NOTHING.into(),
-        (_, Record::Present(frame)) => numbers(frame),
-        (_, Record::Blank(frame) | Record::Long(frame) | Record::Short(frame)) => bits(frame),
+        (State::Present, Record::Present(frame)) => numbers(frame),
+        _ => NOTHING.into(),
     };
     let reason = known.reasons.get(slot).copied().flatten();
     let reason = reason.filter(|_| state == State::Absent);
@@ -49,27 +48,15 @@ fn row(known: &Known, Place { face, corner }: Place, slot: Option<usize>) -> Str
 
 /// What a frame holds: eight numbers, shortest text that reads back the same; the orientation; where it comes from in words, and how many
 /// triangles stand behind it, empty where that is not recorded.
-fn columns(numbers: [f32; 8], turn: u32, origin: Origin, behind: Option<u32>) -> String {
+fn numbers(frame: &Frame) -> String {
+    let ([a, b, c], [d, e, f]) = (frame.tangent, frame.bitangent);
+    let numbers = [a, b, c, d, e, f, frame.mag_s, frame.mag_t];
     let mut text = String::new();
     for number in numbers {
         // writing to a string does not fail
         let _ = write!(text, "{number},");
     }
-    let behind = behind.map(|count| count.to_string()).unwrap_or_default();
-    text + &format!("{turn},{},{behind}", origin.word())
-}
-
-/// Those of a frame.
-fn numbers(frame: &Frame) -> String {
-    let ([a, b, c], [d, e, f]) = (frame.tangent, frame.bitangent);
-    let numbers = [a, b, c, d, e, f, frame.mag_s, frame.mag_t];
-    let turn = u32::from(frame.preserving);
-    columns(numbers, turn, frame.origin, frame.behind)
-}
-
-/// Those of a frame that is of no use: its reading says so, and they are there to be looked at.
-fn bits(frame: &Flawed) -> String {
-    let [numbers @ .., turn] = frame.bits();
-    let numbers = numbers.map(f32::from_bits);
-    columns(numbers, turn, frame.origin(), frame.behind())
+    let behind = frame.behind.map(|count| count.to_string());
+    let (turn, origin) = (u32::from(frame.preserving), frame.origin.word());
+    text + &format!("{turn},{origin},{}", behind.unwrap_or_default())
 }

@@ -1,6 +1,6 @@
 //! What is printed: counts, and each corner that is not good, loudly.
-use crate::cause::{cause, lacking};
-use crate::state::{BAD, Known, State, Tally};
+use crate::cause::{as_one, cause, lacking};
+use crate::state::{BAD, Known, NO_ANSWERS, State, Tally};
 use crate::stop::Status;
 use dokphalun::{Place, Record};
 use std::fmt::Display;
@@ -30,8 +30,8 @@ pub fn tally(tally: &Tally, states: impl IntoIterator<Item = State>) {
     line("present", tally.present);
     for state in states {
         match tally.count(state) {
-            // an old card's frames have none, and that is no fault of theirs
-            0 if state == State::NoOrigin => (),
+            // no answer's frame lacks these, and an old card's not having an origin is no fault of theirs
+            0 if state != State::Lost && NO_ANSWERS.contains(&state) => (),
             0 => line(&state.word().to_lowercase(), 0),
             count => loud(state.word(), count),
         }
@@ -59,7 +59,8 @@ pub fn quoted(path: &Path) -> String {
 /// Each face with a corner that is not good: which corners, why, and where the face stands in its file.
 /// Faces and corners are counted from 0.
 pub fn faces(known: &Known) {
-    if BAD.iter().any(|state| !known.faces(*state).is_empty()) {
+    let named = BAD.iter().any(|state| !known.faces(*state).is_empty());
+    if named || known.parallel().next().is_some() {
         line("", "(faces and corners are counted from 0)");
     }
     let starts = known.surface.starts();
@@ -67,7 +68,7 @@ pub fn faces(known: &Known) {
     for state in BAD {
         let why = |slot, place: Place| match state {
             State::Absent => absent(known, slot, place.face, starts[place.face]),
-            _ => bad(&known.judged.records[slot], state).into(),
+            _ => bad(known, slot, place.face, starts[place.face], state),
         };
         for (face, why, corners) in known.told(state, why) {
             let corners: Vec<String> = corners.iter().map(usize::to_string).collect();
@@ -75,10 +76,32 @@ pub fn faces(known: &Known) {
             loud(state.word(), format!("{which}: {why} ({})", spot(face)));
         }
     }
+    look_at(known, &starts);
     for face in known.without_slots() {
         let size = known.surface.sizes[face];
         let why = format!("{size} corners, and only faces of 3 or 4 are read");
         loud("NO SLOT", format!("face {face}: {why} ({})", spot(face)));
+    }
+}
+
+/// Each face with good frames whose two directions are one: they are good by the archive's verdict, and somebody looks at the face.
+fn look_at(known: &Known, starts: &[usize]) {
+    let mut faces: Vec<(usize, Vec<String>)> = Vec::new();
+    for Place { face, corner } in known.parallel() {
+        match faces.last_mut() {
+            Some((last, corners)) if *last == face => corners.push(corner.to_string()),
+            _ => faces.push((face, vec![corner.to_string()])),
+        }
+    }
+    for (face, corners) in faces {
+        let which = format!("face {face}, corner {}", corners.join(" "));
+        let why = as_one(known.surface, face, starts[face]);
+        let what = "good, and tangent and bi-tangent run one way; likely cause";
+        let spot = known.surface.spots[face];
+        loud(
+            "LOOK AT",
+            format!("{which}: {what}: {why} ({spot} of the mesh)"),
+        );
     }
 }
 
@@ -93,23 +116,31 @@ fn absent(known: &Known, slot: usize, face: usize, start: usize) -> String {
     }
 }
 
-/// Why a record is in a state that is neither good nor absent.
-fn bad(record: &Record, state: State) -> &'static str {
-    match (state, record) {
-        (State::NoDirection, Record::Blank(frame)) => lacking(frame),
+/// Why the record of a slot of a face, which starts there, is in a state that is neither good nor absent.
+fn bad(known: &Known, slot: usize, face: usize, start: usize, state: State) -> String {
+    let kind = known.judged.kind;
+    let plain = match (state, &known.judged.records[slot]) {
+        (State::NoDirection, Record::Blank(frame)) => {
+            return lacking(frame, kind, known.surface, face, start);
+        }
         (State::TooShort, _) => TOO_SHORT,
         (State::TooLong, _) => TOO_LONG,
+        (State::NoOrientation, _) => NO_ORIENTATION,
         (State::NoOrigin, _) => NO_ORIGIN,
         _ => "not on the card: nothing is known",
-    }
+    };
+    plain.into()
 }
+
+/// What is said of frames of a new card whose word for the orientation is neither 0 nor 1.
+const NO_ORIENTATION: &str = "the card's word for its orientation is none that an answer has: nothing is known, write the card again from the mesh";
 
 /// What is said of frames of a new card without origin.
 const NO_ORIGIN: &str = "the card's words for origin and count are none that an answer has: nothing is known, write the card again from the mesh";
 
 /// What is said of frames that are too long or too short to be packed.
-const TOO_LONG: &str = "a direction is longer than 1: numbers are too large or too small for single precision; a viewer would be shown nothing";
-const TOO_SHORT: &str = "a direction is next to nothing: numbers are too large or too small for single precision; a viewer would be shown zeros";
+const TOO_LONG: &str = "a number of a direction is above 1, and a viewer would be shown nothing; likely cause: numbers too large or too small for single precision";
+const TOO_SHORT: &str = "a direction is next to nothing, and a viewer would be shown zeros; likely cause: numbers too large or too small for single precision";
 
 /// What holds of everything that is not good.
 pub const NOT_GOOD: &str = "An absent reading is not a good reading.";
@@ -124,15 +155,20 @@ pub fn sum(tally: &Tally, without_slots: usize) -> String {
     if without_slots > 0 {
         parts.push(format!("{} WITHOUT SLOTS", counted(without_slots, "face")));
     }
-    match (all, parts.is_empty()) {
-        (0, _) => "no slot at all: NOTHING WAS READ".into(),
-        (_, true) => format!("all {all} slots are present"),
-        (_, false) => format!(
-            "{}; {} of {all} slots present",
-            parts.join(", "),
-            tally.present
-        ),
+    if all == 0 {
+        parts.push("no slot at all: NOTHING WAS READ".into());
     }
+    if tally.torn > 0 {
+        parts.push(format!("{} TORN", counted(tally.torn, "byte")));
+    }
+    if tally.status(without_slots) == Status::Good {
+        return format!("all {all} slots are good");
+    }
+    if all > 0 {
+        let last = parts.pop().map_or(String::new(), |last| last + "; ");
+        parts.push(format!("{last}{} of {all} slots present", tally.present));
+    }
+    parts.join(", ")
 }
 
 /// The last line: what it comes to, and the exit status. What is not good is said on the terminal even where the rest goes to a file.

@@ -1,7 +1,8 @@
 //! What is known of a corner, in one word, by the archive's verdict; and how many corners there are of each.
+use crate::cause::parallel;
 use crate::stop::Status;
 use crate::surface::Surface;
-use dokphalun::{Frame, Kind, Origin, Place, Reason, Record, slots, takes_slots};
+use dokphalun::{Flawed, Frame, Kind, Origin, Place, Reason, Record, slots, takes_slots};
 
 /// What is known of a corner. Only the first is good.
 #[derive(Clone, Copy, Debug, PartialEq, Eq)]
@@ -16,6 +17,8 @@ pub enum State {
     TooLong,
     /// It has no frame.
     Absent,
+    /// A card of the new kind has a frame of it whose word for the orientation is neither 0 nor 1: no answer has such a one.
+    NoOrientation,
     /// A card of the new kind has a frame of it that comes from nowhere, or from no triangle: no answer has such a one.
     NoOrigin,
     /// The card has lost it.
@@ -23,14 +26,18 @@ pub enum State {
 }
 
 /// The states that are not good, worst last.
-pub const BAD: [State; 6] = [
+pub const BAD: [State; 7] = [
     State::NoDirection,
     State::TooShort,
     State::TooLong,
     State::Absent,
+    State::NoOrientation,
     State::NoOrigin,
     State::Lost,
 ];
+
+/// The states that no answer's slot is in: only a card has such records.
+pub const NO_ANSWERS: [State; 3] = [State::NoOrientation, State::NoOrigin, State::Lost];
 
 /// The states of frames that are there and of no use, as the archive judges them.
 pub const FLAWED: [State; 3] = [State::NoDirection, State::TooShort, State::TooLong];
@@ -42,7 +49,7 @@ impl State {
             Record::Lost => return State::Lost,
             Record::Absent => return State::Absent,
             Record::Present(frame) => (State::Present, frame.origin, frame.behind),
-            Record::Blank(frame) => (State::NoDirection, frame.origin(), frame.behind()),
+            Record::Blank(frame) => (blank(frame, kind), frame.origin(), frame.behind()),
             Record::Short(frame) => (State::TooShort, frame.origin(), frame.behind()),
             Record::Long(frame) => (State::TooLong, frame.origin(), frame.behind()),
         };
@@ -60,9 +67,19 @@ impl State {
             State::TooShort => "TOO SHORT",
             State::TooLong => "TOO LONG",
             State::Absent => "ABSENT",
+            State::NoOrientation => "NO ORIENTATION",
             State::NoOrigin => "NO ORIGIN",
             State::Lost => "LOST",
         }
+    }
+}
+
+/// What is known of a blank frame of a kind: of an old card what the archive says, whatever word it has for the orientation.
+fn blank(frame: &Flawed, kind: Kind) -> State {
+    let [.., turn] = frame.bits();
+    match kind == Kind::New && turn > 1 {
+        true => State::NoOrientation,
+        false => State::NoDirection,
     }
 }
 
@@ -77,8 +94,10 @@ pub struct Judged<'a> {
     pub records: &'a [Record],
     /// How wide the records are: old ones say nothing of origins, and need not.
     pub kind: Kind,
-    /// How many of them the archive counts as good.
-    pub good: usize,
+    /// Whether there is one and all are good, as the archive counts them; and, of a card, nothing else stands on it.
+    pub all_good: bool,
+    /// How many torn bytes the card has.
+    pub torn: usize,
 }
 
 impl<'a> Judged<'a> {
@@ -110,6 +129,12 @@ impl Known<'_> {
             ((place, State::Present), Record::Present(frame)) => Some((place, frame)),
             _ => None,
         })
+    }
+
+    /// Those of them whose two directions are one: they are good, and to be looked at.
+    pub fn parallel(&self) -> impl Iterator<Item = Place> {
+        let odd = self.frames().filter(|(_, frame)| parallel(frame));
+        odd.map(|(place, _)| place)
     }
 
     /// The corners of each face that are in some state, face by face.
@@ -159,17 +184,21 @@ pub struct Tally {
     pub too_short: usize,
     pub too_long: usize,
     pub absent: usize,
+    pub no_orientation: usize,
     pub no_origin: usize,
     pub lost: usize,
-    /// How many the archive counts as good, whatever is counted above.
-    pub good: usize,
+    /// How many torn bytes the card has.
+    pub torn: usize,
+    /// Whether there is one and all are good, as the bindings say it from the archive's count, whatever is counted above.
+    pub all_good: bool,
 }
 
 impl Tally {
     /// Counts records.
     pub fn of(judged: Judged) -> Tally {
         let mut tally = Tally {
-            good: judged.good,
+            torn: judged.torn,
+            all_good: judged.all_good,
             ..Tally::default()
         };
         judged
@@ -185,6 +214,7 @@ impl Tally {
             State::TooShort => &mut self.too_short,
             State::TooLong => &mut self.too_long,
             State::Absent => &mut self.absent,
+            State::NoOrientation => &mut self.no_orientation,
             State::NoOrigin => &mut self.no_origin,
             State::Lost => &mut self.lost,
         }
@@ -201,14 +231,14 @@ impl Tally {
         self.present + bad.sum::<usize>()
     }
 
-    /// The exit status: good only where there is a slot, the archive counts every one as good, and so many faces without slots are none.
-    /// What no answer has, or is lost, makes it worse.
+    /// The exit status: good only where there is a slot, all are good, nothing else is on the card, and so many faces without slots are
+    /// none. What no answer has, is lost or is torn makes it worse.
     pub fn status(&self, without_slots: usize) -> Status {
-        let all_good = self.all() > 0 && self.good == self.all();
-        match self {
-            Tally { lost: 1.., .. } | Tally { no_origin: 1.., .. } => Status::Lost,
-            _ if all_good && without_slots == 0 => Status::Good,
-            _ => Status::Absent,
+        let worse = NO_ANSWERS.iter().any(|state| self.count(*state) > 0);
+        match worse || self.torn > 0 {
+            true => Status::Lost,
+            false if self.all_good && without_slots == 0 => Status::Good,
+            false => Status::Absent,
         }
     }
 }

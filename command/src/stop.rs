@@ -5,7 +5,7 @@ use std::path::Path;
 /// The exit statuses. Only 0 is good.
 #[derive(Clone, Copy, Debug, PartialEq, Eq)]
 pub enum Status {
-    /// Every slot is present; or lists are written, or accepted.
+    /// Every slot is good; or lists are written, or accepted.
     Good = 0,
     /// The command line is not understood.
     Usage = 2,
@@ -15,7 +15,7 @@ pub enum Status {
     Refused = 4,
     /// A file cannot be read.
     Unreadable = 5,
-    /// A card has lost records, records that no answer has, or bytes that do not belong to it.
+    /// A card has lost records, frames without origin or orientation, or bytes that do not belong to it.
     Lost = 6,
     /// A file cannot be written.
     Unwritten = 7,

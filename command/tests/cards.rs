@@ -19,7 +19,7 @@ fn with_card(name: &str) -> Room {
 fn a_good_card() {
     let room = with_card("good");
     room.run("read a.card --total 24")
-        .ends(0, "all 24 slots are present (exit status 0)");
+        .ends(0, "all 24 slots are good (exit status 0)");
     room.run("read a.card --total 24 --mesh a.ply")
         .ends(0, "torn bytes    0");
 }
@@ -34,7 +34,7 @@ fn only_with_its_mesh_does_reading_see_a_face_without_slots() {
     room.run("read five.card --total 11 --mesh five.ply")
         .ends(3, "NO SLOT       face 3: 5 corners");
     room.run("read five.card --total 11")
-        .ends(0, "all 11 slots are present (exit status 0)");
+        .ends(0, "all 11 slots are good (exit status 0)");
     room.run("links five.ply -o five.lists").ends(0, "");
     room.run("examine five.ply five.lists").ends(0, "accepted");
 }

@@ -42,7 +42,7 @@ fn every_form_gives_the_same_card() {
         "windows.obj",
     ] {
         let ran = room.run(&format!("frames {mesh} -o {mesh}.card"));
-        ran.ends(0, "all 11 slots are present (exit status 0)");
+        ran.ends(0, "all 11 slots are good (exit status 0)");
         ran.ends(
             0,
             &format!("dokphalun read {mesh}.card --total 11 --mesh {mesh}"),
@@ -87,11 +87,11 @@ fn a_frame_without_a_direction_is_not_good() {
     let ran = room.run("frames a.ply -o a.card --report a.csv --picture a.svg");
     ran.ends(
         3,
-        "NO DIRECTION  face 0, corner 0 1 2 3: a direction is zero: a normal lies along it, or",
+        "NO DIRECTION  face 0, corner 0 1 2 3: a direction is zero; likely cause: a normal lies along it, or",
     );
     assert!(
         room.text("a.csv")
-            .contains("\n0,0,0,NO DIRECTION,0,0,0,0,1,0,1,1,1,combined,4,\n")
+            .contains("\n0,0,0,NO DIRECTION,,,,,,,,,,,,\n")
     );
     assert!(
         room.text("a.svg")
@@ -175,7 +175,7 @@ fn a_refused_mesh_writes_nothing() {
         .ends(4, "refusal 1: 65537 faces");
     room.put("full.ply", shapes::ply_bytes(&many[1..]));
     room.run("frames full.ply -o f.card")
-        .ends(0, "all 196608 slots are present");
+        .ends(0, "all 196608 slots are good");
     room.run("frames full.ply -o g.card --threshold nan")
         .ends(4, "refusal 3");
     assert_eq!(
@@ -249,7 +249,7 @@ fn the_islands_of_a_large_mesh_are_made_on_all_cores() {
         let mesh = triangles(faces, apart);
         room.put("mesh.obj", &mesh);
         let ran = room.run("frames mesh.obj -o mesh.card");
-        ran.ends(0, &format!("all {} slots are present", 3 * faces));
+        ran.ends(0, &format!("all {} slots are good", 3 * faces));
         let said = format!("parts         {cores}, of whole islands, one a core\n");
         assert_eq!(ran.said.contains(&said), parts, "{}", ran.said);
         assert_eq!(ran.said.contains("\nparts "), parts, "{}", ran.said);

@@ -159,7 +159,8 @@ impl Ends {
         let judged = Judged {
             records: &records,
             kind: Kind::New,
-            good: answer.good() as usize,
+            all_good: answer.all_good(),
+            torn: 0,
         };
         let known = Known {
             surface,

@@ -187,7 +187,7 @@ fn a_new_card_s_frame_that_comes_from_nowhere_is_loud_and_never_good() {
     for put in [[1, 1], [2, 2], [3, 1], [4, u32::MAX]] {
         room.put("b.card", with(&card, 13, 10, &put));
         room.run("read b.card --total 24")
-            .ends(0, "all 24 slots are present (exit status 0)");
+            .ends(0, "all 24 slots are good (exit status 0)");
     }
     for put in [[0, 1], [5, 1], [u32::MAX, 1], [0, 0], [1, 0], [4, 0]] {
         room.put("b.card", with(&card, 13, 10, &put));
@@ -229,7 +229,7 @@ fn an_old_card_without_origins_is_good() {
     room.put("old.card", card);
     let ran = room.run("read old.card --total 24");
     ran.ends(0, "origins       24 not recorded\n");
-    ran.ends(0, "all 24 slots are present (exit status 0)");
+    ran.ends(0, "all 24 slots are good (exit status 0)");
 }
 
 #[test]

@@ -141,9 +141,14 @@ impl<'a> Answer<'a> {
         absent.map(|(place, _)| place)
     }
 
-    /// How many slots are good, as the archive counts them: all are exactly where this is [`Answer::total`].
+    /// How many slots are good, as the archive counts them. [`Answer::all_good`] says whether that is all.
     pub fn good(&self) -> u32 {
         self.good as u32
+    }
+
+    /// Whether there is a slot, and the archive counts every one as good. Faces that take no slot are not asked.
+    pub fn all_good(&self) -> bool {
+        self.good > 0 && self.good == self.words.len() / SLOT_WORDS
     }
 
     /// How many slots there are. A reader of the card has to be told this number.
@@ -157,7 +162,7 @@ impl<'a> Answer<'a> {
     }
 
     /// The twelve words of each slot, as the archive wrote them. An absent slot is twelve zeros, and a slot that
-    /// says it is there need not be good: [`Answer::readings`] says which is.
+    /// says it is there need not be good: [`Answer::readings`] says which is, and is asked before they are packed.
     pub fn words(&self) -> &'a [u32] {
         self.words
     }

@@ -151,6 +151,13 @@ impl<'a> Card<'a> {
         self.good
     }
 
+    /// Whether there is a record, the archive counts every one as good, no byte is torn, and no block is of the other kind. That a record
+    /// of the new kind has an origin is not asked: [`crate::Frame::origin`] says it.
+    pub fn all_good(&self) -> bool {
+        let whole = self.torn == 0 && self.of_other_kind == 0;
+        whole && self.good > 0 && self.good == self.verdicts.len()
+    }
+
     /// The card of a list of words as the archive left it, and judged it.
     pub(crate) fn of(
         words: &'a [u32],

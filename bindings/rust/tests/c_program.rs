@@ -1,7 +1,7 @@
-//! The C program of docs/PROGRAMMERS.md, compiled with the header and the archive, and run.
+//! The C program of docs/PROGRAMMERS.md, compiled with the header and the archive, and run; and what the header warns of.
 mod cc;
 
-use cc::{compiled, root};
+use cc::{compiled, compiling, root};
 use std::fs;
 use std::path::Path;
 use std::process::Command;
@@ -26,4 +26,30 @@ fn the_c_program_of_the_page_runs() {
     let said = Command::new(compiled(&source, "page")).output().unwrap();
     assert!(said.status.success());
     assert_eq!(String::from_utf8_lossy(&said.stdout), SAID);
+}
+
+/// What the C compiler has against a program that asks a list of no frame with a function of the header; nothing where it compiles.
+fn against(function: &str) -> String {
+    let source = Path::new(env!("CARGO_TARGET_TMPDIR")).join(format!("{function}.c"));
+    let text = format!(
+        "#include \"dokphalun.h\"\nint main(void)\n{{\n    const uint32_t words[12] = {{0}};\n    struct dokphalun_frame frame;\n    \
+         return (int){function}(words, 0, &frame);\n}}\n"
+    );
+    fs::write(&source, text).unwrap();
+    let (mut cc, _) = compiling(&source, function);
+    let said = cc.output().expect("no C compiler `cc` here");
+    String::from_utf8_lossy(&said.stderr).into_owned()
+}
+
+#[test]
+fn what_goes_by_word_0_is_deprecated() {
+    for (function, instead) in [
+        ("dokphalun_slot", "dokphalun_judged_slot"),
+        ("dokphalun_old_slot", "dokphalun_judged_old_slot"),
+    ] {
+        let said = against(function);
+        let wanted = format!("it goes by word 0: use {instead}");
+        assert!(said.contains(&wanted), "{said}");
+        assert_eq!(against(instead), "");
+    }
 }

@@ -77,11 +77,20 @@ fn the_deepest_walk_at_the_limit_in_a_small_stack() {
     let readings = readings(&deepest(MOST_FACES));
     assert_eq!(readings.len(), MOST_SLOTS);
     // most angles at the rim are too small to weigh anything, so that corners 1 and 3 have no direction
+    let mut blank = 0;
     for pair in readings.as_chunks().0 {
         let [inner, rim] = *pair;
         assert!(plane(&present(inner)));
-        assert!(matches!(rim, Reading::Blank(_)) || plane(&present(rim)));
+        match rim {
+            Reading::Blank(_) => blank += 1,
+            other => assert!(plane(&present(other))),
+        }
     }
+    assert!(
+        blank > MOST_FACES,
+        "{blank} of {} are blank",
+        2 * MOST_FACES
+    );
 }
 
 #[test]

@@ -34,7 +34,7 @@ fn blank(reading: Reading) -> Flawed {
 
 #[test]
 fn a_frame_of_zeros_is_never_present() {
-    // three corners on a line: two of them have a frame of zeros
+    // three corners on a line of which the angles at the ends come out as zero: two have a frame of zeros
     let line = triangle(
         [[0.0; 3], [1.0, 0.0, 0.0], [2.0, 0.0, 0.0]],
         [0.0, 0.0, 1.0],
@@ -151,6 +151,43 @@ fn an_old_card_is_judged_to_its_end() {
     }
     let good = (0..total).filter(|&number| x(number) == ONE).count();
     assert_eq!(read.good(), good);
+}
+
+#[test]
+fn all_good_asks_for_a_slot_and_for_a_whole_card() {
+    let mut buffers = Buffers::new();
+    let all_good = |buffers: &mut Buffers, faces: &Faces| {
+        let answer = buffers.frames(faces.mesh(), -1.0).unwrap();
+        answer.all_good()
+    };
+    let sample = [[0.0; 3], [1.0, 0.0, 0.0], [0.0, 1.0, 0.0]];
+    let faces = triangle(sample, [0.0, 0.0, 1.0]);
+    assert!(all_good(&mut buffers, &faces));
+    assert!(!all_good(&mut buffers, &Faces::default()));
+    assert!(!all_good(&mut buffers, &islands(1))); // one of its three is good
+
+    let (mut card, mut old) = (Vec::new(), Vec::new());
+    write_card(&record(ONE, 1), &mut card).unwrap();
+    let whole = buffers.read_card(&card, 1).unwrap();
+    for (torn, of_other_kind) in [(0, 0), (1, 0), (0, 1)] {
+        let mut changed = whole;
+        (changed.torn, changed.of_other_kind) = (torn, of_other_kind);
+        assert_eq!(changed.all_good(), torn + of_other_kind == 0);
+    }
+    let mut card_good = |card: &[u8], total| buffers.read_card(card, total).unwrap().all_good();
+    write_card(&[record(ONE, 1); 11].concat(), &mut card).unwrap();
+    assert!(card_good(&card, 11));
+    assert!(!card_good(&[], 0));
+    assert!(!card_good(&[card.clone(), vec![0]].concat(), 11)); // a torn byte
+    assert!(!card_good(&card[..BLOCK_BYTES], 11)); // a block is missing
+    // a card of the old kind, and one that was carried on with the new
+    let ten = record(ONE, 1)[..10].repeat(13);
+    write_card_as(Kind::Old, &ten, &mut old).unwrap();
+    assert!(card_good(&old, 13));
+    let mixed = [&old[..BLOCK_BYTES], &card[BLOCK_BYTES..]].concat();
+    assert!(!card_good(&mixed, 13));
+    write_card(&[record(ONE, 1), record(0, 1)].concat(), &mut card).unwrap();
+    assert!(!card_good(&card, 2));
 }
 
 #[test]

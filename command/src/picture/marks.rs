@@ -110,7 +110,7 @@ fn names(marks: &BTreeMap<[i64; 2], Mark>) -> String {
 pub fn sign(state: State) -> String {
     let (inside, cross) = match state {
         _ if FLAWED.contains(&state) => ("#ffffff", ABSENT),
-        State::NoOrigin => ("#111111", "#ffffff"),
+        State::NoOrigin | State::NoOrientation => ("#111111", "#ffffff"),
         _ => (ABSENT, "#ffffff"),
     };
     format!(

@@ -2,6 +2,7 @@
 mod marks;
 mod origins;
 mod page;
+mod parallel;
 mod plane;
 mod strokes;
 
@@ -17,10 +18,14 @@ pub fn picture(known: &Known, name: &str, origins: bool) -> String {
     svg.push_str(&plane.grid());
     svg.push_str(&strokes::faces(&plane, known));
     svg.push_str(&strokes::tangents(&plane, known));
+    svg.push_str(&parallel::parallel(&plane, known));
     if origins {
         svg.push_str(&origins::origins(&plane, known));
     }
-    for state in FLAWED.into_iter().chain([State::NoOrigin, State::Absent]) {
+    for state in FLAWED
+        .into_iter()
+        .chain([State::NoOrientation, State::NoOrigin, State::Absent])
+    {
         svg.push_str(&marks::marks(&plane, known, state));
     }
     svg.push_str("</svg>\n");

@@ -1,5 +1,6 @@
 //! What stands above the field: the title, the verdict and the legend.
 use super::marks::{ABSENT, sign};
+use super::parallel;
 use super::plane::{LEFT, Plane, WIDE};
 use super::strokes::TANGENT;
 use crate::say::{NOT_GOOD, counted, sum};
@@ -32,9 +33,12 @@ pub fn start(plane: &Plane, known: &Known, name: &str, tally: &Tally, more: f64)
     );
     let without = known.without_slots().count();
     svg.push_str(&verdict(tally, without));
-    svg.push_str(&legend(tally, without));
+    svg.push_str(&legend(tally, without, parallel::entry(known)));
     svg
 }
+
+/// What good says, and what not.
+const GOOD: &str = "Each slot has two directions that are not zero. That they differ, or that a face has area, is not said: docs/ABSENT.md";
 
 /// The bar that says what it comes to.
 fn verdict(tally: &Tally, without: usize) -> String {
@@ -44,7 +48,7 @@ fn verdict(tally: &Tally, without: usize) -> String {
         _ => (ABSENT, "#ffffff"),
     };
     let second = match status {
-        Status::Good => "Every corner has a frame.",
+        Status::Good => GOOD,
         _ => NOT_GOOD,
     };
     let wide = WIDE - LEFT - 28.0;
@@ -69,7 +73,7 @@ fn patch(how: &str) -> String {
 }
 
 /// The legend: what is drawn how. What is absent is always named, and the rest where there is any.
-fn legend(tally: &Tally, without: usize) -> String {
+fn legend(tally: &Tally, without: usize, parallel: Entry) -> String {
     let (absent, lost) = (tally.absent, tally.lost);
     let counted = |state: State| {
         let count = tally.count(state);
@@ -92,7 +96,9 @@ fn legend(tally: &Tally, without: usize) -> String {
         counted(State::NoDirection),
         counted(State::TooShort),
         counted(State::TooLong),
+        counted(State::NoOrientation),
         counted(State::NoOrigin),
+        parallel,
         (lost > 0, hatched, format!("LOST on the card ({lost})")),
         (
             without > 0,
@@ -103,8 +109,11 @@ fn legend(tally: &Tally, without: usize) -> String {
     row(&entries, [LEFT + 12.0, 121.0])
 }
 
-/// A row of a legend from a place on: those entries that are there, each with what is drawn and its text.
-pub fn row(entries: &[(bool, String, String)], [mut x, y]: [f64; 2]) -> String {
+/// An entry of a legend: whether it is there, what is drawn, and its text.
+type Entry = (bool, String, String);
+
+/// A row of a legend from a place on: those entries that are there.
+pub fn row(entries: &[Entry], [mut x, y]: [f64; 2]) -> String {
     let mut svg = String::new();
     for (_, drawn, text) in entries.iter().filter(|(there, ..)| *there) {
         let _ = writeln!(

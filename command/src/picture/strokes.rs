@@ -1,6 +1,6 @@
 //! The faces, each by what is known of it, and the tangents of present corners as strokes.
 use super::plane::Plane;
-use crate::cause::area;
+use crate::cause::{ONE_WAY, area, dot, less};
 use crate::state::{BAD, Known, State};
 use std::fmt::Write;
 
@@ -157,20 +157,10 @@ impl<'a> Face<'a> {
         );
         let (at, bt) = (dot(sides[0], tangent), dot(sides[1], tangent));
         let whole = aa * bb - ab * ab;
-        if whole <= 1e-12 * aa * bb {
+        if whole <= ONE_WAY * aa * bb {
             return None;
         }
         let (alpha, beta) = ((at * bb - bt * ab) / whole, (bt * aa - at * ab) / whole);
         Some([0, 1].map(|i| alpha * moves[0][i] + beta * moves[1][i]))
     }
-}
-
-/// The difference of two places.
-fn less<const N: usize>(a: [f32; N], b: [f32; N]) -> [f64; N] {
-    std::array::from_fn(|i| f64::from(a[i]) - f64::from(b[i]))
-}
-
-/// The dot product.
-fn dot(a: [f64; 3], b: [f64; 3]) -> f64 {
-    a.iter().zip(b).map(|(x, y)| x * y).sum()
 }

@@ -324,9 +324,15 @@ fn packs(case: &Case, lines: &mut Lines) {
     lines.said("pack", 0, packed.len(), 0);
     lines.list("packed", &packed);
     lines.said("unpack", 0, 0, 0);
-    for slot in unpack(&packed).expect("it is not read") {
+    let slots = unpack(&packed).expect("it is not read").into_iter();
+    for (slot, seven) in slots.zip(packed.chunks_exact(7)) {
         match slot {
             Packed::Absent => lines.nothing("absent"),
+            // the others have them as they are
+            Packed::NoDirection => {
+                let words = seven[..6].iter().map(|number| i32::from(*number) as u32);
+                lines.list("present", words.chain([u32::from(seven[6] == 1)]));
+            }
             Packed::Present {
                 directions,
                 preserving,

@@ -2,6 +2,11 @@
 #include "dokphalun.h"
 #include <stdio.h>
 
+/* dokphalun_slot and dokphalun_old_slot are called too */
+#if defined(__GNUC__)
+#pragma GCC diagnostic ignored "-Wdeprecated-declarations"
+#endif
+
 #define FACES 16
 #define CORNERS 80
 #define RECORDS 40
@@ -158,7 +163,7 @@ static void slots(const uint32_t *all, size_t count)
     size_t k;
     for (k = 0; k < count; k++) {
         struct dokphalun_frame f, good;
-        enum dokphalun_reading reading = dokphalun_slot(all, k, &f);
+        enum dokphalun_reading reading = dokphalun_slot(all, k, &f); /* by word 0, as it ever was */
         enum dokphalun_verdict verdict = dokphalun_judged_slot(all, k, &good);
         slot(verdict, good, reading, f);
     }
@@ -170,11 +175,8 @@ static void old_slots(const uint32_t *all, size_t count)
     size_t k;
     for (k = 0; k < count; k++) {
         struct dokphalun_frame f, good;
-        uint32_t wide[DOKPHALUN_SLOT_WORDS];
         enum dokphalun_reading reading = dokphalun_old_slot(all, k, &f);
-        enum dokphalun_verdict verdict;
-        dokphalun_old_to_slot(all + DOKPHALUN_OLD_SLOT_WORDS * k, wide);
-        verdict = dokphalun_judged_slot(wide, 0, &good);
+        enum dokphalun_verdict verdict = dokphalun_judged_old_slot(all, k, &good);
         slot(verdict, good, reading, f);
     }
 }
@@ -345,8 +347,8 @@ static void count(size_t *by_new, size_t *by_old)
     *by_new = *by_old = 0;
     for (k = 0; k < in.records; k++) {
         struct dokphalun_frame f;
-        *by_new += dokphalun_slot(read_back, k, &f) != DOKPHALUN_LOST;
-        *by_old += dokphalun_old_slot(old_read_back, k, &f) != DOKPHALUN_LOST;
+        *by_new += dokphalun_judged_slot(read_back, k, &f) != DOKPHALUN_JUDGED_LOST;
+        *by_old += dokphalun_judged_old_slot(old_read_back, k, &f) != DOKPHALUN_JUDGED_LOST;
     }
 }
 

@@ -7,18 +7,23 @@ pub fn root() -> PathBuf {
     Path::new(env!("CARGO_MANIFEST_DIR")).join("../..")
 }
 
-/// Compiles a C program; its file.
-pub fn compiled(source: &Path, name: &str) -> PathBuf {
+/// What compiles a C program, each warning an error; and its file.
+pub fn compiling(source: &Path, name: &str) -> (Command, PathBuf) {
     let out = Path::new(env!("CARGO_TARGET_TMPDIR")).join(name);
     let archive = Path::new(dokphalun_sys::FOLDER).join("libdokphalun.a");
-    let built = Command::new("cc")
-        .args(["-std=c99", "-Wall", "-Wextra", "-Werror", "-pedantic", "-I"])
+    let mut cc = Command::new("cc");
+    cc.args(["-std=c99", "-Wall", "-Wextra", "-Werror", "-pedantic", "-I"])
         .arg(root().join("include"))
         .args([source, &archive])
         .arg("-o")
-        .arg(&out)
-        .status()
-        .expect("no C compiler `cc` here");
+        .arg(&out);
+    (cc, out)
+}
+
+/// Compiles a C program; its file.
+pub fn compiled(source: &Path, name: &str) -> PathBuf {
+    let (mut cc, out) = compiling(source, name);
+    let built = cc.status().expect("no C compiler `cc` here");
     assert!(built.success(), "the C program does not compile");
     out
 }
