@@ -3,7 +3,7 @@ use Prim.Native.Nat.{ℕ, _+_, _*_, _≤_, _<_}
 use native.Mathlib.Nat.{eq-or-lt-of-le}
 use native.Mathlib.Omega.{arith}
 use mathlib.Core.Path.{_≡_, refl, sym, _∙_, ap, subst}
-use mathlib.Core.Bool.{Bool, false}
+use mathlib.Core.Bool.{Bool, true, false}
 use mathlib.Core.List.{List, [], _∷_}
 use mathlib.Core.Logic.{⊎-elim}
 use lib.Dec.{T, eqb}
@@ -22,7 +22,7 @@ use Rattle.table.specs.Table.{cell, column}
 use Rattle.table.specs.Columns.{columns, cornerColumn, sxColumn, syColumn, szColumn, txColumn, tyColumn, tzColumn, openingColumn}
 use Rattle.table.proofs.Laws.{getD-column, length-column, column-ends}
 use Rattle.definition.specs.declared.Triangle.{Triangle}
-use Rattle.definition.specs.Handed.{handed, vectorAt, cornerAt}
+use Rattle.definition.specs.Handed.{vectorAt}
 use Rattle.definition.specs.Mesh.{Third, one, two, three, Spot, after, before, next, prior, kept, cornerOf}
 use Rattle.definition.specs.Step7Sums.{projected, opening}
 use Rattle.lists.specs.Every.{Every, every-nil, every-cons}
@@ -30,12 +30,12 @@ use Rattle.sums.specs.Sums.{openingAt}
 use Rattle.view.specs.Frame.{outside, Only}
 use Rattle.view.specs.Stores.{Entry, storing}
 use Rattle.view.specs.Rows.{num, row, spotAt}
-use Rattle.view.specs.Records.{Told, Tells}
+use Rattle.view.specs.Records.{Reads}
 use Rattle.view.specs.Contributions.{sAt, tAt, Brings, contributionColumns}
 use Rattle.view.proofs.Frame.{only-none, only-trans}
 use Rattle.view.proofs.Stores.{Fitting, within, storing-column, storing-only}
 use Rattle.view.proofs.Rows.{row-lt}
-use Rattle.view.proofs.Records.{told-kept}
+use Rattle.view.proofs.Records.{reads-kept}
 use Rattle.records.specs.Fields.{tangentAt}
 use Rattle.contributions.specs.Contributions.{Same, Stored, Brought, Turn}
 
@@ -100,32 +100,32 @@ stored-named rows r s s′ t t′ a a′ w u es et ea S = record { along = S .al
 pub brings-kept : (rows k : ℕ) (w u : List ℕ) (s : Spot) → Same rows k w u → Brings rows w k s → Brings rows u k s
 brings-kept rows k w u s S B = record { along = S .along ∙ B .along; up = S .up ∙ B .up; angle = ap number (S .angle) ∙ B .angle }
 
-module _ (rows : ℕ) (ps ns : List Float) (t : ℕ) (room : 3 * t + 3 ≤ rows) where
+module _ (rows k : ℕ) (ps ns : List Float) (t : ℕ) (room : 3 * t + 3 ≤ rows) where
   -- one corner, where the columns tell of the triangle
-  corner-brings : (sizes : List ℕ) (ts : List Float) (x : Triangle) (g : RawTangentSpace) (w u : List ℕ) → Told rows (handed sizes ps ns ts) w t x → g .s ≡ x .tangent .s → g .t ≡ x .tangent .t
-      → (i : Third) → Brought rows ps ns g (row t i) (row t (after i)) (row t (before i)) w u → Brings rows u (row t i) (record { tri = x; at = i })
-  unfolding cornerOf cornerAt opening openingAt next prior
-  corner-brings sizes ts x g w u S es et i B = record {
-    along = B .along ∙ (λ z. projected (sym (S .corner i) z .normal) (es z));
-    up = B .up ∙ (λ z. projected (sym (S .corner i) z .normal) (et z));
-    angle = B .angle ∙ (λ z. openingAt (sym (S .corner i) z .normal) (sym (S .corner i) z .place) (sym (S .corner (after i)) z .place) (sym (S .corner (before i)) z .place));
+  corner-brings : (x : Triangle) (g : RawTangentSpace) (w u : List ℕ) → Reads rows k ps ns w t x → g .s ≡ x .tangent .s → g .t ≡ x .tangent .t
+      → (i : Third) → Brought rows k ps ns g (row t i) (row t (after i)) (row t (before i)) w u → Brings rows u (row t i) (record { tri = x; at = i })
+  unfolding cornerOf opening openingAt next prior
+  corner-brings x g w u S es et i B = record {
+    along = B .along ∙ (λ z. projected (sym (S .normal i) z) (es z));
+    up = B .up ∙ (λ z. projected (sym (S .normal i) z) (et z));
+    angle = B .angle ∙ (λ z. openingAt (sym (S .normal i) z) (sym (S .place i) z) (sym (S .place (after i)) z) (sym (S .place (before i)) z));
   }
 
-  module _ (g : RawTangentSpace) (w u v z : List ℕ) (e : g ≡ tangentAt rows t w) (A₀ : Brought rows ps ns g (3 * t) (3 * t + 1) (3 * t + 2) w u) (B₀ : Brought rows ps ns g (3 * t + 1) (3 * t + 2) (3 * t) u v) (C₀ : Brought rows ps ns g (3 * t + 2) (3 * t) (3 * t + 1) v z) where
+  module _ (g : RawTangentSpace) (w u v z : List ℕ) (e : g ≡ tangentAt rows t w) (A₀ : Brought rows k ps ns g (3 * t) (3 * t + 1) (3 * t + 2) w u) (B₀ : Brought rows k ps ns g (3 * t + 1) (3 * t + 2) (3 * t) u v) (C₀ : Brought rows k ps ns g (3 * t + 2) (3 * t) (3 * t + 1) v z) where
     first : 3 * t ≡ 3 * t + 0
     first = omega arith
 
-    A : Brought rows ps ns g (row t one) (row t two) (row t three) w u
+    A : Brought rows k ps ns g (row t one) (row t two) (row t three) w u
     unfolding num
-    A = subst (λ (k : ℕ). Brought rows ps ns g k (3 * t + 1) (3 * t + 2) w u) first A₀
+    A = subst (λ (j : ℕ). Brought rows k ps ns g j (3 * t + 1) (3 * t + 2) w u) first A₀
 
-    B : Brought rows ps ns g (row t two) (row t three) (row t one) u v
+    B : Brought rows k ps ns g (row t two) (row t three) (row t one) u v
     unfolding num
-    B = subst (λ (k : ℕ). Brought rows ps ns g (3 * t + 1) (3 * t + 2) k u v) first B₀
+    B = subst (λ (j : ℕ). Brought rows k ps ns g (3 * t + 1) (3 * t + 2) j u v) first B₀
 
-    C : Brought rows ps ns g (row t three) (row t one) (row t two) v z
+    C : Brought rows k ps ns g (row t three) (row t one) (row t two) v z
     unfolding num
-    C = subst (λ (k : ℕ). Brought rows ps ns g (3 * t + 2) k (3 * t + 1) v z) first C₀
+    C = subst (λ (j : ℕ). Brought rows k ps ns g (3 * t + 2) j (3 * t + 1) v z) first C₀
 
     apart : (i j : Third) → num i < num j → eqb (row t j) (row t i) ≡ false
     apart i j h = ne-eqb (row t j) (row t i) (λ q. omega (arith, q, h))
@@ -133,24 +133,24 @@ module _ (rows : ℕ) (ps ns : List Float) (t : ℕ) (room : 3 * t + 3 ≤ rows)
     apart-up : (i j : Third) → num i < num j → eqb (row t i) (row t j) ≡ false
     apart-up i j h = ne-eqb (row t i) (row t j) (λ q. omega (arith, q, h))
 
-    pub turn : Turn rows ps ns t w z
+    pub turn : outside contributionColumns k ≡ true → Turn rows k ps ns t w z
     unfolding num after before tangentAt
-    turn = record {
-      brings = λ sizes ts x S i.
+    turn o = record {
+      brings = λ x S i.
           let es : g .s ≡ x .tangent .s = ap (λ (y : RawTangentSpace). y .s) e ∙ S .along in
           let et : g .t ≡ x .tangent .t = ap (λ (y : RawTangentSpace). y .t) e ∙ S .up in
-          let Su = told-kept rows (handed sizes ps ns ts) contributionColumns w u t x room refl (A .only) S in
-          let Sv = told-kept rows (handed sizes ps ns ts) contributionColumns u v t x room refl (B .only) Su in
+          let Su = reads-kept rows k ps ns contributionColumns w u t x room o refl (A .only) S in
+          let Sv = reads-kept rows k ps ns contributionColumns u v t x room o refl (B .only) Su in
           elim i [
             | one ↦ brings-kept rows (row t one) v z (record { tri = x; at = one }) (C .others (row t one) (omega arith) (apart one three (omega arith)))
-                (brings-kept rows (row t one) u v (record { tri = x; at = one }) (B .others (row t one) (omega arith) (apart one two (omega arith))) (corner-brings sizes ts x g w u S es et one A))
-            | two ↦ brings-kept rows (row t two) v z (record { tri = x; at = two }) (C .others (row t two) (omega arith) (apart two three (omega arith))) (corner-brings sizes ts x g u v Su es et two B)
-            | three ↦ corner-brings sizes ts x g v z Sv es et three C
+                (brings-kept rows (row t one) u v (record { tri = x; at = one }) (B .others (row t one) (omega arith) (apart one two (omega arith))) (corner-brings x g w u S es et one A))
+            | two ↦ brings-kept rows (row t two) v z (record { tri = x; at = two }) (C .others (row t two) (omega arith) (apart two three (omega arith))) (corner-brings x g u v Su es et two B)
+            | three ↦ corner-brings x g v z Sv es et three C
           ];
-      before = λ k h.
-          let a = A .others k (omega arith) (ne-eqb (row t one) k (λ q. omega (arith, q, h))) in
-          let b = B .others k (omega arith) (ne-eqb (row t two) k (λ q. omega (arith, q, h))) in
-          let c = C .others k (omega arith) (ne-eqb (row t three) k (λ q. omega (arith, q, h))) in
+      before = λ j h.
+          let a = A .others j (omega arith) (ne-eqb (row t one) j (λ q. omega (arith, q, h))) in
+          let b = B .others j (omega arith) (ne-eqb (row t two) j (λ q. omega (arith, q, h))) in
+          let c = C .others j (omega arith) (ne-eqb (row t three) j (λ q. omega (arith, q, h))) in
           record { along = c .along ∙ (b .along ∙ a .along); up = c .up ∙ (b .up ∙ a .up); angle = c .angle ∙ (b .angle ∙ a .angle) };
       only = only-trans contributionColumns rows w u z (A .only) (only-trans contributionColumns rows u v z (B .only) (C .only));
     }
@@ -158,19 +158,19 @@ module _ (rows : ℕ) (ps ns : List Float) (t : ℕ) (room : 3 * t + 3 ≤ rows)
 -- ---- the triangles one after the other
 
 -- the first n triangles bring what they should, where the columns told of all at the start
-pub record Done (rows : ℕ) (ps ns : List Float) (tris n : ℕ) (w u : List ℕ) : Type 0 where
-  pub brings : (sizes : List ℕ) (ts : List Float) (ss : List Triangle) (d : Triangle) → length ss ≡ tris → Tells rows (handed sizes ps ns ts) ss d w → (t : ℕ) (i : Third) → t < n → Brings rows u (row t i) (spotAt ss d t i)
+pub record Done (rows k : ℕ) (ps ns : List Float) (tris n : ℕ) (w u : List ℕ) : Type 0 where
+  pub brings : (ss : List Triangle) (d : Triangle) → length ss ≡ tris → ((t : ℕ) → t < length ss → Reads rows k ps ns w t (getD ss t d)) → (t : ℕ) (i : Third) → t < n → Brings rows u (row t i) (spotAt ss d t i)
   pub only : Only contributionColumns rows w u
 
-module _ (rows : ℕ) (ps ns : List Float) (tris : ℕ) (w : List ℕ) where
-  pub none-done : Done rows ps ns tris 0 w w
-  none-done = record { brings = λ sizes ts ss d e T t i h. absurd (omega (arith, h)); only = only-none contributionColumns rows w }
+module _ (rows k : ℕ) (ps ns : List Float) (tris : ℕ) (w : List ℕ) where
+  pub none-done : Done rows k ps ns tris 0 w w
+  none-done = record { brings = λ ss d e T t i h. absurd (omega (arith, h)); only = only-none contributionColumns rows w }
 
-  pub one-more : (n : ℕ) (u v : List ℕ) → 3 * n + 3 ≤ rows → n < tris → Done rows ps ns tris n w u → Turn rows ps ns n u v → Done rows ps ns tris (n + 1) w v
-  one-more n u v room l D T = record {
-    brings = λ sizes ts ss d e S t i h. ⊎-elim
-        (λ q. subst (λ (k : ℕ). Brings rows v (row k i) (spotAt ss d k i)) (sym q) (T .brings sizes ts (getD ss n d) (told-kept rows (handed sizes ps ns ts) contributionColumns w u n (getD ss n d) room refl (D .only) (S n (omega (arith, e, l)))) i))
-        (λ q. brings-kept rows (row t i) u v (spotAt ss d t i) (T .before (row t i) (row-lt t n i q)) (D .brings sizes ts ss d e S t i q))
+  pub one-more : outside contributionColumns k ≡ true → (n : ℕ) (u v : List ℕ) → 3 * n + 3 ≤ rows → n < tris → Done rows k ps ns tris n w u → Turn rows k ps ns n u v → Done rows k ps ns tris (n + 1) w v
+  one-more o n u v room l D T = record {
+    brings = λ ss d e S t i h. ⊎-elim
+        (λ q. subst (λ (j : ℕ). Brings rows v (row j i) (spotAt ss d j i)) (sym q) (T .brings (getD ss n d) (reads-kept rows k ps ns contributionColumns w u n (getD ss n d) room o refl (D .only) (S n (omega (arith, e, l)))) i))
+        (λ q. brings-kept rows (row t i) u v (spotAt ss d t i) (T .before (row t i) (row-lt t n i q)) (D .brings ss d e S t i q))
         (eq-or-lt-of-le (lt-suc t n h));
     only = only-trans contributionColumns rows w u v (D .only) (T .only);
   }

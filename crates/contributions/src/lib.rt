@@ -1,18 +1,18 @@
 // What each corner of a sound triangle brings to a sum of step 7, once per corner and kept in columns: both directions of its triangle's tangent, projected, and its angle.
 // Carried over from mikktspace.rs (evaluate_tangent_space) of the Rust crate bevy_mikktspace and ALTERED: written anew in Rattle, once per corner. See NOTICE.
 ghost use mathlib.Core.Path.{_≡_};
+ghost use mathlib.Core.Bool.{true};
 ghost use mathlib.Core.List.{List};
 ghost use Prim.Native.Nat.{ℕ, _+_, _*_, _<_, _≤_};
-ghost use lib.ListN.{length, set};
-ghost use lib.Ieee.{Float};
+ghost use lib.ListN.{length, getD, set};
 ghost use Rattle.bits.specs.Word.{word};
 ghost use Rattle.angle.specs.Table as angles;
 ghost use Rattle.math.specs.Held.{HeldVec};
 ghost use Rattle.table.specs.Columns.{columns};
-ghost use Rattle.definition.specs.Handed.{handed};
+ghost use Rattle.table.specs.Table.{cell};
 ghost use Rattle.definition.specs.declared.Triangle.{Triangle};
-ghost use Rattle.view.specs.Frame.{Only};
-ghost use Rattle.view.specs.Records.{Tells};
+ghost use Rattle.view.specs.Frame.{outside, Only};
+ghost use Rattle.view.specs.Records.{Reads};
 ghost use Rattle.view.specs.Contributions.{sAt, tAt, Contributed, contributionColumns};
 ghost use Rattle.contributions.specs.Contributions as spec;
 use math::Vec3;
@@ -84,10 +84,19 @@ fn store(work: &mut [u32], rows: usize, r: usize, s: Vec3, t: Vec3, opening: f32
     work[table::OPENING * rows + r] = a;
 }
 
-// The corner at row r of a triangle with the tangent g; the next corner is at row q, the one before it at row p.
+// The number of the corner at row r, as column k has it.
+fn number_at(work: &[u32], rows: usize, k: usize, r: usize) -> u32
+    requires { ⌜ (k < columns) × (r < rows) × (columns * rows ≤ length (now work)) ⌝ }
+    ensures { λ v. ⌜ v ≡ cell rows k r (now (work .entry)) ⌝ }
+{
+    work[k * rows + r]
+}
+
+// The corner at row r of a triangle with the tangent g; the next corner is at row q, the one before it at row p. Their numbers stand in column k.
 fn contribute(
     work: &mut [u32],
     rows: usize,
+    k: usize,
     cosines: &[u32; 1025],
     positions: &[f32],
     normals: &[f32],
@@ -96,12 +105,12 @@ fn contribute(
     q: usize,
     p: usize,
 )
-    requires { ⌜ (now cosines ≡ angles.cosines) × (r < rows) × (q < rows) × (p < rows) × (columns * rows ≤ length (now work)) ⌝ }
-    ensures { λ _. ⌜ spec.Brought rows (now (positions .entry)) (now (normals .entry)) g r q p (now (work .entry)) (now (work .exit)) ⌝ }
+    requires { ⌜ (now cosines ≡ angles.cosines) × (k < columns) × (r < rows) × (q < rows) × (p < rows) × (columns * rows ≤ length (now work)) ⌝ }
+    ensures { λ _. ⌜ spec.Brought rows k (now (positions .entry)) (now (normals .entry)) g r q p (now (work .entry)) (now (work .exit)) ⌝ }
 {
-    let corner = records::corner_at(work, rows, r);
-    let next = records::corner_at(work, rows, q);
-    let prior = records::corner_at(work, rows, p);
+    let corner = number_at(work, rows, k, r);
+    let next = number_at(work, rows, k, q);
+    let prior = number_at(work, rows, k, p);
     let n = mesh::vector_at(normals, corner);
     let at = mesh::vector_at(positions, corner);
     let to = mesh::vector_at(positions, next);
@@ -118,19 +127,21 @@ fn contribute(
 fn contribute_triangle(
     work: &mut [u32],
     rows: usize,
+    k: usize,
     cosines: &[u32; 1025],
     positions: &[f32],
     normals: &[f32],
     t: usize,
 )
-    requires { ⌜ (now cosines ≡ angles.cosines) × (3 * t + 3 ≤ rows) × (columns * rows ≤ length (now work)) ⌝ }
-    ensures { λ _. ⌜ spec.Turn rows (now (positions .entry)) (now (normals .entry)) t (now (work .entry)) (now (work .exit)) ⌝ }
+    requires { ⌜ (now cosines ≡ angles.cosines) × (k < columns) × (outside contributionColumns k ≡ true) × (3 * t + 3 ≤ rows) × (columns * rows ≤ length (now work)) ⌝ }
+    ensures { λ _. ⌜ spec.Turn rows k (now (positions .entry)) (now (normals .entry)) t (now (work .entry)) (now (work .exit)) ⌝ }
 {
     let g = records::tangent_at(work, rows, t);
     let at = 3 * t;
     contribute(
         work,
         rows,
+        k,
         cosines,
         positions,
         normals,
@@ -142,6 +153,7 @@ fn contribute_triangle(
     contribute(
         work,
         rows,
+        k,
         cosines,
         positions,
         normals,
@@ -153,6 +165,7 @@ fn contribute_triangle(
     contribute(
         work,
         rows,
+        k,
         cosines,
         positions,
         normals,
@@ -163,20 +176,21 @@ fn contribute_triangle(
     );
 }
 
-// The corners of the first tris triangles.
+// The corners of the first tris triangles; their numbers stand in column k.
 pub fn contribute_all(
     work: &mut [u32],
     rows: usize,
+    k: usize,
     tris: usize,
     positions: &[f32],
     normals: &[f32],
 )
-    requires { ⌜ (3 * tris ≤ rows) × (columns * rows ≤ length (now work)) ⌝ }
-    ensures brings { λ _. ⌜ ((sizes : List ℕ) (ts : List Float) (ss : List Triangle) (d : Triangle) → length ss ≡ tris → Tells rows (handed sizes (now (positions .entry)) (now (normals .entry)) ts) ss d (now (work .entry)) → Contributed rows ss d (now (work .exit))) ⌝ }
+    requires { ⌜ (k < columns) × (outside contributionColumns k ≡ true) × (3 * tris ≤ rows) × (columns * rows ≤ length (now work)) ⌝ }
+    ensures brings { λ _. ⌜ ((ss : List Triangle) (d : Triangle) → length ss ≡ tris → ((t : ℕ) → t < length ss → Reads rows k (now (positions .entry)) (now (normals .entry)) (now (work .entry)) t (getD ss t d)) → Contributed rows ss d (now (work .exit))) ⌝ }
     ensures only { λ _. ⌜ Only contributionColumns rows (now (work .entry)) (now (work .exit)) ⌝ }
 {
     let cosines = angle::table();
     for t in 0..tris {
-        contribute_triangle(work, rows, &cosines, positions, normals, t);
+        contribute_triangle(work, rows, k, &cosines, positions, normals, t);
     }
 }

@@ -144,14 +144,14 @@ module _ (bs : List Brought) (ss : List Triangle) (f : ℕ) where
   ends (c0 ∷ c1 ∷ c2 ∷ c3 ∷ []) = either-ends (cut02 c0 c1 c2 c3) _ _ (pair-ends _ _) (pair-ends _ _)
   ends (c0 ∷ c1 ∷ c2 ∷ c3 ∷ c4 ∷ l) = every-nil
 
-  -- a corner of a sound triangle keeps what was brought to its slot
+  -- a corner of a sound triangle keeps what was brought to its slot, whatever it is seen as
   abbrev pub Own : List Triangle → Triangle → Type 0
-  Own ts x = x .degenerate ≡ false → (i : Third) → finalOf bs ss f ts (kept x i) ≡ reading bs f (kept x i .which)
+  Own ts x = x .degenerate ≡ false → (i : Third) (k : Kept) → k .which ≡ kept x i .which → finalOf bs ss f ts k ≡ reading bs f (k .which)
 
   -- from the slots that take no copy
   sources-own : (cs : List Corner) → ((k : Kept) → takesCopy (pieces f cs) (k .which) ≡ false → finalOf bs ss f (pieces f cs) k ≡ reading bs f (k .which)) → Every (Own (pieces f cs)) (pieces f cs)
   unfolding slotOf
-  sources-own cs h = every-map (λ x p e i. h (kept x i) (p e i)) (by-triangle (λ s. takesCopy (pieces f cs) (slotOf s) ≡ false) (pieces f cs) (sources-stay f cs))
+  sources-own cs h = every-map (λ x p e i k q. h k (ap (takesCopy (pieces f cs)) q ∙ p e i)) (by-triangle (λ s. takesCopy (pieces f cs) (slotOf s) ≡ false) (pieces f cs) (sources-stay f cs))
 
   -- in every face
   pub own : (cs : List Corner) → Every (Own (pieces f cs)) (pieces f cs)

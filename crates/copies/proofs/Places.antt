@@ -14,12 +14,12 @@ use Rattle.definition.specs.Handed.{cornerAt, cornersFrom, meshFrom, used, slot
 use Rattle.definition.specs.Triangles.{nook, usable, pieces, triangles}
 use Rattle.definition.specs.Frames.{numbered}
 use Rattle.definition.specs.Step7Sums.{Brought}
-use Rattle.definition.specs.Step9Copies.{finalOf, nooks, faceReadings}
+use Rattle.definition.specs.Step9Copies.{finalOf, nooks}
 use Rattle.lists.specs.Every.{Every, every-nil, every-cons}
 use Rattle.laws.proofs.Part.{every-map, every-append, every-pair}
 use Rattle.laws.proofs.Bridge.{face-slots}
 use Rattle.laws.proofs.Numbers.{pieces-face}
-use Rattle.view.specs.Answer.{HasSlot, finalAt}
+use Rattle.view.specs.Answer.{HasSlot, finalSeen}
 use Rattle.copies.proofs.Faces.{Ends, ends, Own, own, Misses, misses}
 
 -- ---- the triangles of a mesh are those of its faces
@@ -160,13 +160,13 @@ module _ (ps ns ts : List Float) (sizes : List ℕ) where
       ap (λ (l : List Corner). getD l i d) (face-is f (h .face)) ∙ corner-in ps ns ts d (cornerCount (take f sizes)) (getD sizes f 0) _ i refl (omega (arith, h .slot, slots-few (getD sizes f 0)))
 
   -- the final reading of a slot
-  pub final-is : (bs : List Brought) (ss : List Triangle) (f i : ℕ) → HasSlot sizes f i → finalAt bs ss mesh f i ≡ finalOf bs ss f (pieces f (getD mesh f [])) (nook i (corner f i))
-  unfolding finalAt faceReadings
-  final-is bs ss f i h =
+  pub final-is : (see : ℕ → Kept → Kept) (bs : List Brought) (ss : List Triangle) (f i : ℕ) → HasSlot sizes f i → finalSeen see bs ss mesh f i ≡ finalOf bs ss f (pieces f (getD mesh f [])) (see f (nook i (corner f i)))
+  unfolding finalSeen
+  final-is see bs ss f i h =
       let cs = getD mesh f [] in
       let d = corner f i in
-      at-nooks (finalOf bs ss f (pieces f cs)) Absent d 0 (usable cs) i i (omega arith) (slot-below f i h)
-      ∙ ap (λ (c : Corner). finalOf bs ss f (pieces f cs) (nook i c)) (ap (λ (l : List Corner). getD l i d) (usable-is cs i (slot-below f i h)) ∙ corner-is d f i h)
+      at-nooks (λ k. finalOf bs ss f (pieces f cs) (see f k)) Absent d 0 (usable cs) i i (omega arith) (slot-below f i h)
+      ∙ ap (λ (c : Corner). finalOf bs ss f (pieces f cs) (see f (nook i c))) (ap (λ (l : List Corner). getD l i d) (usable-is cs i (slot-below f i h)) ∙ corner-is d f i h)
 
   -- slot j of a face that has four
   pub four-slots : (f j : ℕ) → f < length sizes → length (usable (getD mesh f [])) ≡ 4 → j < 4 → HasSlot sizes f j

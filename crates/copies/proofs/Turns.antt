@@ -21,12 +21,13 @@ use Rattle.table.specs.Table.{cell}
 use Rattle.table.specs.Columns.{cornerColumn, slotColumn, vertexColumn}
 use Rattle.lists.proofs.Loops.{upTo-ind, last-or-before}
 use Rattle.definition.specs.declared.Corner.{Corner}
+use Rattle.definition.specs.declared.Kept.{Kept}
 use Rattle.definition.specs.declared.Triangle.{Triangle}
 use Rattle.lists.specs.Lists.{first, has}
 use Rattle.definition.specs.Mesh.{Third, one, two, three, Spot, kept, cornerOf, slotOf}
-use Rattle.definition.specs.Handed.{handed, vectorAt, cornerAt, meshFrom, cornerCount, slotCount}
+use Rattle.definition.specs.Handed.{Handed, handed, vectorAt, cornerAt, meshFrom, cornerCount, slotCount}
 use Rattle.definition.specs.Triangles.{nook, pieces, triangles}
-use Rattle.definition.specs.Frames.{numbered}
+use Rattle.definition.specs.Frames.{numbered, trianglesOf}
 use Rattle.definition.specs.Step4Order.{isSound, sound, broken, spots}
 use Rattle.definition.specs.Step7Sums.{Brought}
 use Rattle.definition.specs.Step8Slots.{reading}
@@ -39,14 +40,14 @@ use Rattle.laws.proofs.Marked.{keepsAt}
 use Rattle.slots.specs.Slots.{copiedAt, clearedAt}
 use Rattle.slots.proofs.Laws.{copy-shows, clear-shows}
 use Rattle.view.specs.Rows.{num, third, row}
-use Rattle.view.specs.Records.{Told, Tells}
+use Rattle.view.specs.Records.{Told, Tells, Corners}
 use Rattle.view.specs.Weld.{Vertices}
-use Rattle.view.specs.Answer.{HasSlot, Slotted, Shows, changed, finalAt}
+use Rattle.view.specs.Answer.{HasSlot, Slotted, Shows, changed, finalSeen}
 use Rattle.view.proofs.Lists.{every-index, index-every}
 use Rattle.view.proofs.Rows.{row-is, tri-lt}
 use Rattle.view.proofs.Answer.{changed-there, slots-same, mesh-slotted, slotted-sound-broken}
 use Rattle.records.specs.Fields.{markedAt}
-use Rattle.copies.specs.Copies.{cornerCopied, triangleCopied, brokenCopied, missed, missedAt, keptAt, equalAt, missingCopied, missingsCopied, framesCopied, Copied}
+use Rattle.copies.specs.Copies.{cornerCopied, triangleCopied, brokenCopied, missed, missedAt, keptAt, equalAt, missingCopied, missingsCopied, framesCopied, Left, Copied}
 use Rattle.copies.proofs.Faces.{equalCorner, finds, Settles, all-settled}
 use Rattle.copies.proofs.Places.{Placed, all-placed, corner-is, final-is, four-slots, slot-below, every-front, every-back, every-piece}
 use Rattle.copies.proofs.Firsts.{first-sound, no-sound, sound-below, broken-above, sound-is, broken-is, every-again}
@@ -113,7 +114,7 @@ module _ (sizes a₀ : List ℕ) (Fin : ℕ → ℕ → Reading) where
       either g j h true q = e ∙ sym (λ z. Fin (eqb-true g f (and-left (eqb g f) (eqb j i) q) z) (eqb-true j i (and-right (eqb g f) (eqb j i) q) z))
       either g j h false q = h
 
-module _ (rows : ℕ) (ps : List Float) (w sizes : List ℕ) (ns ts : List Float) (bs : List Brought) (d : Triangle) (a₀ : List ℕ) where
+module _ (rows : ℕ) (ps : List Float) (w sizes : List ℕ) (ns ts : List Float) (bs : List Brought) (d : Triangle) (a₀ : List ℕ) (us vs : List Triangle) (see : ℕ → Kept → Kept) where
   -- the mesh of the lists handed in
   abbrev mesh : List (List Corner)
   mesh = meshFrom ps ns ts 0 sizes
@@ -136,7 +137,11 @@ module _ (rows : ℕ) (ps : List Float) (w sizes : List ℕ) (ns ts : List Float
 
   -- what is final in slot i of face f
   abbrev Fin : ℕ → ℕ → Reading
-  Fin = finalAt bs ss mesh
+  Fin = finalSeen see bs us mesh
+
+  -- triangle number t as step 4 left it
+  abbrev left-at : ℕ → Triangle
+  left-at t = getD (us ++ vs) t d
 
   -- the slot of corner i of triangle t has its final reading
   abbrev Ended : (ℕ → ℕ → Reading) → ℕ → Third → Type 0
@@ -182,7 +187,7 @@ module _ (rows : ℕ) (ps : List Float) (w sizes : List ℕ) (ns ts : List Float
     missed = λ t h m. last-or-before (λ u. at u .marked ≡ true → Filled R u) q t h e (λ g n. F .missed t g n) m;
   }
 
-  module _ (T : Tells rows (handed sizes ps ns ts) ys d w) (W : Vertices rows ys d w) (H : (f i : ℕ) → HeldReading (reading bs f i)) where
+  module _ (T : Tells rows (handed sizes ps ns ts) ys d w) (C : Corners rows (handed sizes ps ns ts) ys d w) (L : Left (handed sizes ps ns ts) d us vs see) (W : Vertices rows (us ++ vs) d w) (H : (f i : ℕ) → HeldReading (reading bs f i)) where
     -- ---- what is final, by the number of a triangle
 
     -- its corners have slots
@@ -190,15 +195,19 @@ module _ (rows : ℕ) (ps : List Float) (w sizes : List ℕ) (ns ts : List Float
     slotted t h = slotted-sound-broken (mesh-slotted ps ns ts sizes) t d h
 
     -- and step 9 says this of them
-    placed : (t : ℕ) → t < length ys → Placed bs ss mesh (at t)
+    placed : (t : ℕ) → t < length ys → Placed bs us mesh (at t)
     unfolding sound broken
-    placed t h = every-index (every-append (every-keep isSound (all-placed bs ss mesh)) (every-keep (λ x. x .degenerate) (all-placed bs ss mesh))) t d h
+    placed t h = every-index (every-append (every-keep isSound (all-placed bs us mesh)) (every-keep (λ x. x .degenerate) (all-placed bs us mesh))) t d h
 
     -- the final reading at a corner that a triangle keeps
-    final-kept : (t : ℕ) (i : Third) → t < length ys → Fin (at t .face) (kept (at t) i .which) ≡ finalOf bs ss (at t .face) (pieces (at t .face) (getD mesh (at t .face) [])) (kept (at t) i)
+    final-kept : (t : ℕ) (i : Third) → t < length ys → Fin (at t .face) (kept (at t) i .which) ≡ finalOf bs us (at t .face) (pieces (at t .face) (getD mesh (at t .face) [])) (see (at t .face) (kept (at t) i))
     final-kept t i h =
-        final-is ps ns ts sizes bs ss (at t .face) (kept (at t) i .which) (slotted t h .has i)
-        ∙ ap (λ (c : Corner). finalOf bs ss (at t .face) (pieces (at t .face) (getD mesh (at t .face) [])) (nook (kept (at t) i .which) c)) (sym (T t h .corner i ∙ ap (cornerAt ps ns ts) (T t h .number i)))
+        final-is ps ns ts sizes see bs us (at t .face) (kept (at t) i .which) (slotted t h .has i)
+        ∙ ap (λ (c : Corner). finalOf bs us (at t .face) (pieces (at t .face) (getD mesh (at t .face) [])) (see (at t .face) (nook (kept (at t) i .which) c))) (sym (C t h i ∙ ap (cornerAt ps ns ts) (T t h .number i)))
+
+    -- there are as many as step 4 left
+    as-many : (t : ℕ) → t < length ys → t < length (us ++ vs)
+    as-many t h = omega (arith, h, length-append (sound xs) (broken xs), length-append us vs, L .sound-count, L .broken-count)
 
     -- a sound one is one of all
     fewer : (t : ℕ) → t < length ss → t < length ys
@@ -206,11 +215,13 @@ module _ (rows : ℕ) (ps : List Float) (w sizes : List ℕ) (ns ts : List Float
 
     -- of a sound triangle: what was brought
     own-final : (t : ℕ) (i : Third) → t < length ss → Fin (at t .face) (kept (at t) i .which) ≡ reading bs (at t .face) (kept (at t) i .which)
-    own-final t i h = final-kept t i (fewer t h) ∙ placed t (fewer t h) .own (sound-below xs d t h) i
+    own-final t i h =
+        let q = L .same (at t .face) (kept (at t) i) in
+        final-kept t i (fewer t h) ∙ (placed t (fewer t h) .own (sound-below xs d t h) i (see (at t .face) (kept (at t) i)) q ∙ ap (reading bs (at t .face)) q)
 
     -- of a degenerate one that is not marked: what the first sound corner welded to it has
-    broken-final : (t : ℕ) (i : Third) → length ss ≤ t → t < length ys → at t .marked ≡ false → Fin (at t .face) (kept (at t) i .which) ≡ fromSound bs ss (kept (at t) i .corner)
-    broken-final t i l h m = final-kept t i h ∙ placed t h .ends .broken (broken-above xs d t l h) m (kept (at t) i)
+    broken-final : (t : ℕ) (i : Third) → length ss ≤ t → t < length ys → at t .marked ≡ false → Fin (at t .face) (kept (at t) i .which) ≡ fromSound bs us (kept (left-at t) i .corner)
+    broken-final t i l h m = final-kept t i h ∙ (placed t h .ends .broken (broken-above xs d t l h) m (see (at t .face) (kept (at t) i)) ∙ ap (fromSound bs us) (L .seen t i (as-many t h)))
 
     -- ---- a corner of a degenerate triangle
 
@@ -228,7 +239,9 @@ module _ (rows : ℕ) (ps : List Float) (w sizes : List ℕ) (ns ts : List Float
           let k = tri-lt v (length ss) b in
           let brought = own u j k ∙ own-final u j k in
           one-final sizes a₀ Fin R (at t .face) (kept (at t) i .which) (copyOf false (R (at u .face) (kept (at u) j .which))) _
-          (ap (copyOf false) brought ∙ sym (broken-final t i l h m ∙ ap (copied false bs) (first-sound (sound xs) (broken xs) d (kept (at t) i .corner) v (W t i h) b)))
+          (ap (copyOf false) brought
+          ∙ sym (broken-final t i l h m ∙ (ap (copied false bs) (first-sound us vs d (kept (left-at t) i .corner) v (W t i (as-many t h)) (omega (arith, b, L .sound-count)))
+          ∙ (λ z. copyOf false (reading bs (L .face u (as-many u (fewer u k)) z) (L .which u j (as-many u (fewer u k)) z))))))
           ((λ z. copiedAt false ((ap (λ (r : ℕ). cell rows slotColumn r w) (sym (row-is v)) ∙ T u (fewer u k) .slot j) z) (T t h .slot i z) a)
           ∙ copy-shows sizes a₀ R a false (at u .face) (kept (at u) j .which) (at t .face) (kept (at t) i .which) (slotted u (fewer u k) .has j) (slotted t h .has i) (subst HeldReading (sym brought) (H (at u .face) (kept (at u) j .which))) S)
 
@@ -237,7 +250,7 @@ module _ (rows : ℕ) (ps : List Float) (w sizes : List ℕ) (ns ts : List Float
       unfolding fromSound copied slotOf cornerOf
       from-none b =
           one-final sizes a₀ Fin R (at t .face) (kept (at t) i .which) Absent _
-          (sym (broken-final t i l h m ∙ ap (copied false bs) (no-sound (sound xs) (broken xs) d (kept (at t) i .corner) v (W t i h) b)))
+          (sym (broken-final t i l h m ∙ ap (copied false bs) (no-sound us vs d (kept (left-at t) i .corner) v (W t i (as-many t h)) (omega (arith, b, L .sound-count)))))
           (ap (λ (n : ℕ). clearedAt n a) (T t h .slot i) ∙ clear-shows sizes a₀ R a (at t .face) (kept (at t) i .which) (slotted t h .has i) S)
 
       -- either way the slot is final
@@ -311,7 +324,7 @@ module _ (rows : ℕ) (ps : List Float) (w sizes : List ℕ) (ns ts : List Float
       abbrev told : Told rows (handed sizes ps ns ts) w t here
       told = T t (fewer t h)
 
-      abbrev piece : Placed bs ss mesh here
+      abbrev piece : Placed bs us mesh here
       piece = placed t (fewer t h)
 
       -- the missing corner has a slot
@@ -320,7 +333,12 @@ module _ (rows : ℕ) (ps : List Float) (w sizes : List ℕ) (ns ts : List Float
 
       -- whose final reading is that of the first corner at its position
       gone-final : Fin (here .face) (here .missing) ≡ equalCorner bs here gone
-      gone-final = final-is ps ns ts sizes bs ss (here .face) (here .missing) gone-slot ∙ piece .ends .missed (sound-below xs d t h) m gone
+      gone-final =
+          let f = here .face in
+          let k = nook (here .missing) gone in
+          final-is ps ns ts sizes see bs us f (here .missing) gone-slot
+          ∙ (ap (finalOf bs us f (pieces f (getD mesh f []))) (λ z. nook (L .same f k z) (see f k .corner))
+          ∙ (piece .ends .missed (sound-below xs d t h) m (see f k .corner) ∙ (λ z. copied true bs (first (λ s. L .place f (here .missing) (cornerOf s .place) z) (spots (here ∷ []))))))
 
       -- and there is one
       gone-found : keepsAt here gone ≡ true
@@ -343,8 +361,8 @@ module _ (rows : ℕ) (ps : List Float) (w sizes : List ℕ) (ns ts : List Float
           ≡ cond (equals (kept here one .corner .place) (gone .place)) (3 * t) (cond (equals (kept here two .corner .place) (gone .place)) (3 * t + 1) (3 * t + 2))
       unfolding keptAt cornerAt num
       gone-row = λ z.
-          cond (equals ((ap (vectorAt ps) (first-word cornerColumn) ∙ sym (ap (λ (c : Corner). c .place) (told .corner one))) z) (place z)) (3 * t)
-          (cond (equals (sym (ap (λ (c : Corner). c .place) (told .corner two)) z) (place z)) (3 * t + 1)
+          cond (equals ((ap (vectorAt ps) (first-word cornerColumn) ∙ sym (ap (λ (c : Corner). c .place) (C t (fewer t h) one))) z) (place z)) (3 * t)
+          (cond (equals (sym (ap (λ (c : Corner). c .place) (C t (fewer t h) two)) z) (place z)) (3 * t + 1)
           (3 * t + 2))
         where
           place : vectorAt ps (missedAt rows cornerColumn w t) ≡ vectorAt ps (base + here .missing)
@@ -438,7 +456,7 @@ module _ (rows : ℕ) (ps : List Float) (w sizes : List ℕ) (ns ts : List Float
       everywhere f i h = all-settled (λ i. R f i ≡ Fin f i) f (getD mesh f []) (of-face f (omega (arith, h .face, mesh-length ps ns ts 0 sizes))) i (slot-below ps ns ts sizes f i h)
 
     -- Step 9, by the words, leaves the final readings.
-    pub shown : (a : List ℕ) → Shows sizes (reading bs) a₀ a → Shows sizes (finalAt bs ss mesh) a₀ (framesCopied rows (length ss) (length ys) ps w a)
+    pub shown : (a : List ℕ) → Shows sizes (reading bs) a₀ a → Shows sizes (finalSeen see bs us mesh) a₀ (framesCopied rows (length ss) (length ys) ps w a)
     unfolding framesCopied
     shown a S =
         let E = all-missing (brokenCopied rows (length ss) w (length ys) a) (all-broken a (start a S)) in
@@ -447,5 +465,9 @@ module _ (rows : ℕ) (ps : List Float) (w sizes : List ℕ) (ns ts : List Float
 -- the same as the contract says it
 pub copied-frames : (rows n all : ℕ) (ps : List Float) (w a u : List ℕ) → u ≡ framesCopied rows n all ps w a → Copied rows n all ps w a u
 copied-frames rows n all ps w a u e = record {
-  final = λ sizes ns ts bs d a₀ en ea T W H S. e ∙ (λ z. framesCopied rows (sym en z) (sym ea z) ps w a) ∙ shown rows ps w sizes ns ts bs d a₀ T W H a S;
+  final = λ sizes ns ts bs d a₀ us vs see en ea T C L W H S. e ∙ (λ z. framesCopied rows (sym en z) (sym ea z) ps w a) ∙ shown rows ps w sizes ns ts bs d a₀ us vs see T C L W H a S;
 }
+
+-- where nothing is replaced, the triangles are the mesh's own and each corner is seen as it is
+pub left-alone : (mesh : Handed) (d : Triangle) → Left mesh d (sound (trianglesOf mesh)) (broken (trianglesOf mesh)) (λ f k. k)
+left-alone mesh d = record { sound-count = refl; broken-count = refl; face = λ t h. refl; which = λ t i h. refl; seen = λ t i h. refl; same = λ f k. refl; place = λ f j p. refl }

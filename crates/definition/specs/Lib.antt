@@ -20,4 +20,5 @@ pub mod Frames
 pub mod FramesOld
 pub mod Desk
 pub mod Outcome
+pub mod Editions
 pub mod Shuffle

@@ -1,11 +1,11 @@
 -- The sides as the sort leaves them: an order, as the scan asks. Assumes nothing.
-use Prim.Native.Nat.{ℕ, _+_, _*_, _^_, _≤_, _<_, min, max}
+use Prim.Native.Nat.{ℕ, _+_, _*_, _≤_, _<_, min, max}
 use native.Mathlib.Omega.{arith}
-use mathlib.Core.Path.{_≡_, refl, sym, _∙_, ap, subst}
-use mathlib.Core.Bool.{Bool, true, false, _&&_, true≢false}
+use mathlib.Core.Path.{_≡_, refl, sym, _∙_, subst}
+use mathlib.Core.Bool.{true, false, _&&_, true≢false}
 use mathlib.Core.List.{List, [], _∷_}
 use lib.Dec.{eqb}
-use lib.ListN.{length, getD, take}
+use lib.ListN.{length, take}
 use borrow.Author.Tests.{eq-eqb, eqb-true}
 use Rattle.neighbors.proofs.Whole.{digit-one, digit-two, max-lt}
 use Rattle.table.specs.Table.{cell, column}
@@ -17,7 +17,7 @@ use Rattle.sort.proofs.Keys.{ends-at}
 use Rattle.view.specs.Frame.{outside, Only}
 use Rattle.view.proofs.Frame.{cell-kept, only-trans, only-more}
 use Rattle.neighbors.specs.Links.{sameEnds}
-use Rattle.neighbors.specs.Sides.{endRow, lowerEnd, higherEnd, sideColumns, stepColumns, Sided, Sorted}
+use Rattle.neighbors.specs.Sides.{endRow, sideColumns, stepColumns, Sided, Sorted}
 use Rattle.neighbors.proofs.Sided.{end-lt, sided, counted}
 use Rattle.examiner.specs.Scan.{OrderOf, Reads}
 use Rattle.examiner.proofs.Ranks.{rank-below, rank-rises, rank-steps, rank-found}
@@ -39,14 +39,14 @@ module _ (rows tris : ℕ) (w v : List ℕ) (fits : 3 * tris ≤ rows) (long : c
   abbrev X : ℕ → ℕ
   X a = cell rows orderColumn a v
 
-  G : Sided rows n w u
-  G = subst (Sided rows n w) (sym (S .is)) (sided rows tris w fits long)
+  G : Sided rows vertexColumn n w u
+  G = subst (Sided rows vertexColumn n w) (sym (S .is)) (sided rows vertexColumn tris w refl fits long)
 
   full : columns * rows ≤ length u
   full = let a = G .only .size in omega arith
 
   count : take n (column rows orderColumn u) ≡ listOf n (λ k. k)
-  count = counted rows n w u fits full G
+  count = counted rows vertexColumn n w u fits full G
 
   pub long-after : columns * rows ≤ length v
   long-after = let a = S .sorted .only .size in let b = full in omega arith

@@ -1,34 +1,21 @@
 -- The rows sorted by the words of their groups. Assumes nothing.
 use Prim.Native.Nat.{ℕ, _+_, _*_, _^_, _≤_, _<_}
 use native.Mathlib.Omega.{arith}
-use mathlib.Core.Path.{_≡_, refl, sym, _∙_, ap, subst}
+use mathlib.Core.Path.{_≡_, refl, sym, _∙_, ap}
 use mathlib.Core.List.{List, [], _∷_, _++_}
-use lib.ListN.{length, getD, take, drop, List·getD-append}
-use lib.Seq.{sets-eq, take-append-seam}
+use lib.ListN.{length, getD, take, drop}
+use lib.Seq.{take-append-seam}
 use Rattle.table.specs.Table.{cell, column, filledTo}
 use Rattle.lists.specs.Loops.{listOf}
 use Rattle.table.specs.Columns.{columns, lowerColumn, higherColumn, orderColumn, spareColumn}
-use Rattle.table.proofs.Laws.{run-fills, getD-column, length-column, length-fill, column-ends}
-use Rattle.lists.proofs.Loops.{length-listOf, getD-listOf}
+use Rattle.table.proofs.Laws.{filled-front, filled-cell}
+use Rattle.lists.proofs.Loops.{length-listOf}
 use Rattle.sort.specs.Sort.{ends, SortedPart}
 use Rattle.sort.proofs.Keys.{ends-at}
 use Rattle.view.specs.Frame.{Only}
 use Rattle.view.proofs.Frame.{cell-kept, only-run, only-trans, only-more}
 use Rattle.examiner.proofs.Ranks.{rank-below, rank-rises, rank-steps, rank-found}
 use Rattle.firsts.specs.Firsts.{Alike, InOrder, Orders, sortColumns}
-
--- a column whose first n rows are filled
-pub filled-front : (rows j n : ℕ) (h : ℕ → ℕ) (w : List ℕ) → n ≤ rows → j * rows + rows ≤ length w → column rows j (filledTo rows j h w n) ≡ listOf n h ++ drop n (column rows j w)
-filled-front rows j n h w fits long =
-    run-fills rows j 0 w (filledTo rows j h w n) (listOf n h) refl (omega (arith, length-listOf n h))
-    ∙ (sets-eq (listOf n h) (column rows j w) 0 (omega (arith, length-listOf n h, length-column rows w j long)) ∙ ap (λ (m : ℕ). listOf n h ++ drop m (column rows j w)) (let e : 0 + length (listOf n h) ≡ n = omega (arith, length-listOf n h) in e))
-
--- one of its cells
-pub filled-cell : (rows j n r : ℕ) (h : ℕ → ℕ) (w u : List ℕ) → n ≤ rows → j * rows + rows ≤ length w → r < n → u ≡ filledTo rows j h w n → cell rows j r u ≡ h r
-filled-cell rows j n r h w u fits long l e =
-    sym (getD-column rows u j r (omega arith))
-    ∙ (ap (λ (x : List ℕ). getD (column rows j x) r 0) e
-    ∙ (ap (λ (x : List ℕ). getD x r 0) (filled-front rows j n h w fits long) ∙ (List·getD-append (listOf n h) (drop n (column rows j w)) 0 r (omega (arith, length-listOf n h)) ∙ getD-listOf n h 0 r l)))
 
 module _ (rows n : ℕ) (G w w₁ w₂ w₃ v : List ℕ) (fits : n ≤ rows) (long : columns * rows ≤ length w) (few : rows < 4294967295)
     (e₁ : w₁ ≡ filledTo rows higherColumn (λ _. 0) w rows) (e₂ : w₂ ≡ filledTo rows lowerColumn (λ r. getD G r 0) w₁ n) (e₃ : w₃ ≡ filledTo rows orderColumn (λ r. r) w₂ n) (S : SortedPart rows 0 n w₃ v) where

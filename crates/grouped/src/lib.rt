@@ -1,12 +1,13 @@
 // Steps 1 to 6, one after the other: from the lists handed in to the groups of corners, as met and in triangle order.
 ghost use mathlib.Core.Path.{_≡_};
-ghost use Prim.Native.Nat.{_*_, _≤_};
+ghost use Prim.Native.Nat.{ℕ, _*_, _≤_, _<_};
 ghost use lib.ListN.{length};
 ghost use Rattle.definition.specs.Handed.{handed};
 ghost use Rattle.definition.specs.Limits.{faceLimit};
-ghost use Rattle.table.specs.Columns.{columns, rowsOf};
+ghost use Rattle.table.specs.Table.{cell};
+ghost use Rattle.table.specs.Columns.{columns, rowsOf, linkColumn};
 ghost use Rattle.grouped.specs.Links.{LeftByFive};
-ghost use Rattle.grouped.specs.Grouped.{LeftBySix};
+ghost use Rattle.grouped.specs.Grouped.{SidesGrouped, LeftBySix};
 use listing::TriangleCounts;
 
 // How many triangles are sound, and how many there are; how many groups there are, and members of them all.
@@ -36,6 +37,24 @@ pub fn link_mesh(
     counts
 }
 
+// Step 6 for sides that are linked, and its members in triangle order: for any links that the column stands for.
+pub fn group_sides(work: &mut [u32], rows: usize, triangles: TriangleCounts) -> MeshCounts
+    requires { ⌜ (3 * triangles .sound ≤ rows) × (columns * rows ≤ length (now work)) × (rows < 4294967295) × ((r : ℕ) → r < 3 * triangles .sound → cell rows linkColumn r (now work) ≤ 3 * triangles .sound) ⌝ }
+    ensures { λ r. ⌜ SidesGrouped rows (triangles .sound) (triangles .all) r (now (work .entry)) (now (work .exit)) ⌝ }
+{
+    let sound = triangles.sound;
+    let counts = flat::build_4_rule_groups(work, rows, sound);
+    let met = counts.groups;
+    let members = counts.members;
+    members::order_members(work, rows, counts);
+    MeshCounts {
+        sound,
+        all: triangles.all,
+        groups: met,
+        members,
+    }
+}
+
 // Steps 1 to 6; the columns are spoken for where no corner is bad.
 pub fn group_mesh(
     sizes: &[u8],
@@ -49,15 +68,5 @@ pub fn group_mesh(
 {
     let rows = 6 * sizes.len();
     let triangles = link_mesh(sizes, positions, normals, texture, work);
-    let sound = triangles.sound;
-    let counts = flat::build_4_rule_groups(work, rows, sound);
-    let met = counts.groups;
-    let members = counts.members;
-    members::order_members(work, rows, counts);
-    MeshCounts {
-        sound,
-        all: triangles.all,
-        groups: met,
-        members,
-    }
+    group_sides(work, rows, triangles)
 }

@@ -40,7 +40,7 @@ unfolding flatMap
 all-words [] = refl
 all-words (r ∷ l) = length-append (slot.words r) (flatMap slot.words l) ∙ (let a = words-length r in let b = all-words l in omega arith)
 
-nooks-length : (i : ℕ) (l : List Corner) → length (nooks i l) ≡ length l
+pub nooks-length : (i : ℕ) (l : List Corner) → length (nooks i l) ≡ length l
 unfolding nooks
 nooks-length i [] = refl
 nooks-length i (c ∷ l) = ap suc (nooks-length (suc i) l)
@@ -52,6 +52,20 @@ readings-length bs ss f = length-map (nooks 0 (usable (f .corners))) _ ∙ nooks
 used-more : (n : ℕ) → used (suc (suc (suc (suc (suc n))))) ≡ false
 unfolding used
 used-more n = rw (ne-eqb (suc (suc (suc (suc (suc n))))) 3 (λ e. omega arith), ne-eqb (suc (suc (suc (suc (suc n))))) 4 (λ e. omega arith))
+
+-- readings of faces of these sizes: each face has as many as it has slots
+pub data Reads : List ℕ → List (List Reading) → Type 0 where
+  reads-nil : Reads [] []
+  reads-cons : {n : ℕ} {sizes : List ℕ} {r : List Reading} {rs : List (List Reading)} → length r ≡ slotsOf n → Reads sizes rs → Reads (n ∷ sizes) (r ∷ rs)
+
+-- their words are those of S slots
+pub reads-length : {sizes : List ℕ} {rs : List (List Reading)} → Reads sizes rs → length (answerWords rs) ≡ slotWords * slotCount sizes
+unfolding answerWords slotCount flatMap
+reads-length reads-nil = refl
+reads-length (reads-cons {r = r} {rs = rs} e t) =
+    let a = all-words r in
+    let d = reads-length t in
+    length-append (flatMap slot.words r) (flatMap (flatMap slot.words) rs) ∙ omega arith
 
 module _ (ps ns ts : List Float) where
   -- a face of 3 or 4 takes its size of slots, another none
@@ -72,19 +86,20 @@ module _ (ps ns ts : List Float) where
       let c = face-slots i n in
       omega arith
 
-  all-length : (bs : List Brought) (ss : List Triangle) (k i : ℕ) (sizes : List ℕ) → length (answerWords (framesFrom (numbered k (meshFrom ps ns ts i sizes)) ss bs)) ≡ slotWords * slotCount sizes
-  unfolding answerWords framesFrom numbered meshFrom slotCount slotsOf flatMap
-  all-length bs ss k i [] = refl
-  all-length bs ss k i (n ∷ sizes) =
-      let f : Face = record { number = k; corners = cornersFrom ps ns ts i n } in
-      let a = face-length bs ss k i n in
-      let d = all-length bs ss (suc k) (i + n) sizes in
-      length-append (flatMap slot.words (faceReadings bs ss f)) _ ∙ omega arith
+  -- what gives each face as many readings as it has usable corners gives a mesh's faces theirs
+  pub mapped-reads : (G : Face → List Reading) → ((f : Face) → length (G f) ≡ length (usable (f .corners))) → (k i : ℕ) (sizes : List ℕ) → Reads sizes (map G (numbered k (meshFrom ps ns ts i sizes)))
+  unfolding numbered meshFrom slotsOf
+  mapped-reads G e k i [] = reads-nil
+  mapped-reads G e k i (n ∷ sizes) = reads-cons (e (record { number = k; corners = cornersFrom ps ns ts i n }) ∙ face-slots i n) (mapped-reads G e (suc k) (i + n) sizes)
+
+  pub frames-read : (bs : List Brought) (ss : List Triangle) (k : ℕ) (sizes : List ℕ) → Reads sizes (framesFrom (numbered k (meshFrom ps ns ts 0 sizes)) ss bs)
+  unfolding framesFrom
+  frames-read bs ss k sizes = mapped-reads (faceReadings bs ss) (readings-length bs ss) k 0 sizes
 
   -- the answer has the words of S slots
   pub answer-length : (h : Float) (sizes : List ℕ) → length (answerWords (frames h (meshFrom ps ns ts 0 sizes))) ≡ slotWords * slotCount sizes
   unfolding frames framesOf
-  answer-length h sizes = all-length _ _ 0 0 sizes
+  answer-length h sizes = reads-length (frames-read _ _ 0 sizes)
 
 -- ---- triangles by index: one name, one index
 

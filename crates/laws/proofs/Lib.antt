@@ -25,6 +25,8 @@ pub mod Leftover
 pub mod Reached
 pub mod OneGroup
 pub mod Verdict
+pub mod Corrected
+pub mod Editions
 pub mod Old
 pub mod SamplesMore
 pub mod SamplesOld

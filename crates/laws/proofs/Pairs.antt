@@ -244,7 +244,7 @@ module _ (A B : Spot → Bool) where
 
 -- ---- what two tests keep
 
-keep-keep : {X : Type 0} (p q : X → Bool) → ((x : X) → p x ≡ true → q x ≡ true) → (l : List X) → keep p (keep q l) ≡ keep p l
+pub keep-keep : {X : Type 0} (p q : X → Bool) → ((x : X) → p x ≡ true → q x ≡ true) → (l : List X) → keep p (keep q l) ≡ keep p l
 unfolding keep
 keep-keep p q f [] = refl
 keep-keep p q f (x ∷ l) = go (q x) refl (p x) refl (keep-keep p q f l)
@@ -254,7 +254,7 @@ keep-keep p q f (x ∷ l) = go (q x) refl (p x) refl (keep-keep p q f l)
     go false d true e i = absurd (true≢false (sym (f x e) ∙ d))
     go false d false e i = i
 
-keep-append : {X : Type 0} (p : X → Bool) (l k : List X) → keep p (l ++ k) ≡ keep p l ++ keep p k
+pub keep-append : {X : Type 0} (p : X → Bool) (l k : List X) → keep p (l ++ k) ≡ keep p l ++ keep p k
 unfolding keep
 keep-append p [] k = refl
 keep-append p (x ∷ l) k = rw (keep-append p l k) (go (p x))

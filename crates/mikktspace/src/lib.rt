@@ -56,13 +56,16 @@ pub fn make_frames(
     let rows = 6 * sizes.len();
     clear_first(answer, tangent::SLOT_WORDS * slots);
     let counts = grouped::group_mesh(sizes, positions, normals, texture, work);
-    contributions::contribute_all(work, rows, counts.sound, positions, normals);
-    let met = groups::GroupCounts {
-        groups: counts.groups,
-        members: counts.members,
-    };
-    spaces::generate_tangent_spaces(work, rows, threshold, answer, met);
-    copies::copy_frames(work, rows, counts.sound, counts.all, positions, answer);
+    last::finish_frames(
+        work,
+        rows,
+        table::CORNER,
+        counts,
+        positions,
+        normals,
+        threshold,
+        answer,
+    );
     clear_first(work, definition::WORK_WORDS * sizes.len());
     slots as u32
 }

@@ -7,4 +7,5 @@ pub mod Linking
 pub mod Mates
 pub mod Order
 pub mod Sided
+pub mod Placed
 pub mod Whole

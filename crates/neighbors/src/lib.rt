@@ -76,14 +76,14 @@ pub fn end_of(r: usize) -> usize
     r + 1
 }
 
-// The side of row r: its ends, its place in the order, no link.
-fn put_side(work: &mut [u32], rows: usize, tris: usize, r: usize)
-    requires { ⌜ (r < 3 * tris) × (3 * tris ≤ rows) × (columns * rows ≤ length (now work)) × (rows < 4294967295) ⌝ }
-    ensures { λ _. ⌜ now (work .exit) ≡ sides.withSide rows r (now (work .entry)) ⌝ }
+// The side of row r: its ends by the words of a column, its place in the order, no link.
+fn put_side(work: &mut [u32], rows: usize, column: usize, tris: usize, r: usize)
+    requires { ⌜ (column < columns) × (r < 3 * tris) × (3 * tris ≤ rows) × (columns * rows ≤ length (now work)) × (rows < 4294967295) ⌝ }
+    ensures { λ _. ⌜ now (work .exit) ≡ sides.withSide rows column r (now (work .entry)) ⌝ }
 {
     let e = end_of(r);
-    let a = work[table::VERTEX * rows + r];
-    let b = work[table::VERTEX * rows + e];
+    let a = work[column * rows + r];
+    let b = work[column * rows + e];
     let low = least(a, b);
     let high = greatest(a, b);
     work[table::LOWER * rows + r] = low;
@@ -92,13 +92,13 @@ fn put_side(work: &mut [u32], rows: usize, tris: usize, r: usize)
     work[table::LINK * rows + r] = 0;
 }
 
-// All sides of the triangles.
-fn put_sides(work: &mut [u32], rows: usize, tris: usize)
-    requires { ⌜ (3 * tris ≤ rows) × (columns * rows ≤ length (now work)) × (rows < 4294967295) ⌝ }
-    ensures { λ _. ⌜ now (work .exit) ≡ upTo (3 * tris) (sides.withSide rows) (now (work .entry)) ⌝ }
+// All sides of the triangles, their ends by the words of a column.
+pub fn put_sides(work: &mut [u32], rows: usize, column: usize, tris: usize)
+    requires { ⌜ (column < columns) × (3 * tris ≤ rows) × (columns * rows ≤ length (now work)) × (rows < 4294967295) ⌝ }
+    ensures { λ _. ⌜ now (work .exit) ≡ upTo (3 * tris) (sides.withSide rows column) (now (work .entry)) ⌝ }
 {
     for r in 0..3 * tris {
-        put_side(work, rows, tris, r);
+        put_side(work, rows, column, tris, r);
     }
 }
 
@@ -108,7 +108,7 @@ pub fn order_sides(work: &mut [u32], rows: usize, tris: usize)
     ensures { λ _. ⌜ sides.Sorted rows tris (now (work .entry)) (now (work .exit)) ⌝ }
 {
     let n = 3 * tris;
-    put_sides(work, rows, tris);
+    put_sides(work, rows, table::VERTEX, tris);
     sort::sort(work, rows, 0, n);
 }
 
@@ -207,7 +207,7 @@ fn step(work: &mut [u32], rows: usize, n: usize, c: Cursors) -> Cursors
 }
 
 // Links all sides, in their order.
-fn link_all(work: &mut [u32], rows: usize, n: usize)
+pub fn link_all(work: &mut [u32], rows: usize, n: usize)
     requires { ⌜ Ready rows n (now work) ⌝ }
     ensures work { λ _. ⌜ now (work .exit) ≡ upTo n (spec.turn rows n) (now (work .entry)) ⌝ }
     ensures ready { λ _. ⌜ Ready rows n (now (work .exit)) ⌝ }
@@ -227,7 +227,7 @@ pub fn link_sides(work: &mut [u32], rows: usize, tris: usize)
     ensures only { λ _. ⌜ Only sides.stepColumns rows (now (work .entry)) (now (work .exit)) ⌝ }
 {
     let n = 3 * tris;
-    put_sides(work, rows, tris);
+    put_sides(work, rows, table::VERTEX, tris);
     sort::sort(work, rows, 0, n);
     link_all(work, rows, n);
 }

@@ -2,8 +2,10 @@
 use Rattle.promises.specs.All.{AllPromised}
 use Rattle.promises.proofs.PublicCall as PublicCall
 use Rattle.promises.proofs.Demand1 as Demand1
+use Rattle.promises.proofs.Editions as Editions
 use Rattle.promises.proofs.Determined as Determined
 use Rattle.promises.proofs.Demand3 as Demand3
+use Rattle.promises.proofs.OldShuffle as OldShuffle
 use Rattle.promises.proofs.Directions as Directions
 use Rattle.promises.proofs.Origins as Origins
 use Rattle.promises.proofs.Reasons as Reasons
@@ -38,6 +40,8 @@ all-promised =
       determined = Determined.determined;
       demand-3 = Demand3.demand3;
       directions = Directions.directions;
+      editions = Editions.editions;
+      old-shuffle = OldShuffle.old-shuffle;
       origins = Origins.origins;
       reasons = Reasons.reasons;
       before-e7 = BeforeE7.before-e7;

@@ -31,7 +31,7 @@ use Rattle.laws.proofs.Part.{every-map}
 use Rattle.laws.proofs.Mutual.{every-at}
 use Rattle.laws.proofs.Verdict.{verdict-numbered, InTable}
 use Rattle.view.specs.Answer.{slotNumber, HasSlot, Shows, finalAt}
-use Rattle.view.proofs.Answer.{slot-lt, slot-words, frames-shown}
+use Rattle.view.proofs.Answer.{slot-lt, slot-words, final-at, frames-shown}
 use Rattle.copies.proofs.Places.{slot-below}
 use Rattle.islands.specs.Nine.{afterwards}
 use Rattle.islands.proofs.Nine.{numbered-row}
@@ -46,7 +46,6 @@ use Rattle.promises.specs.Reasons.{Unwelded, CopiesAbsent, Unreached, Re
 use Rattle.promises.specs.Explained.{ReasonsMade, remains, reasonAt, Says, Promised}
 use Rattle.promises.specs.Explained as says
 use Rattle.promises.proofs.StepNine as nine
-use Rattle.promises.proofs.Demand1.{final-at}
 use Rattle.promises.proofs.Worth.{not-absent}
 use Rattle.promises.proofs.Reasons.{reasons, zero-reach, reach-zero}
 
@@ -66,7 +65,7 @@ module _ (mesh : Handed) (bs : List Brought) where
       let S : Shows (mesh .sizes) (finalAt bs ss (meshOf mesh)) [] (all ++ rest) = sym (frames-shown (mesh .positions) (mesh .normals) (mesh .texture) ss bs (mesh .sizes) [] _ refl) in
       ap (λ (a : List ℕ). getD a (p + j) 0) (sym (ap (λ (r : List ℕ). all ++ r) (drop-nil (slotWords * slotCount (mesh .sizes))) ∙ append-nil all))
       ∙ (sym (getD-drop p (all ++ rest) j 0) ∙ (sym (getD-take slotWords (drop p (all ++ rest)) j 0 l)
-      ∙ ap (λ (a : List ℕ). getD a j 0) (slot-words (mesh .sizes) [] (finalAt bs ss (meshOf mesh)) (all ++ rest) f i h S ∙ ap words (final-at mesh bs f i h))))
+      ∙ ap (λ (a : List ℕ). getD a j 0) (slot-words (mesh .sizes) [] (finalAt bs ss (meshOf mesh)) (all ++ rest) f i h S ∙ ap words (final-at (mesh .positions) (mesh .normals) (mesh .texture) ss bs (mesh .sizes) f i h))))
 
 -- ---- the trial
 

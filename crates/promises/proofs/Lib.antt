@@ -1,4 +1,5 @@
 pub mod Acceptance
+pub mod Editions
 pub mod Demand1
 pub mod Determined
 pub mod Impostors
@@ -36,4 +37,5 @@ pub mod Faithful
 pub mod Origins
 pub mod Reasons
 pub mod Explained
+pub mod OldShuffle
 pub mod All

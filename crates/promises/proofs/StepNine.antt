@@ -292,7 +292,7 @@ module _ (m : List (List Corner)) where
     own-after s T =
         let f = s .tri .face in
         let q = sound-is (allTriangles m) (s .tri) (corner-tri (soundTriangles m) s (T .sound)) in
-        final-is f (kept (s .tri) (s .at)) (T .slot) ∙ every-at (faces.own bs (soundTriangles m) f (getD m f [])) (placed m (s .tri) (q .0)) (q .1) (s .at)
+        final-is f (kept (s .tri) (s .at)) (T .slot) ∙ every-at (faces.own bs (soundTriangles m) f (getD m f [])) (placed m (s .tri) (q .0)) (q .1) (s .at) (kept (s .tri) (s .at)) refl
 
     -- a slot that is copied to, by what is found
     pub broken-after : (f : ℕ) (k : Kept) → Broken m f k → after f (k .which) ≡ copied false bs (firstWelded m (k .corner))

@@ -1,8 +1,10 @@
 -- Every promise in one place: the theorem that README names is `all-promised` (proofs/All.antt). Definitions only.
 use Rattle.promises.specs.PublicCall as PublicCall
 use Rattle.promises.specs.Demand1 as Demand1
+use Rattle.promises.specs.Editions as Editions
 use Rattle.promises.specs.Determined as Determined
 use Rattle.promises.specs.Demand3 as Demand3
+use Rattle.promises.specs.OldShuffle as OldShuffle
 use Rattle.promises.specs.Directions as Directions
 use Rattle.promises.specs.Origins as Origins
 use Rattle.promises.specs.Reasons as Reasons
@@ -35,6 +37,9 @@ pub record AllPromised : Type 1 where
   pub determined : Determined.Promised
   pub demand-3 : Demand3.Promised
   pub directions : Directions.Promised
+  -- the editions (E13): demand 1 for both, and 8 for any other number; why demand 3 is of the corrected one alone
+  pub editions : Editions.Promised
+  pub old-shuffle : OldShuffle.Promised
   -- where a frame came from, and how many stood behind it (E7); the first ten words of every slot are those of before
   pub origins : Origins.Promised
   pub reasons : Reasons.Promised

@@ -1,6 +1,7 @@
 pub mod Calls
 pub mod Small
 pub mod Demand1
+pub mod Editions
 pub mod Determined
 pub mod Impostors
 pub mod Demand3
@@ -27,4 +28,5 @@ pub mod Faithful
 pub mod Origins
 pub mod Reasons
 pub mod Explained
+pub mod OldShuffle
 pub mod All

@@ -17,15 +17,17 @@ use Rattle.definition.specs.Frames.{numbered, trianglesOf}
 use Rattle.definition.specs.Step4Order.{sound, broken}
 use Rattle.definition.specs.Step7Sums.{Brought}
 use Rattle.definition.specs.Step8Slots.{reading}
+use Rattle.definition.specs.Step9Copies.{faceReadings}
 use Rattle.laws.proofs.Laws.{some-triangle}
-use Rattle.view.specs.Answer.{Shows}
-use Rattle.view.specs.Records.{Tells}
+use Rattle.view.specs.Answer.{Shows, finalAt, finalSeen}
+use Rattle.view.specs.Records.{Tells, Corners}
 use Rattle.view.specs.Links.{Five}
 use Rattle.view.proofs.Answer.{one-shown, slots-same, frames-shown}
-use Rattle.view.proofs.Records.{told-stored}
+use Rattle.view.proofs.Records.{told-stored, cornered-stored}
 use Rattle.grouped.specs.Links.{LeftByFive}
 use Rattle.copies.specs.Copies.{Copied}
 use Rattle.copies.proofs.Places.{slot-below}
+use Rattle.copies.proofs.Turns.{left-alone}
 use Rattle.reasons.specs.Trial.{triedReading, triedWords, tried, trial}
 use Rattle.reasons.proofs.Trial.{tried-reading, tried-held}
 
@@ -57,6 +59,9 @@ module _ (mesh : Handed) (n m : ℕ) (w u : List ℕ) (L : LeftByFive mesh n m w
     tells : Tells rows mesh ys d u
     tells t h = told-stored rows mesh u t (getD ys t d) (omega (arith, L .fits)) (five .held t h)
 
+    corners : Corners rows mesh ys d u
+    corners t h = cornered-stored rows mesh u t (getD ys t d) (omega (arith, L .fits)) (five .held t h)
+
     filled : Shows (mesh .sizes) (reading bs) a b
     filled =
         slots-same (mesh .sizes) a (λ f i. triedReading) (reading bs) b
@@ -64,7 +69,7 @@ module _ (mesh : Handed) (n m : ℕ) (w u : List ℕ) (L : LeftByFive mesh n m w
         (F ∙ one-shown (mesh .sizes) a triedReading)
 
     pub tried-out : c ≡ answerWords (trial (meshOf mesh)) ++ drop (slotWords * slotCount (mesh .sizes)) a
-    unfolding trial
+    unfolding trial finalAt finalSeen faceReadings
     tried-out =
         frames-shown (mesh .positions) (mesh .normals) (mesh .texture) ss bs (mesh .sizes) a c
-        (C .final (mesh .sizes) (mesh .normals) (mesh .texture) bs d a (sym (L .sound-count)) (sym (L .count)) tells (five .vertices) (tried-held (numbered 0 (meshOf mesh))) filled)
+        (C .final (mesh .sizes) (mesh .normals) (mesh .texture) bs d a ss (broken (trianglesOf mesh)) (λ f k. k) (sym (L .sound-count)) (sym (L .count)) tells corners (left-alone mesh d) (five .vertices) (tried-held (numbered 0 (meshOf mesh))) filled)

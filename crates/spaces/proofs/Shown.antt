@@ -4,12 +4,13 @@ use native.Mathlib.Omega.{arith}
 use mathlib.Core.Path.{_≡_, refl, sym, ap, _∙_, subst}
 use mathlib.Core.Bool.{Bool, true, false, cond, _&&_}
 use mathlib.Core.List.{List, [], _∷_, _++_, append-nil}
-use lib.Dec.{T, eqb}
+use lib.Dec.{eqb}
 use lib.ListN.{length, getD, take, length-map, List·getD-map}
 use lib.Seq.{take-suc, take-length}
-use lib.Ieee.{Float, nan, binary32, fits}
+use lib.Ieee.{Float}
 use borrow.Author.Tests.{eqb-true}
 use Rattle.laws.proofs.Closed.{Between}
+use Rattle.math.specs.Held.{HeldVec}
 use Rattle.tangent.specs.declared.Reading.{Reading}
 use Rattle.tangent.specs.declared.Reading.the-variants.{Absent}
 use Rattle.lists.specs.Loops.{upTo}
@@ -19,7 +20,7 @@ use Rattle.lists.proofs.Loops.{upTo-ind}
 use Rattle.definition.specs.Handed.{Handed}
 use Rattle.definition.specs.declared.Triangle.{Triangle}
 use Rattle.lists.specs.Lists.{keep, run}
-use Rattle.definition.specs.Mesh.{kept, slotOf}
+use Rattle.definition.specs.Mesh.{Third, kept, cornerOf, slotOf}
 use Rattle.definition.specs.Step5Links.{Link}
 use Rattle.definition.specs.Step6Groups.{Mark, marks}
 use Rattle.definition.specs.Step7Sums.{Brought, bring, broughtAll}
@@ -28,6 +29,7 @@ use Rattle.definition.specs.Names.{Names}
 use Rattle.laws.proofs.World.{eqb-sym}
 use Rattle.bits.proofs.Bools.{and-left, and-right}
 use Rattle.laws.proofs.Held.{reading-held}
+use Rattle.view.specs.Rows.{spotAt}
 use Rattle.view.specs.Records.{Tells}
 use Rattle.view.specs.Weld.{Sharp}
 use Rattle.view.specs.Groups.{Grouping, beginAt, InOrder}
@@ -78,7 +80,7 @@ none-read f i = refl
 
 -- ---- slots
 
-module _ (rows : ℕ) (mesh : Handed) (ss : List Triangle) (d : Triangle) (groups count : ℕ) (w : List ℕ) (fit : (i : ℕ) → T (fits binary32 (getD (mesh .normals) i nan)))
+module _ (rows : ℕ) (mesh : Handed) (ss : List Triangle) (d : Triangle) (groups count : ℕ) (w : List ℕ) (fit : (t : ℕ) (i : Third) → t < length ss → HeldVec (cornerOf (spotAt ss d t i) .normal))
     (tells : Tells rows mesh ss d w) (brings : Contributed rows ss d w) (ls : List Link) (B : Between ss ls) (N : Names ss) (S : Sharp ss d) (G : Grouping rows ss d (marks ss ls) groups w) (I : InOrder rows ss groups count w)
     (slotted : (t : ℕ) → t < length ss → Slotted (mesh .sizes) (getD ss t d)) (all : count ≡ length (marks ss ls)) (small : count ≤ rows) (room : columns * rows ≤ length w)
     (h : Float) (e : Mark) (a₀ : List ℕ) where

@@ -5,11 +5,11 @@ use mathlib.Core.Path.{_≡_, refl, sym, ap, _∙_, subst}
 use mathlib.Core.Bool.{Bool, true, false, cond, _&&_, _||_}
 use mathlib.Core.List.{List, [], _∷_, _++_, map}
 use mathlib.Core.Option.{some}
-use lib.Dec.{T, eqb}
+use lib.Dec.{eqb}
 use lib.ListN.{length, getD}
 use lib.Seq.{slice, length-slice, ext-getD}
 use lib.Ieee as Ieee
-use lib.Ieee.{Float, nan, binary32, fits}
+use lib.Ieee.{Float}
 use Rattle.laws.proofs.Closed.{Between}
 use Rattle.bits.specs.Word.{number}
 use Rattle.math.specs.Held.{HeldVec}
@@ -22,7 +22,7 @@ use Rattle.table.proofs.Laws.{length-column, getD-column}
 use Rattle.definition.specs.declared.Corner.{Corner}
 use Rattle.definition.specs.declared.Triangle.{Triangle}
 use Rattle.definition.specs.declared.Sum.{Sum}
-use Rattle.definition.specs.Handed.{Handed, vectorAt, cornerAt}
+use Rattle.definition.specs.Handed.{Handed}
 use Rattle.lists.specs.Lists.{keep, has, run}
 use Rattle.definition.specs.Mesh.{Third, one, two, three, after, kept, cornerOf, sameTriangle}
 use Rattle.definition.specs.Step4Order.{welded}
@@ -96,13 +96,8 @@ stretch-list rows k from to w f g h =
 
 -- ---- a corner of the columns
 
-module _ (rows : ℕ) (mesh : Handed) (ss : List Triangle) (d : Triangle) (w : List ℕ) (fit : (i : ℕ) → T (fits binary32 (getD (mesh .normals) i nan)))
+module _ (rows : ℕ) (mesh : Handed) (ss : List Triangle) (d : Triangle) (w : List ℕ) (fit : (t : ℕ) (i : Third) → t < length ss → HeldVec (cornerOf (spotAt ss d t i) .normal))
     (tells : Tells rows mesh ss d w) (brings : Contributed rows ss d w) where
-  -- its normal is held
-  normal-held : (t : ℕ) (i : Third) → t < length ss → HeldVec (cornerOf (spotAt ss d t i) .normal)
-  unfolding cornerOf cornerAt vectorAt
-  normal-held t i l = subst (λ c. HeldVec (c .normal)) (sym (tells t l .corner i)) (record { x-held = fit _; y-held = fit _; z-held = fit _ })
-
   -- what the test of a pair asks of it
   peer-is : (t : ℕ) (i : Third) → t < length ss → peerAt rows (row t i) w ≡ record { any = getD ss t d .any; face = getD ss t d .face; s = projected (cornerOf (spotAt ss d t i) .normal) (getD ss t d .tangent .s); t = projected (cornerOf (spotAt ss d t i) .normal) (getD ss t d .tangent .t) }
   unfolding peerAt
@@ -120,7 +115,7 @@ module _ (rows : ℕ) (mesh : Handed) (ss : List Triangle) (d : Triangle) (w : L
       let a = getD ss t d in
       let b = getD ss u d in
       let n = cornerOf (spotAt ss d t i) .normal in
-      let o = welded-normal (cornerOf (spotAt ss d t i)) (cornerOf (spotAt ss d u j)) (normal-held t i l) (normal-held u j m) e in
+      let o = welded-normal (cornerOf (spotAt ss d t i)) (cornerOf (spotAt ss d u j)) (fit t i l) (fit u j m) e in
       (λ z. joinsBy h (peer-is t i l z) (peer-is u j m z))
       ∙ sym (λ z. a .any || b .any || eqb (a .face) (b .face) || Ieee.lt h (dot (projected n (a .tangent .s)) (projected (o z) (b .tangent .s))) && Ieee.lt h (dot (projected n (a .tangent .t)) (projected (o z) (b .tangent .t))))
 
@@ -151,7 +146,7 @@ module _ (rows : ℕ) (mesh : Handed) (ss : List Triangle) (d : Triangle) (w : L
 
 -- ---- a member of a group
 
-module _ (rows : ℕ) (mesh : Handed) (ss : List Triangle) (d : Triangle) (groups count : ℕ) (w : List ℕ) (fit : (i : ℕ) → T (fits binary32 (getD (mesh .normals) i nan)))
+module _ (rows : ℕ) (mesh : Handed) (ss : List Triangle) (d : Triangle) (groups count : ℕ) (w : List ℕ) (fit : (t : ℕ) (i : Third) → t < length ss → HeldVec (cornerOf (spotAt ss d t i) .normal))
     (tells : Tells rows mesh ss d w) (brings : Contributed rows ss d w) (ls : List Link) (B : Between ss ls) (N : Names ss) (S : Sharp ss d) (G : Grouping rows ss d (marks ss ls) groups w) (I : InOrder rows ss groups count w)
     (h : Float) (q j : ℕ) (e : Mark) (l : j < length (marks ss ls)) (n : numberOf rows w j ≡ q + 1) where
   abbrev ms : List Mark

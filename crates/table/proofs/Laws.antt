@@ -6,11 +6,11 @@ use mathlib.Core.Logic.{_⊎_, inl, inr, ⊎-elim}
 use Prim.Native.Nat.{ℕ, zero, suc, _+_, _*_, _-_, _≤_, _<_}
 use native.Mathlib.Nat.{suc-mul, mul-le-mul-right, add-zero, add-suc, suc-add, le-of-lt}
 use native.Mathlib.Omega.{arith}
-use lib.ListN.{length, take, drop, getD, set, replicate, length-drop, length-set}
+use lib.ListN.{length, take, drop, getD, set, replicate, length-drop, length-set, List·getD-append}
 use lib.Seq.{length-take-le, getD-take, getD-drop, drop-set-add, drop-set-lt, take-set-lt, take-set-le, sets, sets-eq, length-sets, drop-length}
 use lib.Arith.{lt-of-le-ne}
 use Rattle.lists.specs.Loops.{listOf}
-use Rattle.lists.proofs.Loops.{length-listOf}
+use Rattle.lists.proofs.Loops.{length-listOf, getD-listOf}
 use native.Mathlib.Numerals.{add-one}
 use lib.Dec.{eqb, ltb}
 use borrow.Author.Tests.{eqb-true, eqb-false, ltb-true, ltb-false}
@@ -158,6 +158,19 @@ run-keeps rows j k from w u vs e ne h = ap (column rows k) e ∙ column-sets row
 
 pub run-fills : (rows j from : ℕ) (w u vs : List ℕ) → u ≡ sets w (j * rows + from) vs → from + length vs ≤ rows → column rows j u ≡ sets (column rows j w) from vs
 run-fills rows j from w u vs e h = ap (column rows j) e ∙ column-sets-same rows j from vs w h
+
+-- a column whose first n rows are filled
+pub filled-front : (rows j n : ℕ) (h : ℕ → ℕ) (w : List ℕ) → n ≤ rows → j * rows + rows ≤ length w → column rows j (filledTo rows j h w n) ≡ listOf n h ++ drop n (column rows j w)
+filled-front rows j n h w fits long =
+    run-fills rows j 0 w (filledTo rows j h w n) (listOf n h) refl (omega (arith, length-listOf n h))
+    ∙ (sets-eq (listOf n h) (column rows j w) 0 (omega (arith, length-listOf n h, length-column rows w j long)) ∙ ap (λ (m : ℕ). listOf n h ++ drop m (column rows j w)) (let e : 0 + length (listOf n h) ≡ n = omega (arith, length-listOf n h) in e))
+
+-- one of its cells
+pub filled-cell : (rows j n r : ℕ) (h : ℕ → ℕ) (w u : List ℕ) → n ≤ rows → j * rows + rows ≤ length w → r < n → u ≡ filledTo rows j h w n → cell rows j r u ≡ h r
+filled-cell rows j n r h w u fits long l e =
+    sym (getD-column rows u j r (omega arith))
+    ∙ (ap (λ (x : List ℕ). getD (column rows j x) r 0) e
+    ∙ (ap (λ (x : List ℕ). getD x r 0) (filled-front rows j n h w fits long) ∙ (List·getD-append (listOf n h) (drop n (column rows j w)) 0 r (omega (arith, length-listOf n h)) ∙ getD-listOf n h 0 r l)))
 
 -- ---- the first words of a list, zeros
 

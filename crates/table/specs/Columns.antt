@@ -1,13 +1,21 @@
 -- The columns of the work list, by name. Definitions only.
 use Prim.Native.Nat.{ℕ, _*_}
 
--- how many there are; the first two are free
+-- how many there are
 abbrev pub columns : ℕ
 columns = 21
 
 -- how many rows each of them has, for so many faces
 abbrev pub rowsOf : ℕ → ℕ
 rowsOf faces = 6 * faces
+
+-- the tag of the corner that a corner is merged with in the old edition's step 4
+abbrev pub tagColumn : ℕ
+tagColumn = 0
+
+-- the row that it is merged with
+abbrev pub intoColumn : ℕ
+intoColumn = 1
 
 -- the numbers of a triangle's three corners in the lists handed in, rows 3t, 3t + 1 and 3t + 2
 abbrev pub cornerColumn : ℕ

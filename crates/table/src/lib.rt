@@ -7,8 +7,14 @@ ghost use lib.ListN.{length, drop, replicate};
 ghost use Rattle.table.specs.Columns.{columns};
 ghost use Rattle.table.specs.Table.{filledTo};
 
-// How many columns there are: 21 times 6F words are 126F of the 128F that are lent. Columns 0 and 1 are free.
+// How many columns there are: 21 times 6F words are 126F of the 128F that are lent. Columns 0 and 1 are free until step 7, but for TAG and INTO in the old edition.
 pub const COLUMNS: usize = 21;
+
+// The tag of the corner that a corner is merged with in the old edition's step 4.
+pub const TAG: usize = 0;
+
+// The row that it is merged with.
+pub const INTO: usize = 1;
 
 // The numbers of a triangle's three corners in the lists handed in.
 pub const CORNER: usize = 2;

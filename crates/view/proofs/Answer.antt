@@ -4,7 +4,7 @@ use native.Mathlib.Nat.{zero-add}
 use native.Mathlib.Omega.{arith}
 use mathlib.Core.Path.{_≡_, refl, sym, _∙_, ap, subst}
 use mathlib.Core.Bool.{Bool, true, false, cond, _&&_}
-use mathlib.Core.List.{List, [], _∷_, _++_, flatMap, append-assoc}
+use mathlib.Core.List.{List, [], _∷_, _++_, map, flatMap, append-assoc}
 use lib.Dec.{eqb}
 use lib.ListN.{length, getD, set, take, drop, replicate, length-append, length-drop, replicate-append-replicate, List·getD-append}
 use lib.Ieee.{Float}
@@ -20,9 +20,11 @@ use Rattle.lists.proofs.Parts.{joined-add}
 use Rattle.lists.proofs.Loops.{length-listOf, getD-listOf}
 use Rattle.definition.specs.declared.Corner.{Corner}
 use Rattle.definition.specs.declared.Triangle.{Triangle}
+use Rattle.definition.proofs.Lengths.{mesh-length}
 use Rattle.definition.specs.Frames.{numbered, framesFrom}
+use Rattle.definition.specs.FramesOld.{seen, oldReadings}
 use Rattle.definition.specs.Handed.{cornersFrom, meshFrom, slotsOf, slotCount}
-use Rattle.definition.specs.Mesh.{Face, Third, one, two, three, kept}
+use Rattle.definition.specs.Mesh.{Face, Spot, Third, one, two, three, kept}
 use Rattle.definition.specs.Outcome.{answerWords}
 use Rattle.definition.specs.Step1Cut.{cut02}
 use Rattle.definition.specs.Step4Order.{isSound, sound, broken}
@@ -31,8 +33,9 @@ use Rattle.definition.specs.Step9Copies.{faceReadings}
 use Rattle.definition.specs.Triangles.{make, settled, pair, nook, quad, usable, pieces, triangles}
 use Rattle.lists.specs.Every.{Every, every-nil, every-cons}
 use Rattle.laws.proofs.Part.{every-append, every-map, every-cond, every-keep}
-use Rattle.laws.proofs.Bridge.{all-words, readings-length, face-slots}
-use Rattle.view.specs.Answer.{slotNumber, HasSlot, slotsFrom, Shows, changed, Slotted, finalAt}
+use Rattle.laws.proofs.Bridge.{all-words, readings-length, face-slots, Reads, reads-nil, reads-cons, mapped-reads}
+use Rattle.laws.proofs.Editions.{old-readings-length}
+use Rattle.view.specs.Answer.{slotNumber, HasSlot, slotsFrom, Shows, atSlot, changed, Slotted, finalAt, finalSeen}
 use Rattle.view.proofs.Lists.{every-index, flatMap-append, sets-after, sets-front, listOf-same, listOf-set, listOf-getD, listOf-one}
 
 -- ---- the words of a reading
@@ -216,32 +219,62 @@ module _ (sizes a₀ : List ℕ) where
 
 -- ---- the frames
 
-module _ (ps ns ts : List Float) (ss : List Triangle) (bs : List Brought) where
-  -- a face's slots, read one after the other, are its readings
-  face-from : (g k n : ℕ) (R : ℕ → Reading) → ((i : ℕ) → i < slotsOf n → R i ≡ getD (faceReadings bs ss (record { number = g; corners = cornersFrom ps ns ts k n })) i Absent) → listOf (slotsOf n) R ≡ faceReadings bs ss (record { number = g; corners = cornersFrom ps ns ts k n })
-  unfolding slotsOf
-  face-from g k n R e =
-      let f : Face = record { number = g; corners = cornersFrom ps ns ts k n } in
-      listOf-same (slotsOf n) R (λ i. getD (faceReadings bs ss f) i Absent) e
-      ∙ ap (λ (m : ℕ). listOf m (λ i. getD (faceReadings bs ss f) i Absent)) (sym (readings-length bs ss f ∙ face-slots ps ns ts k n)) ∙ listOf-getD (faceReadings bs ss f) Absent
+-- a face's slots, read one after the other, are its readings
+face-from : (r : List Reading) (n : ℕ) (R : ℕ → Reading) → length r ≡ slotsOf n → ((i : ℕ) → i < slotsOf n → R i ≡ getD r i Absent) → listOf (slotsOf n) R ≡ r
+face-from r n R l e = listOf-same (slotsOf n) R (λ i. getD r i Absent) e ∙ ap (λ (m : ℕ). listOf m (λ i. getD r i Absent)) (sym l) ∙ listOf-getD r Absent
 
-  -- and the slots of all faces, numbered from g on, are the frames
-  frames-from : (g k : ℕ) (sizes : List ℕ) (R : ℕ → ℕ → Reading)
-      → ((h f i : ℕ) → h ≡ g + f → HasSlot sizes f i → R h i ≡ getD (faceReadings bs ss (record { number = h; corners = getD (meshFrom ps ns ts k sizes) f [] })) i Absent)
-      → flatMap words (slotsFrom g sizes R) ≡ answerWords (framesFrom (numbered g (meshFrom ps ns ts k sizes)) ss bs)
-  unfolding slotsFrom answerWords framesFrom numbered meshFrom flatMap
-  frames-from g k [] R e = refl
-  frames-from g k (n ∷ sizes) R e =
-      flatMap-append words (listOf (slotsOf n) (R g)) (slotsFrom (suc g) sizes R)
-      ∙ (λ z. flatMap words (face-from g k n (R g) (λ i l. e g 0 i (omega arith) (record { face = omega arith; slot = l })) z)
-      ++ frames-from (suc g) (k + n) sizes R (λ h f i q s. e h (suc f) i (omega arith) (record { face = omega arith; slot = s .slot })) z)
+-- and the slots of all faces, numbered from g on, are the readings of all
+reads-from : {sizes : List ℕ} {rs : List (List Reading)} → Reads sizes rs → (g : ℕ) (R : ℕ → ℕ → Reading) → ((h f i : ℕ) → h ≡ g + f → HasSlot sizes f i → R h i ≡ atSlot rs f i) → flatMap words (slotsFrom g sizes R) ≡ answerWords rs
+unfolding slotsFrom answerWords flatMap
+reads-from reads-nil g R e = refl
+reads-from (reads-cons {n} {sizes} {r} {rs} l t) g R e =
+    flatMap-append words (listOf (slotsOf n) (R g)) (slotsFrom (suc g) sizes R)
+    ∙ (λ z. flatMap words (face-from r n (R g) l (λ i b. e g 0 i (omega arith) (record { face = omega arith; slot = b })) z)
+    ++ reads-from t (suc g) R (λ h f i q s. e h (suc f) i (omega arith) (record { face = omega arith; slot = s .slot })) z)
+
+-- so their words show them
+pub reads-shown : {sizes : List ℕ} {rs : List (List Reading)} → Reads sizes rs → (a₀ : List ℕ) → Shows sizes (atSlot rs) a₀ (answerWords rs ++ drop (slotWords * slotCount sizes) a₀)
+reads-shown {sizes} {rs} t a₀ = ap (λ (l : List ℕ). l ++ drop (slotWords * slotCount sizes) a₀) (sym (reads-from t 0 (atSlot rs) (λ h f i q s. ap (λ (k : ℕ). atSlot rs k i) (q ∙ zero-add f))))
+
+-- the readings of face f, among those of all faces from number n on
+mapped-at : (G : Face → List Reading) (n k : ℕ) (m : List (List Corner)) (f : ℕ) → k ≡ n + f → f < length m → getD (map G (numbered n m)) f [] ≡ G (record { number = k; corners = getD m f [] })
+unfolding numbered
+mapped-at G n k [] f e h = absurd (omega arith)
+mapped-at G n k (c ∷ m) zero e h = let q : n ≡ k = omega arith in ap (λ (j : ℕ). G (record { number = j; corners = c })) q
+mapped-at G n k (c ∷ m) (suc f) e h = mapped-at G (suc n) k m f (omega arith) (omega arith)
+
+module _ (ps ns ts : List Float) (sizes : List ℕ) (G : Face → List Reading) where
+  abbrev mesh : List (List Corner)
+  mesh = meshFrom ps ns ts 0 sizes
+
+  -- what G has of a slot of its face is what stands at that slot
+  face-at : (f i : ℕ) → HasSlot sizes f i → getD (G (record { number = f; corners = getD mesh f [] })) i Absent ≡ atSlot (map G (numbered 0 mesh)) f i
+  face-at f i h =
+      let q : f ≡ 0 + f = omega arith in
+      ap (λ (l : List Reading). getD l i Absent) (sym (mapped-at G 0 f mesh f q (subst (λ (n : ℕ). f < n) (sym (mesh-length ps ns ts 0 sizes)) (h .face))))
+
+  -- a list that shows what G has of each slot has the words of all of it, where G has as many readings as a face has usable corners
+  faces-shown : ((f : Face) → length (G f) ≡ length (usable (f .corners))) → (R : ℕ → ℕ → Reading) → ((f i : ℕ) → R f i ≡ getD (G (record { number = f; corners = getD mesh f [] })) i Absent)
+      → (a₀ a : List ℕ) → Shows sizes R a₀ a → a ≡ answerWords (map G (numbered 0 mesh)) ++ drop (slotWords * slotCount sizes) a₀
+  faces-shown l R r a₀ a e =
+      e ∙ ap (λ (l : List ℕ). l ++ drop (slotWords * slotCount sizes) a₀)
+      (reads-from (mapped-reads ps ns ts G l 0 0 sizes) 0 R (λ h f i q s. ap (λ (k : ℕ). R k i) (q ∙ zero-add f) ∙ (r f i ∙ face-at f i s)))
+
+module _ (ps ns ts : List Float) (ss : List Triangle) (bs : List Brought) (sizes : List ℕ) where
+  -- the final reading of a slot is the one of the frames
+  pub final-at : (f i : ℕ) → HasSlot sizes f i → finalAt bs ss (meshFrom ps ns ts 0 sizes) f i ≡ atSlot (framesFrom (numbered 0 (meshFrom ps ns ts 0 sizes)) ss bs) f i
+  unfolding finalAt framesFrom
+  final-at = face-at ps ns ts sizes (faceReadings bs ss)
 
   -- a list that shows the final readings has the frames' words
-  pub frames-shown : (sizes a₀ a : List ℕ) → Shows sizes (finalAt bs ss (meshFrom ps ns ts 0 sizes)) a₀ a → a ≡ answerWords (framesFrom (numbered 0 (meshFrom ps ns ts 0 sizes)) ss bs) ++ drop (slotWords * slotCount sizes) a₀
-  unfolding finalAt
-  frames-shown sizes a₀ a e =
-      e ∙ ap (λ (l : List ℕ). l ++ drop (slotWords * slotCount sizes) a₀)
-      (frames-from 0 0 sizes (finalAt bs ss (meshFrom ps ns ts 0 sizes)) (λ h f i q s. ap (λ (k : ℕ). getD (faceReadings bs ss (record { number = h; corners = getD (meshFrom ps ns ts 0 sizes) k [] })) i Absent) (q ∙ zero-add f)))
+  pub frames-shown : (a₀ a : List ℕ) → Shows sizes (finalAt bs ss (meshFrom ps ns ts 0 sizes)) a₀ a → a ≡ answerWords (framesFrom (numbered 0 (meshFrom ps ns ts 0 sizes)) ss bs) ++ drop (slotWords * slotCount sizes) a₀
+  unfolding finalAt framesFrom
+  frames-shown = faces-shown ps ns ts sizes (faceReadings bs ss) (readings-length bs ss) (finalAt bs ss (meshFrom ps ns ts 0 sizes)) (λ f i. refl)
+
+  -- and in the old edition, where each corner is seen as step 4 left it
+  pub old-shown : (sp : List Spot) (a₀ a : List ℕ) → Shows sizes (finalSeen (seen sp) bs ss (meshFrom ps ns ts 0 sizes)) a₀ a → a ≡ answerWords (map (oldReadings bs ss sp) (numbered 0 (meshFrom ps ns ts 0 sizes))) ++ drop (slotWords * slotCount sizes) a₀
+  unfolding finalSeen oldReadings
+  old-shown sp = faces-shown ps ns ts sizes (oldReadings bs ss sp) (old-readings-length bs ss sp) (finalSeen (seen sp) bs ss (meshFrom ps ns ts 0 sizes)) (λ f i. refl)
 
 -- ---- every corner of a mesh's triangles has a slot
 

@@ -8,6 +8,7 @@ use lib.Dec.{eqb}
 use lib.ListN.{length, getD, take, drop}
 use lib.Seq.{getD-take, getD-drop}
 use Rattle.tangent.proofs.Slots.{vector-back}
+use lib.Ieee.{Float}
 use Rattle.bits.specs.Word.{number}
 use Rattle.bits.proofs.Back.{number-word}
 use Rattle.math.specs.declared.Vec3.{Vec3}
@@ -18,10 +19,10 @@ use Rattle.table.specs.Columns.{cornerColumn, slotColumn, nameColumn, sColumn, 
 use Rattle.table.proofs.Laws.{getD-column}
 use Rattle.definition.specs.declared.Triangle.{Triangle}
 use Rattle.definition.specs.Mesh.{Third, one, two, three, kept, cornerOf}
-use Rattle.definition.specs.Handed.{Handed, cornerAt, slotCount}
+use Rattle.definition.specs.Handed.{Handed, vectorAt, cornerAt, slotCount}
 use Rattle.view.specs.Frame.{outside, Only, disjoint}
 use Rattle.view.specs.Rows.{num, row, spotAt}
-use Rattle.view.specs.Records.{threeWords, numbers, threeOf, lengths, names, Stored, Held, recordColumns, Told, Tells, toldColumns}
+use Rattle.view.specs.Records.{threeWords, numbers, threeOf, lengths, names, Stored, Held, recordColumns, Told, Tells, toldColumns, Cornered, Reads}
 use Rattle.view.proofs.Frame.{apart, cell-kept}
 use Rattle.view.proofs.Rows.{num-lt}
 
@@ -98,11 +99,17 @@ three-back rows k t w v room e h =
     zero-more : (t : ℕ) → 3 * t ≡ 3 * t + 0
     zero-more t = omega arith
 
+-- stores in other columns leave a vector
+three-kept : (rows : ℕ) (ks w u : List ℕ) (t : ℕ) → 3 * t + 3 ≤ rows → Only ks rows w u → (k : ℕ) → outside ks k ≡ true → vectorOf (cell rows k (3 * t) u) (cell rows k (3 * t + 1) u) (cell rows k (3 * t + 2) u) ≡ vectorOf (cell rows k (3 * t) w) (cell rows k (3 * t + 1) w) (cell rows k (3 * t + 2) w)
+three-kept rows ks w u t room O k e = λ z. vectorOf (same (3 * t) (omega arith) z) (same (3 * t + 1) (omega arith) z) (same (3 * t + 2) (omega arith) z)
+  where
+    same : (i : ℕ) → i < rows → cell rows k i u ≡ cell rows k i w
+    same i h = cell-kept ks rows w u O k i e h
+
 -- the columns that hold a triangle tell of it
 pub told-stored : (rows : ℕ) (mesh : Handed) (w : List ℕ) (t : ℕ) (x : Triangle) → 3 * t + 3 ≤ rows → Stored rows mesh w t x → Told rows mesh w t x
 told-stored rows mesh w t x room S = record {
   number = number-at rows cornerColumn t _ w x room (S .corner);
-  corner = λ i. S .from .corner i ∙ ap (cornerAt (mesh .positions) (mesh .normals) (mesh .texture)) (sym (number-at rows cornerColumn t _ w x room (S .corner) i));
   slot = number-at rows slotColumn t _ w x room (S .slot);
   face = first nameColumn ∙ ap (λ (l : List ℕ). getD l 0 0) (S .name);
   missing = part-cell rows nameColumn t 2 w (omega arith) room ∙ ap (λ (l : List ℕ). getD l 2 0) (S .name);
@@ -117,11 +124,39 @@ told-stored rows mesh w t x room S = record {
     first : (k : ℕ) → cell rows k (3 * t) w ≡ getD (threeWords rows k t w) 0 0
     first k = let e : 3 * t ≡ 3 * t + 0 = omega arith in ap (λ (n : ℕ). cell rows k n w) e ∙ part-cell rows k t 0 w (omega arith) room
 
+-- and of its corners
+pub cornered-stored : (rows : ℕ) (mesh : Handed) (w : List ℕ) (t : ℕ) (x : Triangle) → 3 * t + 3 ≤ rows → Stored rows mesh w t x → Cornered rows mesh w t x
+cornered-stored rows mesh w t x room S i = S .from .corner i ∙ ap (cornerAt (mesh .positions) (mesh .normals) (mesh .texture)) (sym (number-at rows cornerColumn t _ w x room (S .corner) i))
+
+-- which stores in other columns leave
+pub cornered-kept : (rows : ℕ) (mesh : Handed) (ks w u : List ℕ) (t : ℕ) (x : Triangle) → 3 * t + 3 ≤ rows → disjoint (cornerColumn ∷ []) ks ≡ true → Only ks rows w u → Cornered rows mesh w t x → Cornered rows mesh u t x
+cornered-kept rows mesh ks w u t x room c O C i =
+    C i ∙ ap (cornerAt (mesh .positions) (mesh .normals) (mesh .texture)) (sym (cell-kept ks rows w u O cornerColumn (row t i) (apart (cornerColumn ∷ []) ks c cornerColumn refl) (omega (arith, num-lt i, room))))
+
+-- what step 7 reads of a triangle that the columns tell of
+pub told-reads : (rows : ℕ) (mesh : Handed) (w : List ℕ) (t : ℕ) (x : Triangle) → Told rows mesh w t x → Cornered rows mesh w t x → Reads rows cornerColumn (mesh .positions) (mesh .normals) w t x
+unfolding cornerAt
+told-reads rows mesh w t x T C = record { place = λ i z. C i z .place; normal = λ i z. C i z .normal; along = T .along; up = T .up }
+
+-- stores in other columns leave that too
+pub reads-kept : (rows k : ℕ) (ps ns : List Float) (ks w u : List ℕ) (t : ℕ) (x : Triangle) → 3 * t + 3 ≤ rows → outside ks k ≡ true → disjoint toldColumns ks ≡ true → Only ks rows w u → Reads rows k ps ns w t x → Reads rows k ps ns u t x
+reads-kept rows k ps ns ks w u t x room o c O R = record {
+  place = λ i. R .place i ∙ ap (vectorAt ps) (sym (at i));
+  normal = λ i. R .normal i ∙ ap (vectorAt ns) (sym (at i));
+  along = three sColumn refl ∙ R .along;
+  up = three tColumn refl ∙ R .up;
+}
+  where
+    at : (i : Third) → cell rows k (row t i) u ≡ cell rows k (row t i) w
+    at i = cell-kept ks rows w u O k (row t i) o (omega (arith, num-lt i, room))
+
+    three : (k : ℕ) → outside toldColumns k ≡ false → vectorOf (cell rows k (3 * t) u) (cell rows k (3 * t + 1) u) (cell rows k (3 * t + 2) u) ≡ vectorOf (cell rows k (3 * t) w) (cell rows k (3 * t + 1) w) (cell rows k (3 * t + 2) w)
+    three k e = three-kept rows ks w u t room O k (apart toldColumns ks c k e)
+
 -- stores in other columns leave what is told
 pub told-kept : (rows : ℕ) (mesh : Handed) (ks w u : List ℕ) (t : ℕ) (x : Triangle) → 3 * t + 3 ≤ rows → disjoint toldColumns ks ≡ true → Only ks rows w u → Told rows mesh w t x → Told rows mesh u t x
 told-kept rows mesh ks w u t x room c O S = record {
   number = λ i. at cornerColumn refl i ∙ S .number i;
-  corner = λ i. S .corner i ∙ ap (cornerAt (mesh .positions) (mesh .normals) (mesh .texture)) (sym (at cornerColumn refl i));
   slot = λ i. at slotColumn refl i ∙ S .slot i;
   face = same nameColumn refl (3 * t) (omega arith) ∙ S .face;
   missing = same nameColumn refl (3 * t + 2) (omega arith) ∙ S .missing;
@@ -140,4 +175,4 @@ told-kept rows mesh ks w u t x room c O S = record {
     at k e i = same k e (row t i) (omega (arith, num-lt i, room))
 
     three : (k : ℕ) → outside toldColumns k ≡ false → vectorOf (cell rows k (3 * t) u) (cell rows k (3 * t + 1) u) (cell rows k (3 * t + 2) u) ≡ vectorOf (cell rows k (3 * t) w) (cell rows k (3 * t + 1) w) (cell rows k (3 * t + 2) w)
-    three k e = λ z. vectorOf (same k e (3 * t) (omega arith) z) (same k e (3 * t + 1) (omega arith) z) (same k e (3 * t + 2) (omega arith) z)
+    three k e = three-kept rows ks w u t room O k (apart toldColumns ks c k e)

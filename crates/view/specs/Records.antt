@@ -14,7 +14,7 @@ use Rattle.table.specs.Table.{cell, column}
 use Rattle.table.specs.Columns.{cornerColumn, slotColumn, nameColumn, sColumn, tColumn, magnitudeColumn, orientationColumn, anyColumn}
 use Rattle.definition.specs.declared.Triangle.{Triangle}
 use Rattle.definition.specs.Mesh.{Third, kept}
-use Rattle.definition.specs.Handed.{Handed, cornerAt, cornerCount, slotCount}
+use Rattle.definition.specs.Handed.{Handed, vectorAt, cornerAt, cornerCount, slotCount}
 use Rattle.view.specs.Rows.{row}
 
 -- the three words of triangle t in column k
@@ -63,10 +63,9 @@ Held rows mesh xs d w = (t : ℕ) → t < length xs → Stored rows mesh w t (ge
 abbrev pub recordColumns : List ℕ
 recordColumns = cornerColumn ∷ slotColumn ∷ nameColumn ∷ sColumn ∷ tColumn ∷ magnitudeColumn ∷ orientationColumn ∷ anyColumn ∷ []
 
--- What the columns tell of x as triangle number t, for the lists handed in: all that steps 7 to 9 read of it. Its orientation, which step 6 alters, is not among it.
+-- What the columns tell of x as triangle number t, for the lists handed in: all that steps 7 to 9 read of it but its corners. Its orientation, which step 6 alters, is not among it.
 pub record Told (rows : ℕ) (mesh : Handed) (w : List ℕ) (t : ℕ) (x : Triangle) : Type 0 where
   pub number : (i : Third) → cell rows cornerColumn (row t i) w ≡ cornerCount (take (x .face) (mesh .sizes)) + kept x i .which
-  pub corner : (i : Third) → kept x i .corner ≡ cornerAt (mesh .positions) (mesh .normals) (mesh .texture) (cell rows cornerColumn (row t i) w)
   pub slot : (i : Third) → cell rows slotColumn (row t i) w ≡ slotCount (take (x .face) (mesh .sizes)) + kept x i .which
   pub face : cell rows nameColumn (3 * t) w ≡ x .face
   pub missing : cell rows nameColumn (3 * t + 2) w ≡ x .missing
@@ -80,6 +79,21 @@ pub record Told (rows : ℕ) (mesh : Handed) (w : List ℕ) (t : ℕ) (x : Trian
 -- of the triangles xs, in their order
 abbrev pub Tells : ℕ → Handed → List Triangle → Triangle → List ℕ → Type 0
 Tells rows mesh xs d w = (t : ℕ) → t < length xs → Told rows mesh w t (getD xs t d)
+
+-- its corners are those of the lists, by the numbers in their column
+abbrev pub Cornered : ℕ → Handed → List ℕ → ℕ → Triangle → Type 0
+Cornered rows mesh w t x = (i : Third) → kept x i .corner ≡ cornerAt (mesh .positions) (mesh .normals) (mesh .texture) (cell rows cornerColumn (row t i) w)
+
+-- of the triangles xs, in their order
+abbrev pub Corners : ℕ → Handed → List Triangle → Triangle → List ℕ → Type 0
+Corners rows mesh xs d w = (t : ℕ) → t < length xs → Cornered rows mesh w t (getD xs t d)
+
+-- What step 7 reads of x as triangle number t: its directions, and the positions and normals of its corners by the numbers in column k.
+pub record Reads (rows k : ℕ) (ps ns : List Float) (w : List ℕ) (t : ℕ) (x : Triangle) : Type 0 where
+  pub place : (i : Third) → kept x i .corner .place ≡ vectorAt ps (cell rows k (row t i) w)
+  pub normal : (i : Third) → kept x i .corner .normal ≡ vectorAt ns (cell rows k (row t i) w)
+  pub along : vectorOf (cell rows sColumn (3 * t) w) (cell rows sColumn (3 * t + 1) w) (cell rows sColumn (3 * t + 2) w) ≡ x .tangent .s
+  pub up : vectorOf (cell rows tColumn (3 * t) w) (cell rows tColumn (3 * t + 1) w) (cell rows tColumn (3 * t + 2) w) ≡ x .tangent .t
 
 -- the columns of a triangle but for its orientation
 abbrev pub toldColumns : List ℕ

@@ -2,4 +2,4 @@ pub mod Buckets
 mod Chains
 mod Turns
 mod Stores
-mod Whole
+pub mod Whole

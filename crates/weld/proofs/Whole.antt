@@ -47,7 +47,7 @@ module _ (rows : ℕ) (w u : List ℕ) (long : columns * rows ≤ length w) (e :
   only-cleared = only-run weldColumns rows headColumn 0 w u (listOf rows (λ _. 0)) refl (omega arith) (omega (arith, length-listOf {S = ℕ} rows (λ _. 0))) e
 
 -- the first that passes, for a test that agrees below n
-first-kept : (p q : ℕ → Bool) (v n : ℕ) → ((k : ℕ) → k < n → p k ≡ q k) → v < n → First p v → First q v
+pub first-kept : (p q : ℕ → Bool) (v n : ℕ) → ((k : ℕ) → k < n → p k ≡ q k) → v < n → First p v → First q v
 first-kept p q v n e h F = record { passes = sym (e v h) ∙ F .passes; least = λ k l. sym (e k (omega arith)) ∙ F .least k l }
 
 -- the same of corners, which agree below n; v is the first that is welded to r

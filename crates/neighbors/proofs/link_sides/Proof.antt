@@ -1,12 +1,13 @@
 -- `neighbors::link_sides` meets its contract. Assumes nothing.
 use Prim.Native.Nat.{_+_, _*_}
 use native.Mathlib.Omega.{arith}
-use mathlib.Core.Path.{sym, subst}
+use mathlib.Core.Path.{refl, sym, subst}
 use denote.Ref.{now}
 use Rattle.table.specs.Columns.{vertexColumn}
 use Rattle.definition.specs.Step5Links.{links}
 use Rattle.view.specs.Links.{Linked}
-use Rattle.neighbors.proofs.Whole.{ready-two, only-three, links-are}
+use Rattle.neighbors.proofs.Placed.{only-three}
+use Rattle.neighbors.proofs.Whole.{ready-two, links-are}
 use borrow.Author.Needs.{needs}
 use Rattle.neighbors.proofs.link_sides.Statement.{statement}
 use Rattle.neighbors.proofs.link_sides.Tie as tie
@@ -27,7 +28,7 @@ returns c =
     let s = k .before in
     let a = s .args in (
       λ ss d e N S W. subst (Linked (a .rows) ss d (links ss)) (sym (l .link-all .ensures .0)) (links-are (a .rows) (a .tris) (now (a .work)) _ _ (s .pre .0) (s .pre .1) (s .pre .2) (p .put-sides .ensures) (q .sort .ensures) (λ r h. omega (arith, k .slice-known .given (vertexColumn * a .rows + r))) ss d e N S W),
-      (λ r h. l .link-all .ensures .1 .0 .links r h, only-three (a .rows) (a .tris) (now (a .work)) _ _ (s .pre .0) (s .pre .1) (s .pre .2) (p .put-sides .ensures) (q .sort .ensures) _ (l .link-all .ensures .1 .1)),
+      (λ r h. l .link-all .ensures .1 .0 .links r h, only-three (a .rows) vertexColumn (a .tris) (now (a .work)) _ _ refl (s .pre .0) (s .pre .1) (p .put-sides .ensures) (q .sort .ensures .only) _ (l .link-all .ensures .1 .1)),
     )
 
 pub link-sides-spec : {M : Type 1} → statement M

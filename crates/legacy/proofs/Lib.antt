@@ -1,0 +1,10 @@
+pub mod Places
+pub mod Rows
+pub mod Merged
+pub mod Apart
+pub mod Halving
+pub mod Alike
+pub mod Seen
+pub mod Columns
+pub mod Linked
+pub mod Grouped

@@ -1,0 +1,4 @@
+pub mod Merged
+pub mod Four
+pub mod Links
+pub mod Grouped
