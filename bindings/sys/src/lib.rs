@@ -49,7 +49,7 @@ pub const LINK_ENTRIES: [usize; 3] = [6, 6, 2];
 pub mod verdict {
     /// Word 0 is 0: there is no frame.
     pub const ABSENT: u8 = 0;
-    /// A frame, whose directions can be used and packed.
+    /// A frame of two directions that can be packed; that they differ is not said.
     pub const GOOD: u8 = 1;
     /// Word 0 is neither 0 nor 1: what stood there is lost.
     pub const LOST: u8 = 2;

@@ -11,7 +11,7 @@ use Rattle.packed.specs.Component.{size, within, cut, units}
 abbrev pub absentSlot : ℕ
 absentSlot = 0
 
--- a frame, whose directions can be used and packed
+-- a frame of two directions that can be packed; that they differ is not said
 abbrev pub goodSlot : ℕ
 goodSlot = 1
 

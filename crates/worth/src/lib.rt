@@ -1,4 +1,4 @@
-// A verdict on every slot of an answer: whether it is absent, lost, or a frame, and whether that frame's directions can be used and packed.
+// A verdict on every slot of an answer: whether it is absent, lost, or a frame, and whether that frame has two directions that can be packed.
 ghost use mathlib.Core.Path.{_≡_};
 ghost use Prim.Native.Nat.{_*_, _≤_};
 ghost use mathlib.Core.Bool.{cond};
@@ -14,7 +14,7 @@ ghost use Rattle.worth.specs.Contract as contract;
 // Word 0 is 0: there is no frame.
 pub const ABSENT: u8 = 0;
 
-// A frame, whose directions can be used and packed.
+// A frame of two directions that can be packed; that they differ is not said.
 pub const GOOD: u8 = 1;
 
 // Word 0 is neither 0 nor 1: what stood there is lost.

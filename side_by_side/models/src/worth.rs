@@ -7,7 +7,7 @@ use crate::packed::{self, SLOT};
 pub enum Worth {
     /// Word 0 is 0: there is no frame.
     Absent,
-    /// A frame, whose directions can be used and packed.
+    /// A frame of two directions that can be packed; that they differ is not said.
     Good,
     /// Word 0 is neither 0 nor 1: what stood there is lost.
     Lost,
