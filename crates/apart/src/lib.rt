@@ -1,6 +1,7 @@
 // Request E9: one island at a time through the base, each frame in its place.
 // The order list, for n faces: at f the next face of the island of face f, its number and one, or 0; at n + t the first face of island t in the same way; at 2n + f and 3n + f how many corners and how many slots stand before face f.
 // One island's numbers are in one list: positions from its start on, normals from 12n on, texture coordinates from 24n on.
+#![tactic(auto)]
 ghost use Rattle.std.specs.Prelude.{◌≡◌, false, ◌++◌, ◌+◌, ◌*◌, ◌<◌, ◌≤◌, length, set, take, drop, replicate};
 ghost use Rattle.std.proofs.Math.Option.{none};
 ghost use Rattle.std.specs.Float.{nan};
@@ -145,7 +146,7 @@ fn gather_face(
 }
 
 // How many faces of an island are gathered, and how many corners they have.
-#[derive(Drop)]
+#[derive(Clone, Copy)]
 pub struct Taken {
     pub faces: usize,
     pub corners: usize,

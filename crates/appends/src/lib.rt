@@ -1,4 +1,5 @@
 // Appending to a card that may be torn: request E14. A program with a file asks which block comes next, hands in its records, and puts the bytes at their place.
+#![tactic(auto)]
 ghost use Rattle.std.specs.Prelude.{◌≡◌, true, ◌++◌, ◌+◌, ◌*◌, ◌≤◌, ◌<◌, length, drop};
 ghost use Rattle.words.specs.Words.{word_values};
 ghost use Rattle.blocks.specs.declared.Kind.TheVariants.{Twelve};
@@ -12,7 +13,7 @@ use blocks::Kind;
 
 // What comes next on a card: 0, how many records the next block takes (none where the card is whole) and where its bytes go; or 3 and zeros.
 #[repr(C)]
-#[derive(Drop)]
+#[derive(Clone, Copy)]
 pub struct Next {
     pub number: u32,
     pub records: u32,
@@ -21,7 +22,7 @@ pub struct Next {
 
 // What `append` returns: 0, how many blocks of 512 bytes and where they go; or a refusal, 1 to 4, and zeros.
 #[repr(C)]
-#[derive(Drop)]
+#[derive(Clone, Copy)]
 pub struct Appended {
     pub number: u32,
     pub blocks: u32,

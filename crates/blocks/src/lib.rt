@@ -1,4 +1,5 @@
 // One block of a card of either kind by its number: stored, judged and read.
+#![tactic(auto)]
 ghost use Rattle.std.specs.Prelude.{◌≡◌, ◌+◌, ◌*◌, ◌≤◌, ◌<◌, eqb, leb, length, get_or, replicate};
 ghost use Rattle.std.proofs.lemmas.List.Edits.{sets};
 ghost use Rattle.lists.specs.Parts.{part, joined, every_below};
@@ -7,7 +8,7 @@ ghost use Rattle.blocks.specs.Format as format;
 ghost use Rattle.blocks.specs.Judged as spec;
 
 // The kinds of cards: E1's, whose records have ten words, and E7's, whose records have twelve.
-#[derive(Drop)]
+#[derive(Clone, Copy)]
 pub enum Kind {
     Ten,
     Twelve,

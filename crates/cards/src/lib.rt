@@ -1,4 +1,5 @@
 // Frames to a card and back: the writer and the reader of request E1, over lent lists, for cards of either kind.
+#![tactic(auto)]
 ghost use Rattle.std.specs.Prelude.{◌≡◌, ◌+◌, ◌*◌, ◌≤◌, ◌<◌, length, get_or, drop, ◌++◌, leb};
 ghost use Rattle.lists.specs.Parts.{every_below};
 ghost use Rattle.blocks.specs.declared.Kind.TheVariants.{Twelve};
@@ -11,7 +12,7 @@ use blocks::Kind;
 
 // What the writer returns: 0 and how many bytes it wrote, or a refusal and 0.
 #[repr(C)]
-#[derive(Drop)]
+#[derive(Clone, Copy)]
 pub struct Written {
     pub number: u32,
     pub bytes: usize,
@@ -19,7 +20,7 @@ pub struct Written {
 
 // What the reader returns: 0 and how many bytes stand past the last whole block that the total calls for, or a refusal and 0.
 #[repr(C)]
-#[derive(Drop)]
+#[derive(Clone, Copy)]
 pub struct CardFound {
     pub number: u32,
     pub past: usize,

@@ -1,4 +1,5 @@
 // The values that document 01 speaks of, as structs: the definitions and the code have the same types.
+#![tactic(auto)]
 use math::Vec3;
 use tangent::RawTangentSpace;
 
@@ -8,7 +9,7 @@ pub const FACE_LIMIT: usize = 65536;
 pub const WORK_WORDS: usize = 128;
 
 // A corner: its position, its normal, its texture coordinates; and its tag: 0 in edition 1, in edition 2 what step 4 merges it with.
-#[derive(Drop)]
+#[derive(Clone, Copy)]
 pub struct Corner {
     pub place: Vec3,
     pub normal: Vec3,
@@ -18,7 +19,7 @@ pub struct Corner {
 }
 
 // A corner that a triangle keeps: which one of its face it is, and its values.
-#[derive(Drop)]
+#[derive(Clone, Copy)]
 pub struct Kept {
     pub which: u32,
     pub corner: Corner,
@@ -26,7 +27,7 @@ pub struct Kept {
 
 // A triangle: its face's number, whether it is the second of a quad, the corner of the face that it misses (3 for a face of three, which misses none), and the three that it keeps, in order.
 // Then what steps 2 and 3 say of it.
-#[derive(Drop)]
+#[derive(Clone, Copy)]
 pub struct Triangle {
     pub face: u32,
     pub second: bool,
@@ -46,7 +47,7 @@ pub struct Triangle {
 }
 
 // A sum of contributions (step 7): of the angles, and of the tangents weighted by them; and how many there were (request E7).
-#[derive(Drop)]
+#[derive(Clone, Copy)]
 pub struct Sum {
     pub angles: f32,
     pub weighted: RawTangentSpace,

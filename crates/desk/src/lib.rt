@@ -1,4 +1,5 @@
 // The desk: refusals 1 to 7 of document 01 and request E4, checked in the table's order; the first that applies is given, and none otherwise.
+#![tactic(auto)]
 ghost use Rattle.std.specs.Prelude.{◌≡◌, cond, ◌+◌, ◌*◌, ◌≤◌, ◌<◌, ◌^◌, length};
 ghost use Rattle.std.proofs.Math.Option.{none, some};
 ghost use Rattle.definition.specs.Desk.{shown};
@@ -11,28 +12,28 @@ use definition::Corner;
 use math::Vec3;
 
 // What the desk says: the number of a refusal and its place; 0 and 0 where there is none.
-#[derive(Drop)]
+#[derive(Clone, Copy)]
 pub struct Verdict {
     pub number: u32,
     pub place: u32,
 }
 
 // The lowest corner of a kind, by its number, or that none was found.
-#[derive(Drop)]
+#[derive(Clone, Copy)]
 pub enum FirstBad {
     At(u32),
     Nothing,
 }
 
 // What is wrong with corners: the lowest that holds a NaN or infinity, and the lowest without a normal.
-#[derive(Drop)]
+#[derive(Clone, Copy)]
 struct Flaws {
     bad: FirstBad,
     bare: FirstBad,
 }
 
 // What one pass over the lists tells: C, S, and the two corners, among those of faces of 3 or 4.
-#[derive(Drop)]
+#[derive(Clone, Copy)]
 struct Seen {
     corners: u32,
     slots: u32,

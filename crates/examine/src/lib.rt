@@ -1,4 +1,5 @@
 // The examiner of somebody else's links, groups and orientations for a mesh, which are not trusted, and our own handed out as it reads them (request E10).
+#![tactic(auto)]
 ghost use Rattle.std.specs.Prelude.{◌≡◌, Bool, ℕ, ◌*◌, ◌≤◌, ◌<◌, length};
 ghost use Rattle.std.proofs.Math.Option.{none};
 ghost use Rattle.std.proofs.lemmas.List.Edits.{sets};
@@ -18,7 +19,7 @@ use examiner::Objection;
 
 // What the examiner says: the number of the desk's refusal, or 0; the number of an objection, or 0; the place of either.
 #[repr(C)]
-#[derive(Drop)]
+#[derive(Clone, Copy)]
 pub struct Examined {
     pub refusal: u32,
     pub objection: u32,
@@ -27,7 +28,7 @@ pub struct Examined {
 
 // What is said with our own lists: the number of a refusal and its place, or 0 and 0; and how many triangles are sound.
 #[repr(C)]
-#[derive(Drop)]
+#[derive(Clone, Copy)]
 pub struct Owned {
     pub number: u32,
     pub place: u32,

@@ -1,4 +1,5 @@
 // Somebody else's links, which are not trusted (request E10): objections 2 to 5.
+#![tactic(auto)]
 ghost use Rattle.std.specs.Prelude.{◌≡◌, true, false, ℕ, ◌*◌, ◌≤◌, ◌<◌, length, get_or};
 ghost use Rattle.table.specs.Columns.{columns, vertex_column, order_column};
 ghost use Rattle.view.specs.Frame.{Only};
@@ -13,7 +14,7 @@ ghost use Rattle.asked.specs.Links.{Equal};
 ghost use Rattle.examiner.specs.OnLinks.{OnLinks};
 
 // What the examiner says: the number of an objection and its place; 0 and 0 where there is none.
-#[derive(Drop)]
+#[derive(Clone, Copy)]
 pub struct Objection {
     pub number: u32,
     pub place: u32,
@@ -125,7 +126,7 @@ fn first_one_sided(given: &[u32], n: usize) -> usize
 }
 
 // The first unlinked side of the last run of equal ends that has one, and the lowest side that is left over; 3 * tris for none.
-#[derive(Drop)]
+#[derive(Clone, Copy)]
 struct Seen {
     first: usize,
     best: usize,

@@ -1,5 +1,6 @@
 // Step 6 without recursion: the same walks as those of `groups`, with the places to go kept in a column of the work list.
 // Carried over from mikktspace.rs (build_4_rule_groups, assign_to_group_recursive) of the Rust crate bevy_mikktspace and ALTERED: written anew in Rattle, with a list of places in the stead of the recursion. See NOTICE.
+#![tactic(auto)]
 ghost use Rattle.std.specs.Prelude.{◌≡◌, List, ℕ, ◌+◌, ◌*◌, ◌-◌, ◌/◌, ◌<◌, ◌≤◌, length};
 ghost use Rattle.table.specs.Columns.{columns, link_column};
 ghost use Rattle.table.specs.Table.{cell};
@@ -18,7 +19,7 @@ use groups::{Entry, GroupCounts};
 use neighbors::Link;
 
 // How the walk stands: the side to cross, how many are left with it (the others are stored), and the number of members of all groups so far.
-#[derive(Drop)]
+#[derive(Clone, Copy)]
 pub struct Going {
     pub side: usize,
     pub left: usize,

@@ -1,4 +1,5 @@
 // Steps 1 to 6, one after the other: from the lists handed in to the groups of corners, as met and in triangle order.
+#![tactic(auto)]
 ghost use Rattle.std.specs.Prelude.{◌≡◌, ℕ, ◌*◌, ◌≤◌, ◌<◌, length};
 ghost use Rattle.definition.specs.Handed.{handed};
 ghost use Rattle.definition.specs.Limits.{face_limit};
@@ -10,7 +11,7 @@ ghost use Rattle.grouped.specs.Grouped.{SidesGrouped, LeftBySix};
 use listing::TriangleCounts;
 
 // How many triangles are sound, and how many there are; how many groups there are, and members of them all.
-#[derive(Drop)]
+#[derive(Clone, Copy)]
 pub struct MeshCounts {
     pub sound: usize,
     pub all: usize,

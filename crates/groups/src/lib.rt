@@ -1,6 +1,7 @@
 // Step 6: corners of sound triangles are grouped by walks over linked sides.
 // Carried over from mikktspace.rs (build_4_rule_groups, assign_to_group_recursive) of the Rust crate bevy_mikktspace and ALTERED: written anew in Rattle, a corner step and a side step. See NOTICE.
 // The two call each other, up to 2F corners deep for F faces, and one call more that stops.
+#![tactic(auto)]
 ghost use Rattle.std.specs.Prelude.{◌≡◌, List, ℕ, ◌+◌, ◌*◌, ◌/◌, ◌<◌, ◌≤◌, length};
 ghost use Rattle.table.specs.Columns.{columns, link_column};
 ghost use Rattle.table.specs.Table.{cell};
@@ -17,14 +18,14 @@ ghost use Rattle.groups.specs.Walk as spec;
 use neighbors::Link;
 
 // Where the walk enters a triangle.
-#[derive(Drop)]
+#[derive(Clone, Copy)]
 pub enum Entry {
     At(usize),
     Stop,
 }
 
 // How many groups and members there are.
-#[derive(Drop)]
+#[derive(Clone, Copy)]
 pub struct GroupCounts {
     pub groups: u32,
     pub members: usize,

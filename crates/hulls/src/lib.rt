@@ -1,12 +1,13 @@
 // The least and the greatest of vectors, component by component, and a bound from below for the dot product of any two of them.
 // Rounding keeps the order, so the bound holds of computed products and sums, exactly; a NaN among the numbers stays in the hull, which is not regular then.
+#![tactic(auto)]
 ghost use Rattle.std.specs.Prelude.{◌≡◌};
 ghost use Rattle.hulls.specs.Hull as spec;
 
 use math::Vec3;
 
 // The least and the greatest of each component.
-#[derive(Drop)]
+#[derive(Clone, Copy)]
 pub struct Hull {
     pub lo: Vec3,
     pub hi: Vec3,

@@ -1,4 +1,5 @@
 // Request E9: the islands of a mesh, by themselves. A public call.
+#![tactic(auto)]
 ghost use Rattle.std.specs.Prelude.{◌≡◌, cond, ◌+◌, ◌≤◌, ◌<◌, eqb, length, get_or};
 ghost use Rattle.std.proofs.Math.Option.{none};
 ghost use Rattle.definition.specs.Handed.{handed};
@@ -7,7 +8,7 @@ ghost use Rattle.labels.specs.Labels as spec;
 
 // What the call says: the number of a refusal and its place, or 0 and 0; and how many islands there are.
 #[repr(C)]
-#[derive(Drop)]
+#[derive(Clone, Copy)]
 pub struct Labelled {
     pub number: u32,
     pub place: u32,

@@ -1,9 +1,10 @@
 // Vectors of three single-precision numbers, by value.
 // Carried over from math.rs of the Rust crate bevy_mikktspace and ALTERED: written anew in Rattle, with one root for `Ops`. See NOTICE.
+#![tactic(auto)]
 ghost use Rattle.std.specs.Prelude.{◌≡◌};
 ghost use Rattle.math.specs.Vector as spec;
 
-#[derive(Drop)]
+#[derive(Clone, Copy)]
 pub struct Vec3 {
     pub x: f32,
     pub y: f32,
@@ -11,7 +12,7 @@ pub struct Vec3 {
 }
 
 // Where a vector points: along another, at unit length, or nowhere.
-#[derive(Drop)]
+#[derive(Clone, Copy)]
 pub enum Direction {
     Nowhere,
     Along(Vec3),

@@ -1,5 +1,6 @@
 // What is handed in, read: a corner of the lists, the sums of the sizes, the part of a list that belongs to a face.
 // FaceVertex is carried over from mikktspace/face_vertex.rs of the Rust crate bevy_mikktspace and ALTERED: written anew in Rattle. See NOTICE.
+#![tactic(auto)]
 ghost use Rattle.std.specs.Prelude.{◌≡◌, false, cond, [], ◌+◌, ◌*◌, ◌%◌, ◌^◌, ◌≤◌, ◌<◌, min, length, get_or, take};
 ghost use Rattle.std.specs.Float.{nan};
 ghost use Rattle.definition.specs.Handed.{handed, vector_at, corner_at, corner_count, slots_of, slot_count};
@@ -12,14 +13,14 @@ use definition::Corner;
 use math::Vec3;
 
 // A corner of a face as one number: face times 4 plus corner.
-#[derive(Drop)]
+#[derive(Clone, Copy)]
 pub struct FaceVertex {
     pub value: u32,
 }
 
 // Where a part of a list stands: the place of its first number, and how many numbers it has.
 #[repr(C)]
-#[derive(Drop)]
+#[derive(Clone, Copy)]
 pub struct Span {
     pub from: usize,
     pub count: usize,

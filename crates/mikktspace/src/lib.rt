@@ -1,5 +1,6 @@
 // The public call: the desk, then steps 1 to 9.
 // Carried over from mikktspace.rs (generate_tangent_space) of the Rust crate bevy_mikktspace and ALTERED: written anew in Rattle, over lists that are lent. See NOTICE.
+#![tactic(auto)]
 ghost use Rattle.std.specs.Prelude.{◌≡◌, ◌*◌, ◌≤◌, length};
 ghost use Rattle.std.proofs.Math.Option.{none};
 ghost use Rattle.definition.specs.Handed.{call, handed};
@@ -12,7 +13,7 @@ pub const LONGEST_ANSWER: usize = tangent::SLOT_WORDS * (4 * definition::FACE_LI
 
 // What the call says: the number of a refusal and its place, or 0 and 0; and how many slots were written.
 #[repr(C)]
-#[derive(Drop)]
+#[derive(Clone, Copy)]
 pub struct Outcome {
     pub number: u32,
     pub place: u32,

@@ -1,5 +1,6 @@
 // The side beyond each side: step 5 on the columns of the work list, by a sort and then a number of steps that is linear in the sides.
 // Carried over from mikktspace.rs (build_neighbors) of the Rust crate bevy_mikktspace and ALTERED: written anew in Rattle. See NOTICE.
+#![tactic(auto)]
 ghost use Rattle.std.specs.Prelude.{◌≡◌, List, [], ◌∷◌, ℕ, ◌*◌, ◌≤◌, ◌<◌, min, max, length};
 ghost use Rattle.table.specs.Columns.{columns, link_column};
 ghost use Rattle.lists.specs.Loops.{up_to};
@@ -16,14 +17,14 @@ ghost use Rattle.neighbors.specs.Cursors.{Stands, Moves};
 ghost use Rattle.neighbors.specs.Sides as sides;
 
 // The side beyond a side.
-#[derive(Drop)]
+#[derive(Clone, Copy)]
 pub enum Link {
     To(usize),
     Nothing,
 }
 
 // Two places in the order of the sides: of the side that looks for a mate, and of the one that it looks at.
-#[derive(Drop)]
+#[derive(Clone, Copy)]
 struct Cursors {
     near: usize,
     far: usize,

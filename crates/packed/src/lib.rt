@@ -1,5 +1,6 @@
 // Frames packed to 16 bits for the viewer, and back: the packer and the reader of request E5, over lent lists.
 // A number of 16 bits is a u16 in two's complement: -1 is 65535, -32,768 is 32768.
+#![tactic(auto)]
 ghost use Rattle.std.specs.Prelude.{◌≡◌, ◌+◌, ◌*◌, ◌^◌, ◌≤◌, ◌<◌, ◌++◌, length, get_or, drop};
 ghost use Rattle.std.proofs.lemmas.List.Edits.{sets};
 ghost use Rattle.tangent.specs.Slot.{slot_words};
@@ -41,7 +42,7 @@ const WIDE: u32 = 0xffff8000;
 
 // What the packer returns: 0 and how many numbers it wrote, or a refusal and 0.
 #[repr(C)]
-#[derive(Drop)]
+#[derive(Clone, Copy)]
 pub struct Packed {
     pub number: u32,
     pub count: usize,
@@ -49,7 +50,7 @@ pub struct Packed {
 
 // What the reader returns: 0 and 0, or a refusal and the slot that it is about, 0 where it is about none.
 #[repr(C)]
-#[derive(Drop)]
+#[derive(Clone, Copy)]
 pub struct Unpacked {
     pub number: u32,
     pub place: usize,

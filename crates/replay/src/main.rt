@@ -1,4 +1,5 @@
 // Runs the meshes of standard input through the public call and compares every word of what comes back with the oracle's: number, place, slots, the answer list and the work list, the words that the call must leave alone among them.
+#![tactic(auto)]
 mod tally;
 mod text;
 
@@ -46,7 +47,7 @@ const MOST_WORDS: usize = 8192;
 const MOST_TEXT: usize = 1048576;
 
 // What was compared, and the place in the text that comes next.
-#[derive(Drop)]
+#[derive(Clone, Copy)]
 struct Compared {
     tally: Tally,
     next: usize,
@@ -72,7 +73,7 @@ fn fill(list: &mut [u32], base: u32) {
 }
 
 // What a list is to hold after the call: the text has the first so many words, zeros come up to `cleared`, and the others are as they were lent.
-#[derive(Drop)]
+#[derive(Clone, Copy)]
 struct Expected {
     listed: usize,
     cleared: usize,

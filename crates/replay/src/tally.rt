@@ -1,7 +1,7 @@
 // What was compared.
 
 // How many meshes, how many words of them, and how many words were not as expected.
-#[derive(Drop)]
+#[derive(Clone, Copy)]
 pub struct Tally {
     pub meshes: u64,
     pub words: u64,

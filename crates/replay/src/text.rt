@@ -3,7 +3,7 @@
 ghost use Rattle.std.specs.Prelude.{◌≤◌};
 
 // A word, and the place behind it.
-#[derive(Drop)]
+#[derive(Clone, Copy)]
 pub struct Word {
     pub value: u32,
     pub next: usize,
@@ -92,7 +92,7 @@ pub fn nth(text: &[u8], from: usize, count: usize) -> u32 {
 }
 
 // A run of faces of one size: how many of them are still to come, and the place behind it.
-#[derive(Drop)]
+#[derive(Clone, Copy)]
 struct Run {
     size: u8,
     left: u32,

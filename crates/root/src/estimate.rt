@@ -2,7 +2,7 @@
 ghost use Rattle.std.specs.Prelude.{◌^◌, ◌<◌, ◌≤◌};
 
 // All times `CURVE_UNIT`, 2 ^ 12: the root at the last number of a part, raised by a half, and how it falls towards the first, by the powers of the way there.
-#[derive(Drop)]
+#[derive(Clone, Copy)]
 struct Curve(u64, u32, u32, u32, u32);
 
 const CURVE_UNIT: u64 = 4096;

@@ -1,5 +1,6 @@
 // Runs document 01's samples 1 to 5 and 10 to 12 through the public call, and 6 to 9, and compares the root and the angle of each number that standard input names. Prints how much it compared and how much differed.
 // A line of standard input is 27 bytes: a number, its root and its angle, each as the eight digits of its word, with a blank or a line end behind.
+#![tactic(auto)]
 ghost use Rattle.std.specs.Prelude.{◌+◌, ◌<◌, ◌≤◌, length};
 
 use definition::{FACE_LIMIT, WORK_WORDS};
@@ -9,7 +10,7 @@ use tangent::{COMBINED, COPIED, SINGLE, SLOT_WORDS};
 const SAMPLE_FACES: usize = 4096;
 
 // How many values were compared, and how many of them were not as expected.
-#[derive(Drop)]
+#[derive(Clone, Copy)]
 struct Tally {
     compared: u64,
     differed: u64,
@@ -45,7 +46,7 @@ impl Tally {
 }
 
 // The tallies of the lines of standard input.
-#[derive(Drop)]
+#[derive(Clone, Copy)]
 struct Lines {
     roots: Tally,
     angles: Tally,

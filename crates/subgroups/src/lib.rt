@@ -1,6 +1,7 @@
 // Step 7: the subgroup of a member, and the sum of its contributions.
 // Carried over from mikktspace.rs (generate_tangent_spaces, evaluate_tangent_space) of the Rust crate bevy_mikktspace and ALTERED: written anew in Rattle, over columns. See NOTICE.
 // A pair of members costs two dot products and two comparisons; a sum is worked out again only where the subgroup is another than that of the member before.
+#![tactic(auto)]
 ghost use Rattle.std.specs.Prelude.{◌≡◌, true, [], ◌∷◌, ◌-◌, ◌*◌, ◌<◌, ◌≤◌, length};
 ghost use Rattle.table.specs.Columns.{columns, met_column, order_column, joined_column};
 ghost use Rattle.table.specs.Table.{cell, put};
@@ -16,7 +17,7 @@ use tangent::{Evaluated, RawTangentSpace};
 // ---- the subgroup
 
 // What the test of a pair asks of a corner: whether its triangle is `group_with_any`, its face, and both directions, projected.
-#[derive(Drop)]
+#[derive(Clone, Copy)]
 pub struct Peer {
     pub any: bool,
     pub face: u32,
@@ -169,7 +170,7 @@ pub fn evaluate_tangent_space(work: &[u32], rows: usize, from: usize, to: usize)
 // ---- a whole group
 
 // The hulls of the projected directions of some corners.
-#[derive(Drop)]
+#[derive(Clone, Copy)]
 pub struct Span {
     pub s: Hull,
     pub t: Hull,

@@ -1,12 +1,13 @@
 // A corner's tangent space, its reading, and a slot's twelve words.
 // Carried over from mikktspace/raw_tangent_space.rs of the Rust crate bevy_mikktspace and ALTERED: written anew in Rattle; readings and words are added. See NOTICE.
+#![tactic(auto)]
 ghost use Rattle.std.specs.Prelude.{◌≡◌};
 ghost use Rattle.tangent.specs.Slot as slot;
 ghost use Rattle.tangent.specs.Space as spec;
 
 use math::Vec3;
 
-#[derive(Drop)]
+#[derive(Clone, Copy)]
 pub struct RawTangentSpace {
     // Normalized first order face derivatives,
     pub s: Vec3,
@@ -17,14 +18,14 @@ pub struct RawTangentSpace {
 }
 
 // What a subgroup gives: a tangent space, and how many triangles stood behind it (request E7).
-#[derive(Drop)]
+#[derive(Clone, Copy)]
 pub struct Evaluated {
     pub space: RawTangentSpace,
     pub behind: u32,
 }
 
 // What a corner has, with its orientation: nothing; what one subgroup gave, or two that were combined; and after step 9 a copy, to a corner of a degenerate triangle or within a quad.
-#[derive(Drop)]
+#[derive(Clone, Copy)]
 pub enum Reading {
     Absent,
     Single(Evaluated, bool),

@@ -1,4 +1,5 @@
 // A card file in a walk round the tank: appended to block by block, cut at awkward lengths, read, and appended to until it is whole. Prints what it found.
+#![tactic(auto)]
 use libc::STDOUT_FILENO;
 
 // Three blocks, the last of them part full.

@@ -1,4 +1,5 @@
 // Numbers that are joined, as a list of parents: the parent of each number is itself or a lower one.
+#![tactic(auto)]
 ghost use Rattle.std.specs.Prelude.{◌≡◌, ◌+◌, ◌*◌, ◌<◌, ◌≤◌, length};
 ghost use Rattle.unions.specs.Unions as spec;
 

@@ -1,4 +1,5 @@
 // A verdict on every slot of an answer: whether it is absent, lost, or a frame, and whether that frame has two directions that can be packed.
+#![tactic(auto)]
 ghost use Rattle.std.specs.Prelude.{◌≡◌, ◌*◌, ◌≤◌, cond, ◌++◌, length, get_or, drop, eqb};
 ghost use Rattle.tangent.specs.Slot.{slot_words};
 ghost use Rattle.packed.specs.Component.{within};
@@ -40,7 +41,7 @@ const MOST_SLOTS: usize = 4294967295;
 
 // What the judge returns: 0, how many slots are good, and the lowest that is not, or how many slots there are; or a refusal, 0 and 0.
 #[repr(C)]
-#[derive(Drop)]
+#[derive(Clone, Copy)]
 pub struct Judged {
     pub number: u32,
     pub good: u32,
