@@ -1,0 +1,22 @@
+-- Proof that `clear_numbers` meets its contract. Assumes nothing.
+use Prim.Native.Nat.{◌-◌}
+use native.Mathlib.Nat.{le_antisymm}
+use native.Mathlib.Omega.{arith}
+use mathlib.Core.Path.{refl, ◌∙◌, ap}
+use lib.ListN.{set, length-set}
+use lib.Ieee.{nan}
+use Rattle.bits.specs.Single.{zeroᶠ}
+use Rattle.apart.proofs.Lists.{cleared_more}
+use Rattle.apart.proofs.clear_numbers.Goals as goal
+
+pub loop-i-init : goal.loop-i-init
+loop-i-init c = (omega arith, refl, refl)
+
+pub loop-i-preserved : goal.loop-i-preserved
+loop-i-preserved c =
+    let l = c.loop-i in
+    let a = c.args in
+    (omega arith, ap (λ k. set k l.i zeroᶠ) l.invariant.1 ∙ cleared_more nan zeroᶠ l.i a.xs.now (omega (arith, l.invariant.2, c.requires)), simp length-set l.invariant.2)
+
+pub returns : goal.returns
+returns c = rw (le_antisymm c.loop-i.invariant.0 c.loop-i-test.false) at c.loop-i.invariant.1

@@ -1,0 +1,26 @@
+-- Proof that `link_face` meets its contract. Assumes nothing.
+use Prim.Native.Nat.{suc}
+use native.Mathlib.Numerals.{add-one}
+use native.Mathlib.Omega.{arith}
+use mathlib.Core.Path.{subst}
+use lib.ListN.{length-set}
+use Rattle.apart.specs.Order.{Linked, label_at}
+use Rattle.apart.proofs.Lists.{past-none}
+use Rattle.apart.proofs.Ordering.{linked-skip, linked-more, past-linked}
+use Rattle.apart.proofs.link_face.Goals as goal
+
+-- the faces past f are linked
+linked : (s : goal.Start) → Linked s.args.count (label_at s.args.labels.now) (suc s.args.f) s.args.order.now
+linked s = subst (λ i. Linked s.args.count (label_at s.args.labels.now) i s.args.order.now) (add-one s.args.f) s.requires.4
+
+pub overflow_cast-t : goal.overflow_cast-t
+overflow_cast-t c = omega (arith, c.shared_slice_known-1.given c.args.f)
+
+pub returns-then-count-t : goal.returns-then-count-t
+returns-then-count-t c = let s = c in (linked-skip _ _ _ _ c.if-count-t.true (linked s), past-none 0 _ _)
+
+pub bounds-order-count-2 : goal.bounds-order-count-2
+bounds-order-count-2 c = simp length-set (omega arith)
+
+returns-then-count-t : goal.returns
+returns-then-count-t c = let e = c in let s = e in (linked-more _ _ _ _ s.requires.0 e.if-count-t.false s.requires.2 (linked s), past-linked _ _ _ _ s.requires.0 e.if-count-t.false s.requires.2 (linked s))

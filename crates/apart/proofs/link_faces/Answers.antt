@@ -1,0 +1,50 @@
+-- Proof that `link_faces` meets its contract. The invariant: the faces from i on are linked. Assumes nothing.
+use Prim.Native.Nat.{◌+◌, ◌*◌, ◌-◌}
+use native.Mathlib.Omega.{arith}
+use mathlib.Core.Path.{◌≡◌, sym, ◌∙◌, subst}
+use Rattle.apart.specs.Lists.{Past}
+use Rattle.apart.specs.Order.{Linked, label_at}
+use Rattle.apart.proofs.Lists.{past-none, past-trans, cleared-low, cleared-past}
+use Rattle.apart.proofs.Ordering.{linked-none}
+use Rattle.apart.proofs.link_faces.Goals as goal
+
+-- clearing leaves what is past the two parts
+abbrev start : goal.After-slice_known-2-1 → goal.Start
+start c = c.before.before.before.before.before.before
+
+cleared : (c : goal.After-slice_known-2-1) → Past 0 (2 * (start c).args.count) (start c).args.order.now c.clear_first.new.words
+cleared c = subst (λ l. Past 0 (2 * (start c).args.count) (start c).args.order.now l) (sym c.clear_first.ensures) (cleared-past 0 0 (2 * (start c).args.count) (start c).args.order.now (start c).requires.1)
+
+pub loop-i-init : goal.loop-i-init
+loop-i-init c =
+    let f = c in
+    let s = f in
+    (omega arith, linked-none _ _ _ (λ x h. subst (λ l. lib.ListN.get_or l x 0 ≡ 0) (sym f.clear_first.ensures) (cleared-low 0 0 (2 * s.args.count) s.args.order.now x h)), past-none 0 _ _)
+
+pub link_face-requires : goal.link_face-requires
+link_face-requires c =
+    let i = c in
+    let l = i.loop-i in
+    let k = i in
+    let s = start k in
+    let t = i.loop-i-test.true in
+    let e : (l.i - 1) + 1 ≡ l.i = omega (arith, t) in
+    (omega (arith, l.invariant.0, t), s.requires.0, omega (arith, s.requires.1, (cleared k).size, l.invariant.2.size), s.requires.2, subst (λ n. Linked s.args.count (label_at s.args.labels.now) n l.order) (sym e) l.invariant.1)
+
+pub loop-i-preserved : goal.loop-i-preserved
+loop-i-preserved c =
+    let f = c in
+    let i = f in
+    let l = i.loop-i in
+    (omega (arith, l.invariant.0, i.loop-i-test.true), f.link_face.ensures.0, past-trans 0 _ _ _ _ l.invariant.2 f.link_face.ensures.1)
+
+pub shape_of-order : goal.shape_of-order
+shape_of-order c = c.loop-i.invariant.2.size ∙ (cleared c).size
+
+pub returns : goal.returns
+returns c =
+    let l = c.loop-i in
+    let k = c in
+    let a = (start k).args in
+    let e : l.i ≡ 0 = omega (arith, c.loop-i-test.false) in
+    (subst (λ n. Linked a.count (label_at a.labels.now) n l.order) e l.invariant.1, past-trans 0 _ _ _ _ (cleared k) l.invariant.2)

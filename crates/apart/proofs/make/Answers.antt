@@ -1,0 +1,19 @@
+-- Proof that `make` meets its contract. Assumes nothing.
+use native.Mathlib.Omega.{arith}
+use Prim.Native.Nat.{◌+◌, ◌*◌, ◌-◌}
+use lib.ListN.{length-take}
+use Rattle.apart.proofs.Making.{made}
+use Rattle.apart.proofs.make.Goals as goal
+
+pub slice_bounds-generate_tangent_space-end : goal.slice_bounds-generate_tangent_space-end
+slice_bounds-generate_tangent_space-end c = simp length-take (omega arith)
+
+pub slice_bounds-generate_tangent_space-end-2 : goal.slice_bounds-generate_tangent_space-end-2
+slice_bounds-generate_tangent_space-end-2 c = simp length-take (omega arith)
+
+pub returns : goal.returns
+returns c =
+    let g = c in
+    let s = g in
+    let a = s.args in
+    made a.n a.k a.c a.threshold a.own-sizes.now a.own-numbers.now a.own-frames.now a.work.now s.requires (12 * a.n + 3 * a.c - 12 * a.n) (24 * a.n + 2 * a.c - 24 * a.n) (omega arith) (omega arith) _ _ _ g.generate_tangent_space.ensures

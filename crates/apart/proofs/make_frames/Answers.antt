@@ -1,0 +1,65 @@
+-- Proof that `make_frames` meets its contract. Assumes nothing.
+use native.Mathlib.Omega.{arith}
+use lib.ListN.{length}
+use Rattle.mesh.specs.Parts.{Fits}
+use Rattle.definition.specs.Desk.{shown}
+use Rattle.definition.specs.Handed.{handed}
+use Rattle.laws.proofs.Verdict.{Fine, fine}
+use Rattle.apart.specs.Call.{Own, lists}
+use Rattle.apart.specs.Steps.{Good}
+use Rattle.apart.proofs.Call.{known}
+use Rattle.apart.proofs.Finishing.{Long, long-enough, room-first, accepted-leaves}
+use Rattle.apart.proofs.make_frames.Goals as goal
+
+-- the lists of its own that are lent
+abbrev own : goal.Start → Own
+own s = let a = s.args in lists a.labels.now a.order.now a.own-sizes.now a.own-numbers.now a.own-frames.now
+
+long : (s : goal.Start) → Long (length s.args.sizes.now) (own s)
+long s = long-enough (length s.args.sizes.now) (own s) s.requires.1
+
+fits : (s : goal.Start) → let a = s.args in Fits (handed a.sizes.now a.positions.now a.normals.now a.texture.now) × Good (handed a.sizes.now a.positions.now a.normals.now a.texture.now) a.threshold
+fits s = known _ _ _ _ s.requires.0
+
+ends : (s : goal.Start) → let a = s.args in Fine (shown (handed a.sizes.now a.positions.now a.normals.now a.texture.now) a.threshold (length a.answer.now) (length a.work.now))
+ends s = fine _ s.requires.0
+
+abbrev start : goal.After-prepare → goal.Start
+start c = c.before.before.before.before.before.before.before.before.before.before.before.before.before.before.before
+
+abbrev prepared : goal.After-all_islands → goal.After-prepare
+prepared c = c.before.before.before.before.before.before.before.before.before.before.before.before.before
+
+pub prepare-requires : goal.prepare-requires
+prepare-requires c = let s = c in ((fits s).0, (long s).labels, (long s).order, (ends s).work-fits)
+
+pub all_islands-requires : goal.all_islands-requires
+all_islands-requires c =
+    let p = c in
+    let s = start p in
+    let e = p.prepare.ensures in
+    (e.1, (fits s).1, room-first _ _ _ _ (own s) (ends s).answer-fits (ends s).work-fits e.3 (long s))
+
+pub clear_own-requires : goal.clear_own-requires
+clear_own-requires c =
+    let i = c in
+    let p = prepared i in
+    let s = start p in
+    let k = i.all_islands.ensures.2 in
+    ((fits s).0.few, p.prepare.ensures.1.long, omega (arith, k.sizes.size, (long s).sizes), omega (arith, k.numbers.size, (long s).numbers), omega (arith, k.frames.size, (long s).frames))
+
+pub shape_of-labels : goal.shape_of-labels
+shape_of-labels c = (prepared c).prepare.auto.order.1.1.1.0
+
+pub returns : goal.returns
+returns c =
+    let o = c in
+    let i = o in
+    let p = prepared i in
+    let s = start p in
+    let a = s.args in
+    let e = p.prepare.ensures in
+    let f = i.all_islands.ensures in
+    let g = o.clear_own.ensures in
+    accepted-leaves (handed a.sizes.now a.positions.now a.normals.now a.texture.now) a.threshold a.answer.now a.work.now (own s) (ends s).answer-fits (long s)
+    _ _ _ _ _ _ _ _ _ _ _ _ _ (fits s).0.few c.slots_before.ensures.0 e.0 e.1 e.2 e.3 f.0 f.1 f.2 g.0 g.1 g.2 g.3

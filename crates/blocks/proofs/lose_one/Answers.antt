@@ -1,0 +1,30 @@
+-- `blocks::lose_one` meets its contract. Assumes nothing.
+use native.Mathlib.Omega.{arith}
+use Prim.Native.Nat.{ℕ, suc, ◌+◌, ◌-◌}
+use mathlib.Core.Path.{◌≡◌, ◌∙◌, ap}
+use mathlib.Core.List.{List}
+use lib.ListN.{set, replicate, length-set}
+use lib.Seq.{sets}
+use Rattle.blocks.specs.Judged.{lost_words}
+use Rattle.blocks.proofs.lose_one.Goals as goal
+
+-- word 0, and the zeros after it
+lost-is : (l u : List ℕ) (p wide : ℕ) → u ≡ sets (set l p 2) (p + 1) (replicate (wide - 1) 0) → u ≡ sets l p (lost_words wide)
+unfolding lost_words
+lost-is l u p wide h = h ∙ ap (λ (q : ℕ). sets (set l p 2) q (replicate (wide - 1) 0)) next
+  where
+    next : p + 1 ≡ suc p
+    next = omega arith
+
+pub clear-requires : goal.clear-requires
+clear-requires c = simp length-set (omega arith)
+
+pub shape_of-answer : goal.shape_of-answer
+shape_of-answer c =
+    let a = c.args in
+    c.clear.auto.answer ∙ length-set a.answer.now a.p _
+
+pub returns : goal.returns
+returns c =
+    let a = c.args in
+    lost-is a.answer.now _ a.p a.wide c.clear.ensures

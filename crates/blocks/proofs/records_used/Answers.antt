@@ -1,0 +1,22 @@
+-- `blocks::records_used` meets its contract. Assumes nothing.
+use native.Mathlib.Omega.{arith}
+use Rattle.blocks.specs.Format.{records_used}
+use Rattle.blocks.proofs.Counts.{block-below}
+use Rattle.blocks.proofs.records_used.Goals as goal
+
+pub records_before-requires : goal.records_before-requires
+records_before-requires c = omega (arith, block-below c.args.kind c.args.total c.args.b c.requires)
+
+pub returns-then-left-held : goal.returns-then-left-held
+unfolding records_used
+returns-then-left-held c =
+    let h = c in
+    let s = h in
+    (omega (arith, c.if-left-held.true, h.records_held-held.ensures, h.records_before.ensures), omega (arith, c.if-left-held.true, h.records_held-held.ensures), block-below s.args.kind s.args.total s.args.b s.requires)
+
+returns-then-left-held : goal.returns
+unfolding records_used
+returns-then-left-held c =
+    let h = c in
+    let s = h in
+    (omega (arith, c.if-left-held.false, h.records_held-held.ensures, h.records_before.ensures), omega (arith, h.records_held-held.ensures), block-below s.args.kind s.args.total s.args.b s.requires)

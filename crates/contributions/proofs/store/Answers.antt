@@ -1,0 +1,32 @@
+-- `contributions::store` meets its contract. Assumes nothing.
+use native.Mathlib.Omega.{arith}
+use Prim.Native.Nat.{ℕ, ◌+◌, ◌*◌}
+use mathlib.Core.Path.{ap, ◌∙◌}
+use mathlib.Core.List.{List}
+use Rattle.bits.specs.Word.{word}
+use Rattle.table.specs.Columns.{tx_column, ty_column, tz_column, opening_column}
+use lib.Dec.{T}
+use lib.Ieee.{binary32, fits}
+use lib.ListN.{set, length-set}
+use Rattle.contributions.proofs.Laws.{stored-as}
+use borrow.Author.Rules.{rules}
+use Rattle.contributions.proofs.store.Goals as goal
+
+held : (c : goal.Start) → T (fits binary32 c.args.opening)
+held c = search rules
+
+pub shape_of-work : goal.shape_of-work
+shape_of-work c = simp length-set (omega arith)
+
+pub returns : goal.returns
+returns c =
+    let s = c in
+    let p = c in
+    let q = c in
+    let a = s.args in
+    let n = a.rows in
+    let r = a.r in
+    stored-as n r a.s a.t a.opening a.work.now s.requires.0 s.requires.1 _
+    ((λ z. set (q.put_vector-2.ensures.0 z) (opening_column * n + r) (c.word-a.ensures z))
+    ∙ ap (λ (k : List ℕ). set (set (set (set k (tx_column * n + r) (word a.t.x)) (ty_column * n + r) (word a.t.y)) (tz_column * n + r) (word a.t.z)) (opening_column * n + r) (word a.opening)) p.put_vector.ensures.0)
+    p.put_vector.ensures.1 q.put_vector-2.ensures.1 (held s)

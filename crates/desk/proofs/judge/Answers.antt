@@ -1,0 +1,122 @@
+-- `desk::judge` meets its contract: each way out is the first row that applies. Assumes nothing.
+use Prim.Native.Nat.{ℕ, ◌%◌, ◌≤◌}
+use native.Mathlib.Omega.{arith}
+use mathlib.Core.Path.{◌≡◌, sym, ap, ◌∙◌}
+use mathlib.Core.Bool.{true, false}
+use mathlib.Core.Option.{none}
+use lib.ListN.{length}
+use Rattle.definition.specs.Handed.{handed, slot_count}
+use Rattle.definition.specs.Desk.{Shown, shown, not_finite, no_normal}
+use Rattle.desk.specs.Verdict.{said, found, lent_number, threshold_number, said_at}
+use Rattle.desk.proofs.Bad.{at-corner, no-corner, corner-number, seven-or-none}
+use Rattle.desk.proofs.Telling.{IsMany, IsMisfit, IsFinite, Lowest, Bare, many, few, fits, row1, row2, third, not_third, row4, row7, rows56, lent-number}
+use Rattle.desk.proofs.judge.Goals as goal
+
+-- what was asked, where the tests begin
+abbrev asked : goal.After-shared_slice_known-4-1 → Shown
+asked c =
+    let a = c.before.before.before.before.args in
+    shown (handed a.sizes.now a.positions.now a.normals.now a.texture.now) a.threshold a.answer a.work
+
+-- row 1 does not apply
+not-many : (c : goal.Else-sizes-gt-FACE_LIMIT) → IsMany (asked c) false
+not-many c = few (asked c) (omega (arith, c.if-sizes-gt-FACE_LIMIT.false))
+
+pub returns-then-sizes-gt-FACE_LIMIT : goal.returns-then-sizes-gt-FACE_LIMIT
+returns-then-sizes-gt-FACE_LIMIT c = let q = asked c in c.said.ensures ∙ row1 q (many q (omega (arith, c.if-sizes-gt-FACE_LIMIT.true)))
+
+-- what the test of row 2 tells
+misfit-is : (c : goal.After-unfit) → IsMisfit (asked c) c.unfit.result
+misfit-is c = fits (asked c) c.look_over-seen.result.corners c.look_over-seen.ensures.0 ∙ sym c.unfit.ensures
+
+-- nor does row 2
+not-misfit : (c : goal.Else-unfit) → IsMisfit (asked c) false
+not-misfit c = misfit-is c ∙ c.if-unfit.false
+
+pub returns-then-unfit : goal.returns-then-unfit
+returns-then-unfit c =
+    let t = c in
+    let e = t in
+    c.said-then-unfit.ensures ∙ row2 (asked e) (not-many e) (misfit-is t ∙ t.if-unfit.true)
+
+-- ---- the tests of the other rows, all of them made
+
+abbrev shown_to : goal.After-lent-lists → Shown
+shown_to e = asked e.before.before.before.before.before.before.before.before
+
+third-is : (e : goal.After-lent-lists) → e.unfit_threshold-third.result ≡ threshold_number (shown_to e).threshold
+third-is e = e.unfit_threshold-third.ensures
+
+fourth-is : (e : goal.After-lent-lists) → e.Said-at.result ≡ said_at 4 (found (not_finite (shown_to e).mesh))
+fourth-is e = e.Said-at.ensures ∙ ap (said_at 4) e.look_over-seen.ensures.2
+
+seventh-is : (e : goal.After-lent-lists) → e.said_at-seventh.result ≡ said_at 7 (found (no_normal (shown_to e).mesh))
+seventh-is e = e.said_at-seventh.ensures ∙ ap (said_at 7) e.look_over-seen.ensures.3
+
+lists-is : (e : goal.After-lent-lists) → let q = shown_to e in e.lent-lists.result ≡ lent_number (slot_count q.mesh.sizes) (length q.mesh.sizes) q.answer q.work
+lists-is e =
+    let q = shown_to e in
+    e.lent-lists.ensures ∙ ap (λ (k : ℕ). lent_number k (length q.mesh.sizes) q.answer q.work) e.look_over-seen.ensures.1
+
+-- what numbers they have
+four-small : (e : goal.After-lent-lists) → e.Said-at.result.number ≤ 4
+four-small e = corner-number 4 _ _ (fourth-is e)
+
+seven-small : (e : goal.After-lent-lists) → e.said_at-seventh.result.number ≤ 7
+seven-small e = corner-number 7 _ _ (seventh-is e)
+
+seven-only : (e : goal.After-lent-lists) → e.said_at-seventh.result.number % 7 ≡ 0
+seven-only e = seven-or-none _ _ (seventh-is e)
+
+lists-small : (e : goal.After-lent-lists) → e.lent-lists.result ≤ 6
+lists-small e = lent-number _ _ _ _ _ (lists-is e)
+
+-- rows 1 and 2 do not apply
+few-faces : (e : goal.After-lent-lists) → IsMany (shown_to e) false
+few-faces e = not-many e
+
+all_fit : (e : goal.After-lent-lists) → IsMisfit (shown_to e) false
+all_fit e = not-misfit e
+
+-- ---- the first that applies
+
+-- row 3 does not
+finite-threshold : (c : goal.Else-third-ne0) → IsFinite (shown_to c) true
+finite-threshold c = let e = c in not_third (shown_to e) e.unfit_threshold-third.result (third-is e) (omega (arith, c.if-third-ne0.false, four-small e))
+
+pub returns-then-third-ne0 : goal.returns-then-third-ne0
+returns-then-third-ne0 c =
+    let t = c in
+    let e = t in
+    c.said-then-third-ne0.ensures ∙ third (shown_to e) e.unfit_threshold-third.result (third-is e) (λ z. omega (arith, z, t.if-third-ne0.true)) (few-faces e) (all_fit e)
+
+-- nor does row 4
+none-bad : (c : goal.Else-four-ne0) → Lowest (shown_to c) none
+none-bad c = let e = c in no-corner 3 _ e.Said-at.result (fourth-is e) (omega (arith, c.if-four-ne0.false, seven-small e))
+
+pub returns-then-four-ne0 : goal.returns-then-four-ne0
+returns-then-four-ne0 c =
+    let d = c in
+    let e = d in
+    let r = at-corner 4 _ e.Said-at.result (fourth-is e) (λ z. omega (arith, z, c.if-four-ne0.true)) in
+    r.2 ∙ row4 (shown_to e) (few-faces e) (all_fit e) (finite-threshold d) r.0 r.1
+
+-- nor does row 7
+none_bare : (c : goal.Else-seven-ne0) → Bare (shown_to c) none
+none_bare c = let e = c in no-corner 6 _ e.said_at-seventh.result (seventh-is e) (omega (arith, c.if-seven-ne0.false, seven-small e, seven-only e, lists-small e))
+
+pub returns-then-seven-ne0 : goal.returns-then-seven-ne0
+returns-then-seven-ne0 c =
+    let b = c in
+    let d = b in
+    let e = d in
+    let r = at-corner 7 _ e.said_at-seventh.result (seventh-is e) (λ z. omega (arith, z, c.if-seven-ne0.true)) in
+    r.2 ∙ row7 (shown_to e) (few-faces e) (all_fit e) (finite-threshold d) (none-bad b) r.0 r.1
+
+returns-then-sizes-gt-FACE_LIMIT : goal.returns
+returns-then-sizes-gt-FACE_LIMIT c =
+    let l = c in
+    let b = l in
+    let d = b in
+    let e = d in
+    c.said-2.ensures ∙ ap (λ (n : ℕ). said n 0) (lists-is e) ∙ rows56 (shown_to e) (few-faces e) (all_fit e) (finite-threshold d) (none-bad b) (none_bare l)

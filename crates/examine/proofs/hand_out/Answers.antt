@@ -1,0 +1,95 @@
+-- `examine::hand_out` meets its contract. Assumes nothing.
+use Prim.Native.Nat.{◌*◌, ◌≤◌}
+use native.Mathlib.Omega.{arith}
+use mathlib.Core.Path.{refl}
+use lib.ListN.{length}
+use Rattle.definition.specs.Desk.{shown}
+use Rattle.definition.specs.Handed.{handed}
+use Rattle.bits.specs.Single.{zeroᶠ}
+use Rattle.table.specs.Columns.{columns, rows_of}
+use Rattle.laws.proofs.Verdict.{Fine, fine}
+use Rattle.mikktspace.specs.Alone.{longest_answer as longest}
+use Rattle.examine.proofs.Columns.{grouped-fit, cleared}
+use Rattle.examine.proofs.hand_out.Goals as goal
+
+-- what holds of the lists
+known : (s : goal.Start) → let t = s.args in Fine (shown (handed t.sizes.now t.positions.now t.normals.now t.texture.now) zeroᶠ longest (length t.work.now))
+known s = let t = s.args in fine (shown (handed t.sizes.now t.positions.now t.normals.now t.texture.now) zeroᶠ longest (length t.work.now)) s.requires.0
+
+room : (s : goal.Start) → columns * rows_of (length s.args.sizes.now) ≤ length s.args.work.now
+room s = omega (arith, (known s).work-fits)
+
+pub group_mesh-counts-requires : goal.group_mesh-counts-requires
+group_mesh-counts-requires c = let s = c in ((known s).few, room s)
+
+pub overflow_mul-n : goal.overflow_mul-n
+overflow_mul-n c =
+    let g = c in
+    let s = g in
+    let n = grouped-fit _ _ _ _ g.group_mesh-counts.ensures in
+    omega (arith, n, (known s).few)
+
+pub copy_out-requires : goal.copy_out-requires
+copy_out-requires c =
+    let g = c in
+    let s = g in
+    let n = grouped-fit _ _ _ _ g.group_mesh-counts.ensures in
+    (n, omega arith, omega (arith, room s, g.group_mesh-counts.ensures.only.size), omega (arith, n, s.requires.1))
+
+pub overflow_mul-n-2 : goal.overflow_mul-n-2
+overflow_mul-n-2 c =
+    let g = c in
+    let s = g in
+    let n = grouped-fit _ _ _ _ g.group_mesh-counts.ensures in
+    omega (arith, n, (known s).few)
+
+pub copy_out-requires-2 : goal.copy_out-requires-2
+copy_out-requires-2 c =
+    let g = c in
+    let s = g in
+    let n = grouped-fit _ _ _ _ g.group_mesh-counts.ensures in
+    (n, omega arith, omega (arith, room s, g.group_mesh-counts.ensures.only.size), omega (arith, n, s.requires.2))
+
+pub copy_out-requires-3 : goal.copy_out-requires-3
+copy_out-requires-3 c =
+    let g = c in
+    let s = g in
+    let n = grouped-fit _ _ _ _ g.group_mesh-counts.ensures in
+    (omega (arith, n), omega arith, omega (arith, room s, g.group_mesh-counts.ensures.only.size), omega (arith, n, s.requires.3))
+
+pub overflow_mul-sizes : goal.overflow_mul-sizes
+overflow_mul-sizes c = let s = c in omega (arith, (known s).few)
+
+pub clear_first-requires : goal.clear_first-requires
+clear_first-requires c =
+    let g = c in
+    let s = g in
+    let n = grouped-fit _ _ _ _ g.group_mesh-counts.ensures in
+    omega (arith, (known s).work-fits, g.group_mesh-counts.ensures.only.size)
+
+pub overflow_cast-result : goal.overflow_cast-result
+overflow_cast-result c =
+    let g = c in
+    let s = g in
+    let n = grouped-fit _ _ _ _ g.group_mesh-counts.ensures in
+    omega (arith, n, (known s).few)
+
+pub returns : goal.returns
+returns c =
+    let y = c in
+    let o = y in
+    let b = o in
+    let l = b in
+    let g = l in
+    let K = g.group_mesh-counts.ensures in
+    let t = g.args in
+    record {
+      counts = g.group_mesh-counts.result;
+      v = _;
+      left = K;
+      sound = refl;
+      links = l.copy_out.ensures;
+      groups = b.copy_out-2.ensures;
+      ways = o.copy_out-3.ensures;
+      work = cleared t.sizes.now t.work.now _ _ K.only.rest y.clear_first.ensures;
+    }

@@ -1,0 +1,20 @@
+-- `fellows::firm_pair` meets its contract. Assumes nothing.
+use mathlib.Core.Path.{sym, ◌∙◌}
+use Rattle.asked.proofs.Rows.{told, told-not}
+use Rattle.fellows.proofs.firm_pair.Goals as goal
+
+pub returns-then-any_at-ne0 : goal.returns-then-any_at-ne0
+returns-then-any_at-ne0 c = told-not (λ f. c.if-any_at-ne0.true (c.any_at.ensures ∙ f.near))
+
+pub returns-then-any_at-ne0-2 : goal.returns-then-any_at-ne0-2
+returns-then-any_at-ne0-2 c = told-not (λ f. c.if-any_at-ne0-2.true (c.any_at-2.ensures ∙ f.far))
+
+pub returns-then-a-b : goal.returns-then-a-b
+returns-then-a-b c = told-not (λ f. c.if-a-b.true (c.word_at-a.ensures ∙ (f.same ∙ sym c.word_at-b.ensures)))
+
+returns-then-any_at-ne0 : goal.returns
+returns-then-any_at-ne0 c =
+    let b = c in
+    let i = b in
+    let j = i in
+    told (record { near = sym j.any_at.ensures ∙ j.if-any_at-ne0.false; far = sym i.any_at-2.ensures ∙ i.if-any_at-ne0-2.false; same = sym b.word_at-a.ensures ∙ (c.if-a-b.false ∙ b.word_at-b.ensures) })

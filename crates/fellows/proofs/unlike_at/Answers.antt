@@ -1,0 +1,40 @@
+-- `fellows::unlike_at` meets its contract. Assumes nothing.
+use Prim.Native.Nat.{ℕ, ◌-◌}
+use native.Mathlib.Omega.{arith}
+use mathlib.Core.Path.{sym, ap, ◌∙◌}
+use Rattle.asked.proofs.Rows.{told, told-not}
+use Rattle.fellows.specs.Fellows.{shared}
+use Rattle.fellows.proofs.unlike_at.Goals as goal
+
+pub returns-then-word_at-eq0 : goal.returns-then-word_at-eq0
+returns-then-word_at-eq0 c = told-not (λ u. u.some (sym c.word_at.ensures ∙ c.if-word_at-eq0.true))
+
+pub overflow_sub-f : goal.overflow_sub-f
+overflow_sub-f c =
+    let p = c.requires in
+    let i = (p.5.right _ p.0).is in
+    omega (arith, i, c.first_at-f.ensures)
+
+pub value_at-a-requires : goal.value_at-a-requires
+value_at-a-requires c =
+    let p = c.requires in
+    let r = p.5.right _ p.0 in
+    (omega (arith, r.is, r.low, p.0, c.first_at-f.ensures), p.1, p.2, p.4)
+
+pub returns-then-a-b : goal.returns-then-a-b
+returns-then-a-b c =
+    let b = c in
+    let f = b in
+    let i = f in
+    let a = i.args in
+    told (record {
+      some = λ z. i.if-word_at-eq0.false (i.word_at.ensures ∙ z);
+      differs = λ e. c.if-a-b.true (b.value_at-a.ensures ∙ (ap (λ (x : ℕ). shared a.rows a.work.now a.ways.now a.corner (x - 1)) f.first_at-f.ensures ∙ (e ∙ sym b.value_at-b.ensures)));
+    })
+
+returns-then-word_at-eq0 : goal.returns
+returns-then-word_at-eq0 c =
+    let b = c in
+    let f = b in
+    let a = f.args in
+    told-not (λ u. u.differs (ap (λ (x : ℕ). shared a.rows a.work.now a.ways.now a.corner (x - 1)) (sym f.first_at-f.ensures) ∙ (sym b.value_at-a.ensures ∙ (c.if-a-b.false ∙ b.value_at-b.ensures))))

@@ -1,0 +1,28 @@
+-- Proof that `head_turn` meets its contract. Assumes nothing.
+use Prim.Native.Nat.{ℕ, ◌+◌, ◌<◌}
+use native.Mathlib.Omega.{arith}
+use mathlib.Core.Path.{ap, subst}
+use Rattle.table.specs.Columns.{head_column}
+use Rattle.table.specs.Table.{put}
+use Rattle.firsts.specs.Firsts.{Runs}
+use Rattle.firsts.proofs.Heading.{runs-low}
+use Rattle.firsts.proofs.head_turn.Goals as goal
+
+pub run_first-f-requires : goal.run_first-f-requires
+run_first-f-requires c = let s = c in (omega (arith, c.order_at-r.ensures, s.requires.6), s.requires.1, s.requires.5)
+
+-- the row that is stored is one of the n
+low : (c : goal.After-run_first-f) → c.run_first-f.result < c.args.n
+low c = let s = c in runs-low _ _ _ _ _ (omega (arith, c.order_at-r.ensures, s.requires.6)) c.run_first-f.ensures
+
+pub overflow_add-work : goal.overflow_add-work
+overflow_add-work c = let p = c.requires in omega (arith, low c, p.2, p.4)
+
+pub overflow_cast-work : goal.overflow_cast-work
+overflow_cast-work c = let p = c.requires in omega (arith, low c, p.2, p.4)
+
+pub returns : goal.returns
+returns c =
+    let o = c.order_at-r.ensures in
+    let a = c.args in
+    (subst (λ (x : ℕ). Runs a.n a.groups.now a.first x c.run_first-f.result) o c.run_first-f.ensures, ap (λ (x : ℕ). put a.rows head_column x (c.run_first-f.result + 1) a.work.now) o)

@@ -1,0 +1,30 @@
+-- Proof that `walk_all` meets its contract. Assumes nothing.
+use Prim.Native.Nat.{◌-◌}
+use native.Mathlib.Nat.{le_antisymm}
+use native.Mathlib.Omega.{arith}
+use mathlib.Core.Path.{sym, ap, ◌∙◌, subst}
+use Rattle.lists.proofs.Loops.{up_to-none, up_to-more}
+use Rattle.view.proofs.Frame.{only_none, only-trans}
+use Rattle.groups.specs.Walk.{turn, Ready}
+use Rattle.groups.proofs.Steps.{ready-cleared, only-after}
+use Rattle.groups.proofs.walk_all.Goals as goal
+
+pub loop-k-init : goal.loop-k-init
+loop-k-init c =
+    let start = c in
+    let ready = ready-cleared start.args.rows start.args.tris start.args.work.now start.requires.0 start.requires.1 start.requires.2 start.requires.3 in
+    (omega arith, omega arith, subst (Ready start.args.rows start.args.tris 1 0) (sym c.clear.ensures) ready, up_to-none _ _, only_none _ _ _)
+
+pub loop-k-preserved : goal.loop-k-preserved
+loop-k-preserved c =
+    let one = c.start_at-s in
+    let loop = c.loop-k in
+    (omega arith, one.ensures.few, one.ensures.ready, one.ensures.is ∙ ap (turn _ _) loop.invariant.3 ∙ up_to-more _ _ _, only-trans _ _ _ _ _ loop.invariant.4 one.ensures.only)
+
+pub shape_of-work : goal.shape_of-work
+shape_of-work c = c.loop-k.invariant.4.size ∙ c.clear.auto.work
+
+pub returns : goal.returns
+returns c =
+    let l = c.loop-k.invariant in
+    (rw (← c.clear.ensures) (rw (le_antisymm l.0 c.loop-k-test.false) at l.3), ((omega (arith, l.0, l.1), omega (arith, l.2.room)), only-after _ _ _ _ c.clear.ensures l.4))

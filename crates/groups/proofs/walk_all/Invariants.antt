@@ -1,0 +1,13 @@
+-- Proof that `walk_all` meets its contract. Assumes nothing.
+use Prim.Native.Nat.{◌+◌, ◌-◌, ◌≤◌}
+use mathlib.Core.Path.{◌≡◌}
+use Rattle.lists.specs.Loops.{up_to}
+use Rattle.view.specs.Frame.{Only}
+use Rattle.groups.specs.Walk.{walk_columns, turn, state, Ready}
+use Rattle.groups.proofs.walk_all.Given as goal
+
+abbrev pub invariant-loop-k : goal.invariant-loop-k
+invariant-loop-k l = (l.k ≤ l.k-end) × (l.s.groups ≤ l.k) × Ready l.rows l.tris (l.s.groups + 1) l.s.members l.work × (state l.work l.s ≡ up_to l.k (turn l.rows) (state l.initial.work l.initial.s)) × Only walk_columns l.rows l.initial.work l.work
+
+abbrev pub decreases-loop-k : goal.decreases-loop-k
+decreases-loop-k l = l.k-end - l.k

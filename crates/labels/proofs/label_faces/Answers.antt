@@ -1,0 +1,73 @@
+-- `labels::label_faces` meets its contract. Assumes nothing.
+use native.Mathlib.Omega.{arith}
+use mathlib.Core.Path.{◌≡◌, sym, ap, ◌∙◌}
+use mathlib.Core.Bool.{Bool}
+use mathlib.Core.Option.{Option, none}
+use borrow.Author.Tests.{lt-ltb, le-ltb}
+use lib.Dec.{ltb}
+use lib.ListN.{length}
+use Rattle.bits.specs.Single.{zeroᶠ}
+use Rattle.definition.specs.Handed.{handed}
+use Rattle.definition.specs.Desk.{Row, shown}
+use Rattle.mikktspace.proofs.Verdicts.{no-refusal}
+use Rattle.mikktspace.specs.Alone.{desk_verdict, longest_answer}
+use Rattle.labels.specs.Labels.{Leaving, left, answered, accepted_labels, labels_verdict, labels_outcome}
+use Rattle.islands.proofs.Nine.{passes}
+use Rattle.labels.proofs.Verdicts.{left-same, refused, too_short}
+use Rattle.labels.proofs.label_faces.Goals as goal
+
+-- the start, from the verdict
+abbrev start : goal.After-struct_known-1 → goal.Start
+start j = j.before.before.before.before.before.before.before.before
+
+-- what the call leaves of lists that are accepted
+abbrev taken : (s : goal.Start) → Leaving
+taken s = let a = s.args in accepted_labels (handed a.sizes.now a.positions.now a.normals.now a.texture.now) a.labels.now a.work.now
+
+-- the table's word on them
+abbrev table : (s : goal.Start) → Option Row
+table s = let a = s.args in desk_verdict (handed a.sizes.now a.positions.now a.normals.now a.texture.now) (length a.work.now)
+
+-- whether the list for the numbers is too short
+abbrev short : (s : goal.Start) → Bool
+short s = ltb (length s.args.labels.now) (length s.args.sizes.now)
+
+-- past the first test the table has no row
+unrefused : (e : goal.Else-v-ne0) → table (start e) ≡ none
+unrefused e =
+    let j = e in
+    let a = (start j).args in
+    no-refusal (shown (handed a.sizes.now a.positions.now a.normals.now a.texture.now) zeroᶠ longest_answer (length a.work.now)) (sym (ap (λ x. x.number) j.judge-v.ensures) ∙ e.if-v-ne0.false)
+
+-- past the second nothing is refused
+passing : (e : goal.Else-labels-sizes) → let s = start e in let a = s.args in labels_verdict (handed a.sizes.now a.positions.now a.normals.now a.texture.now) (length a.labels.now) (length a.work.now) ≡ none
+unfolding labels_verdict
+passing e = let s = start e in passes (table s) (short s) (unrefused e) (le-ltb (length s.args.labels.now) (length s.args.sizes.now) (omega (arith, e.if-labels-sizes.false)))
+
+pub returns-then-v-ne0 : goal.returns-then-v-ne0
+unfolding labels_outcome labels_verdict
+returns-then-v-ne0 c =
+    let j = c in
+    let s = start j in
+    let e = j.judge-v.ensures in
+    ap (λ r. left r s.args.labels.now s.args.work.now) (c.said.ensures ∙ (λ i. record { number = (e i).number; place = (e i).place; islands = 0 }))
+    ∙ refused (table s) (short s) (taken s) s.args.labels.now s.args.work.now (λ q. c.if-v-ne0.true (ap (λ x. x.number) e ∙ q))
+
+pub returns-then-labels-sizes : goal.returns-then-labels-sizes
+unfolding labels_outcome labels_verdict
+returns-then-labels-sizes c =
+    let e = c in
+    let s = start e in
+    ap (λ r. left r s.args.labels.now s.args.work.now) c.said-then-labels-sizes.ensures
+    ∙ too_short (table s) (short s) (taken s) s.args.labels.now s.args.work.now (unrefused e) (lt-ltb (length s.args.labels.now) (length s.args.sizes.now) (omega (arith, c.if-labels-sizes.true)))
+
+pub number_faces-islands-requires : goal.number_faces-islands-requires
+number_faces-islands-requires c = let e = c in passing e
+
+returns-then-v-ne0 : goal.returns
+unfolding labels_outcome answered
+returns-then-v-ne0 c =
+    let n = c in
+    let e = n in
+    let s = start e in
+    left-same _ _ _ _ c.said-2.ensures ∙ (n.number_faces-islands.ensures ∙ ap (λ o. answered o (taken s) s.args.labels.now s.args.work.now) (sym (passing e)))

@@ -1,0 +1,21 @@
+-- `Vec3::equals` meets its contract: each way out gives what `&&` gives for the tests that led there.
+-- Assumes nothing.
+use mathlib.Core.Path.{◌≡◌}
+use mathlib.Core.Bool.{◌&&◌}
+use mathlib.Core.Logic.{⊎_elim}
+use lib.Ieee as Ieee
+use Rattle.math.specs.Vector.{equals}
+use Rattle.bits.proofs.Bools.{and-held, and-failed, last-held, last-failed}
+use Rattle.math.proofs.Vec3.equals.Goals as goal
+
+-- the flag where the first `&&` is done
+flag : (c : goal.Joined-self-other) → c.if-self-other.if2 ≡ (Ieee.eq c.args.self.x c.args.other.x && Ieee.eq c.args.self.y c.args.other.y)
+flag c = ⊎_elim (λ w. and-held w.0.taken w.3) (λ w. and-failed _ w.0.left w.1) c.if-self-other.branch
+
+pub returns-then-self-other-2 : goal.returns-then-self-other-2
+unfolding equals
+returns-then-self-other-2 c = last-held (flag c) c.if-self-other-2.true
+
+pub returns-else-self-other-2 : goal.returns-else-self-other-2
+unfolding equals
+returns-else-self-other-2 c = last-failed _ (flag c) c.if-self-other-2.false

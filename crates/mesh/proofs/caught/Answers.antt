@@ -1,0 +1,18 @@
+-- `mesh::caught` meets its contract. Assumes nothing.
+use mathlib.Core.Path.{◌∙◌}
+use Rattle.definition.specs.Handed.{Handed, handed}
+use Rattle.mesh.proofs.Fitting.{caught-many, caught-few, all-taken}
+use Rattle.mesh.proofs.caught.Goals as goal
+
+-- the lists that were handed in
+abbrev given : goal.Start → Handed
+given s = let a = s.args in handed a.sizes.now a.positions.now a.normals.now a.texture.now
+
+pub returns-then-sizes-gt-FACE_LIMIT : goal.returns-then-sizes-gt-FACE_LIMIT
+returns-then-sizes-gt-FACE_LIMIT c = caught-many (given c) c.if-sizes-gt-FACE_LIMIT.true
+
+returns-then-sizes-gt-FACE_LIMIT : goal.returns
+returns-then-sizes-gt-FACE_LIMIT c =
+    let b = c in
+    let s = b in
+    c.unfit.ensures ∙ caught-few (given s) b.corners_before-corners.result b.if-sizes-gt-FACE_LIMIT.false (b.corners_before-corners.ensures.0 ∙ all-taken s.args.sizes.now b.if-sizes-gt-FACE_LIMIT.false)

@@ -1,0 +1,76 @@
+-- `mesh::part` meets its contract: the part lies within the list, since the corners up to the face are among all corners. Assumes nothing.
+use Prim.Native.Nat.{ℕ, ◌+◌, ◌*◌, ◌-◌, ◌≤◌, ◌<◌}
+use native.Mathlib.Nat.{mul-le-mul, min-eq_left}
+use native.Mathlib.Omega.{arith}
+use mathlib.Core.Path.{◌≡◌, sym, ap, ◌∙◌}
+use mathlib.Core.Bool.{Bool, cond}
+use mathlib.Core.List.{List, []}
+use borrow.Author.Tests.{le-leb, lt-leb}
+use lib.ListN.{length, get_or, take, drop}
+use lib.Ieee.{Float}
+use Rattle.definition.specs.Handed.{corner_count}
+use Rattle.mesh.specs.Parts.{part_of, part_or_none}
+use Rattle.mesh.proofs.Fitting.{part-ends}
+use borrow.Author.Rules.{rules}
+use Rattle.mesh.proofs.part.Goals as goal
+
+-- the part that is cut out is the face's
+part-is : (width n : ℕ) (xs : List Float) (sizes : List ℕ) (f : ℕ) → f < length sizes → n ≡ corner_count (take f sizes) → take (width * n + width * get_or sizes f 0 - width * n) (drop (width * n) xs) ≡ part_or_none width xs sizes f
+unfolding part_or_none part_of
+part-is width n xs sizes f h e =
+    let k : width * n + width * get_or sizes f 0 - width * n ≡ width * get_or sizes f 0 = omega arith in
+    ap (λ (m : ℕ). take m (drop (width * n) xs)) k
+    ∙ ap (λ (m : ℕ). take (width * get_or sizes f 0) (drop (width * m) xs)) e
+    ∙ sym (ap (λ (b : Bool). cond b [] (take (width * get_or sizes f 0) (drop (width * corner_count (take f sizes)) xs))) (lt-leb (length sizes) f h))
+
+-- the corners before the face
+start_is : (c : goal.After-corners_before) → c.corners_before.result ≡ corner_count (take c.args.face c.args.sizes.now)
+start_is c =
+    let a = c.args in
+    let h : a.face ≤ 65536 = omega arith in
+    c.corners_before.ensures.0 ∙ ap (λ (k : ℕ). corner_count (take k a.sizes.now)) (min-eq_left h)
+
+start_small : (c : goal.After-corners_before) → c.args.width * c.corners_before.result ≤ 3 * 16711680
+start_small c = mul-le-mul c.requires.0 c.corners_before.ensures.1
+
+size_small : (c : goal.After-shared_slice_known-3-1) → c.args.width * get_or c.args.sizes.now c.args.face 0 ≤ 3 * 255
+size_small c =
+    let a = c.args in
+    let h : get_or a.sizes.now a.face 0 ≤ 255 = omega (arith, c.shared_slice_known-3-1.given a.face) in
+    mul-le-mul c.requires.0 h
+
+within : (c : goal.After-shared_slice_known-3-1) → c.args.width * c.corners_before.result + c.args.width * get_or c.args.sizes.now c.args.face 0 ≤ length c.args.xs.now
+within c =
+    let a = c.args in
+    let p = c.requires in
+    let e = ap (λ (n : ℕ). a.width * n) (start_is c) in
+    omega (arith, e, part-ends a.width a.sizes.now a.face (omega (arith, c.if-sizes-face.false)), p.2)
+
+pub returns-then-sizes-face : goal.returns-then-sizes-face
+unfolding part_or_none
+returns-then-sizes-face c =
+    let a = c.args in
+    sym (ap (λ (b : Bool). cond b [] (part_of a.width a.xs.now a.sizes.now a.face)) (le-leb (length a.sizes.now) a.face (omega (arith, c.if-sizes-face.true))))
+
+pub overflow_mul-start : goal.overflow_mul-start
+overflow_mul-start c = omega (arith, start_small c)
+
+pub overflow_cast-end : goal.overflow_cast-end
+overflow_cast-end c = omega (arith, c.shared_slice_known-3-1.given c.args.face)
+
+pub overflow_mul-end : goal.overflow_mul-end
+overflow_mul-end c = omega (arith, size_small c)
+
+pub overflow_add-end : goal.overflow_add-end
+overflow_add-end c = omega (arith, start_small c, size_small c)
+
+pub offset_bounds-xs-start : goal.offset_bounds-xs-start
+offset_bounds-xs-start c = omega (arith, start_small c)
+
+pub slice-bounds-result-end : goal.slice-bounds-result-end
+slice-bounds-result-end c = let h = within c in search rules
+
+returns-then-sizes-face : goal.returns
+returns-then-sizes-face c =
+    let a = c.args in
+    part-is a.width c.corners_before.result a.xs.now a.sizes.now a.face (omega (arith, c.if-sizes-face.false)) (start_is c)

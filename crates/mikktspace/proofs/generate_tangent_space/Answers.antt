@@ -1,0 +1,48 @@
+-- `mikktspace::generate_tangent_space` meets its contract. Assumes nothing.
+use native.Mathlib.Omega.{arith}
+use mathlib.Core.Path.{◌≡◌, sym, ap, ◌∙◌}
+use mathlib.Core.Option.{none}
+use Rattle.definition.specs.Handed.{call, handed, Call}
+use Rattle.definition.specs.Desk.{verdict, at_desk}
+use Rattle.definition.specs.Outcome.{accepted, answered, outcome}
+use Rattle.mikktspace.specs.Contract.{left}
+use Rattle.mikktspace.proofs.Verdicts.{left-same, refused, no-refusal, number_small}
+use Rattle.mikktspace.proofs.generate_tangent_space.Goals as goal
+
+-- the call that is made
+abbrev called : goal.Start → Call
+called s =
+    let a = s.args in
+    call (handed a.sizes.now a.positions.now a.normals.now a.texture.now) a.threshold a.answer.now a.work.now
+
+pub returns-then-v-ne0 : goal.returns-then-v-ne0
+unfolding outcome
+returns-then-v-ne0 c =
+    let j = c in
+    let s = j in
+    let a = s.args in
+    let v = verdict (at_desk (called s)) in
+    let e = j.judge-v.ensures in
+    ap (λ r. left r a.answer.now a.work.now) (c.said.ensures ∙ (λ i. record { number = (e i).number; place = (e i).place; slots = 0 }))
+    ∙ refused v (accepted (called s)) a.answer.now a.work.now (λ q. c.if-v-ne0.true (omega (arith, ap (λ x. x.number) e, q)))
+
+-- past the test no row applies
+passed : (i : goal.Else-v-ne0) → verdict (at_desk (called i)) ≡ none
+passed i =
+    let j = i in
+    let x = at_desk (called j) in
+    no-refusal x (omega (arith, ap (λ x. x.number) j.judge-v.ensures, number_small x, i.if-v-ne0.false))
+
+pub make_frames-slots-requires : goal.make_frames-slots-requires
+make_frames-slots-requires c = passed c
+
+returns-then-v-ne0 : goal.returns
+unfolding outcome answered
+returns-then-v-ne0 c =
+    let m = c in
+    let i = m in
+    let j = i in
+    let s = j in
+    let a = s.args in
+    let z = accepted (called s) in
+    left-same _ _ _ _ c.said-2.ensures ∙ (m.make_frames-slots.ensures ∙ ap (λ o. answered o z a.answer.now a.work.now) (sym (passed i)))

@@ -1,0 +1,48 @@
+-- `neighbors::look` meets its contract: each arm is a way in which the cursors move. Assumes nothing.
+use Prim.Native.Nat.{ℕ}
+use mathlib.Core.Path.{◌≡◌, sym, ◌∙◌}
+use mathlib.Core.Bool.{Bool}
+use borrow.Author.Tests.{not-true, not-false}
+use Rattle.neighbors.specs.Links.{same_ends, suits}
+use Rattle.neighbors.proofs.Turns.{parted, unsuited, linked-as}
+use Rattle.neighbors.proofs.look.Goals as goal
+
+-- the answer of a test, for the sides' places
+told : (f : ℕ → ℕ → Bool) {s t u v : ℕ} {r q : Bool} → s ≡ t → u ≡ v → r ≡ f s u → r ≡ q → f t v ≡ q
+told f p q e h = sym (λ k. f (p k) (q k)) ∙ sym e ∙ h
+
+pub returns-then-not-same_ends : goal.returns-then-not-same_ends
+returns-then-not-same_ends c =
+    let b = c in
+    let at = b.side_at-u in
+    let start = b in
+    let a = start.args in
+    let p = start.requires in
+    parted a.rows a.n a.c.near a.c.far a.work.now p.0.2 p.1.2 p.0.0 p.0.1
+    (told (λ x y. same_ends a.rows x y a.work.now) p.1.0 at.ensures.0 b.same_ends.ensures (not-true _ c.if-not-same_ends.true))
+
+pub returns-then-not-suits : goal.returns-then-not-suits
+returns-then-not-suits c =
+    let d = c in
+    let b = d in
+    let at = b.side_at-u in
+    let start = b in
+    let a = start.args in
+    let p = start.requires in
+    unsuited a.rows a.n a.c.near a.c.far a.work.now p.0.2 p.1.2 p.0.0 p.0.1
+    (told (λ x y. same_ends a.rows x y a.work.now) p.1.0 at.ensures.0 b.same_ends.ensures (not-false _ d.if-not-same_ends.false))
+    (told (λ x y. suits a.rows x y a.work.now) p.1.0 at.ensures.0 d.suits.ensures (not-true _ c.if-not-suits.true))
+
+returns-then-not-same_ends : goal.returns
+returns-then-not-same_ends c =
+    let j = c in
+    let d = j in
+    let b = d in
+    let at = b.side_at-u in
+    let start = b in
+    let a = start.args in
+    let p = start.requires in
+    linked-as a.rows a.n a.c.near a.c.far a.work.now p.0.2 p.1.2 p.0.0 p.0.1
+    (told (λ x y. same_ends a.rows x y a.work.now) p.1.0 at.ensures.0 b.same_ends.ensures (not-false _ d.if-not-same_ends.false))
+    _ _ _ p.1.0 at.ensures.0 j.join.ensures
+    (told (λ x y. suits a.rows x y a.work.now) p.1.0 at.ensures.0 d.suits.ensures (not-false _ j.if-not-suits.false))

@@ -1,0 +1,54 @@
+-- `neighbors::put_side` meets its contract. Assumes nothing.
+use Prim.Native.Nat.{◌+◌, ◌*◌, ◌≤◌, ◌<◌}
+use native.Mathlib.Omega.{arith}
+use lib.ListN.{length-set}
+use Rattle.table.specs.Columns.{columns}
+use Rattle.table.proofs.Laws.{column-ends}
+use Rattle.neighbors.specs.Sides.{with_side}
+use Rattle.neighbors.proofs.Sided.{end_lt}
+use Rattle.neighbors.proofs.put_side.Goals as goal
+
+-- the side ends in the same triangle
+inside : (c : goal.After-end_of-e) → c.end_of_lem.result < c.args.rows
+inside c = let s = c in omega (arith, c.end_of_lem.ensures, end_lt s.args.r s.args.tris s.requires.1, s.requires.2)
+
+-- the column ends at or before the last one's end
+ends : (s : goal.Start) → s.args.column * s.args.rows + s.args.rows ≤ columns * s.args.rows
+ends s = column-ends s.args.column columns s.args.rows s.requires.0
+
+pub overflow_mul-a : goal.overflow_mul-a
+overflow_mul-a c = let s = c in omega (arith, ends s, s.requires.3)
+
+pub overflow_add-a : goal.overflow_add-a
+overflow_add-a c = let s = c in omega (arith, ends s, s.requires)
+
+pub offset_bounds-work-column : goal.offset_bounds-work-column
+offset_bounds-work-column c = let s = c in omega (arith, ends s, s.requires.3)
+
+pub bounds-work-column : goal.bounds-work-column
+bounds-work-column c = let s = c in omega (arith, ends s, s.requires)
+
+pub overflow_mul-b : goal.overflow_mul-b
+overflow_mul-b c = let s = c in omega (arith, ends s, s.requires.3)
+
+pub overflow_add-b : goal.overflow_add-b
+overflow_add-b c = let s = c in omega (arith, inside c, ends s, s.requires.3)
+
+pub offset_bounds-work-column-2 : goal.offset_bounds-work-column-2
+offset_bounds-work-column-2 c = let s = c in omega (arith, inside c, ends s, s.requires.3)
+
+pub bounds-work-column-2 : goal.bounds-work-column-2
+bounds-work-column-2 c = let s = c in omega (arith, inside c, ends s, s.requires.3)
+
+pub bounds-work-rows-2 : goal.bounds-work-rows-2
+bounds-work-rows-2 c = simp length-set (omega arith)
+
+pub bounds-work-rows-3 : goal.bounds-work-rows-3
+bounds-work-rows-3 c = simp length-set (omega arith)
+
+pub bounds-work-rows-4 : goal.bounds-work-rows-4
+bounds-work-rows-4 c = simp length-set (omega arith)
+
+pub returns : goal.returns
+unfolding with_side
+returns c = cc

@@ -1,0 +1,34 @@
+-- `reasons::try_copies` meets its contract. Assumes nothing.
+use native.Mathlib.Omega.{arith}
+use Prim.Native.Nat.{ℕ, ◌*◌}
+use mathlib.Core.Path.{◌≡◌, ap, ◌∙◌}
+use mathlib.Core.List.{List, ◌++◌}
+use lib.ListN.{drop}
+use Rattle.lists.specs.Parts.{joined}
+use Rattle.tangent.specs.Slot.{slot_words}
+use Rattle.definition.specs.Handed.{handed, slot_count}
+use Rattle.reasons.specs.Trial.{tried_words}
+use Rattle.reasons.proofs.Whole.{counts-fit, tried-out}
+use Rattle.reasons.proofs.try_copies.Goals as goal
+
+pub copy_frames-requires : goal.copy_frames-requires
+copy_frames-requires c =
+    let l = c in
+    let s = l in
+    let a = s.args in
+    let L = l.link_mesh-counts.ensures in
+    let R = counts-fit (handed a.sizes.now a.positions.now a.normals.now a.texture.now) _ _ a.work.now _ L in
+    (R.0, R.1, omega (arith, s.requires.1, L.only.size))
+
+-- so many slots are filled
+filled-to : (n m : ℕ) (a b : List ℕ) → b ≡ joined n (λ s. tried_words) ++ drop (slot_words * n) a → n ≡ m → b ≡ joined m (λ s. tried_words) ++ drop (slot_words * m) a
+filled-to n m a b e h = e ∙ ap (λ (k : ℕ). joined k (λ s. tried_words) ++ drop (slot_words * k) a) h
+
+pub returns : goal.returns
+returns c =
+    let f = c in
+    let l = f in
+    let s = l in
+    let a = s.args in
+    let L = l.link_mesh-counts.ensures in
+    (tried-out (handed a.sizes.now a.positions.now a.normals.now a.texture.now) _ _ a.work.now _ L s.requires.4 a.answer.now _ _ (filled-to _ (slot_count a.sizes.now) a.answer.now _ l.fill.ensures s.requires.3) f.copy_frames.ensures, L.only.rest)

@@ -1,0 +1,28 @@
+-- `severed::over_after` meets its contract. Assumes nothing.
+use Prim.Native.Nat.{◌*◌, ◌-◌, ◌<◌, ◌≤◌}
+use native.Mathlib.Omega.{arith}
+use mathlib.Core.Path.{refl}
+use lib.ListN.{get_or}
+use Rattle.neighbors.proofs.Sided.{end_lt}
+use Rattle.asked.proofs.Rows.{not-lt}
+use Rattle.severed.proofs.Steps.{way-after-none, way-after-to}
+use Rattle.severed.proofs.over_after.Goals as goal
+
+pub returns-then-word-eq0 : goal.returns-then-word-eq0
+returns-then-word-eq0 c = way-after-none _ _ _ _ _ refl c.word_at-word.ensures c.if-word-eq0.true
+
+pub end_of-requires : goal.end_of-requires
+end_of-requires c =
+    let s = c in
+    let a = s.args in
+    let w : get_or a.given.now a.x 0 ≤ 3 * a.tris = not-lt _ _ (s.requires.3 a.x s.requires.0) in
+    omega (arith, w, c.word_at-word.ensures, s.requires.1)
+
+returns-then-word-eq0 : goal.returns
+returns-then-word-eq0 c =
+    let e = c in
+    let s = e in
+    let a = s.args in
+    let w : get_or a.given.now a.x 0 ≤ 3 * a.tris = not-lt _ _ (s.requires.3 a.x s.requires.0) in
+    let v : e.word_at-word.result - 1 < 3 * a.tris = omega (arith, w, e.word_at-word.ensures, e.if-word-eq0.false) in
+    way-after-to _ _ _ _ _ _ refl e.word_at-word.ensures e.if-word-eq0.false c.end_of_lem.ensures (omega (arith, end_lt (e.word_at-word.result - 1) a.tris v, c.end_of_lem.ensures))

@@ -1,0 +1,31 @@
+-- `subgroups::add_row` meets its contract. Assumes nothing.
+use Prim.Native.Nat.{◌/◌}
+use mathlib.Core.Path.{◌≡◌, sym, ◌∙◌}
+use mathlib.Core.Bool.{true, false}
+use lib.Dec.{eqb}
+use Rattle.table.specs.Table.{cell}
+use Rattle.table.specs.Columns.{any_column}
+use Rattle.sums.specs.Sums.{weighed_by}
+use Rattle.subgroups.specs.Subgroups.{space_at, add_row}
+use Rattle.subgroups.proofs.add_row.Goals as goal
+
+pub returns-then-is_any : goal.returns-then-is_any
+unfolding add_row
+returns-then-is_any c =
+    let e = c in
+    let a = e.args in
+    let h : eqb (cell a.rows any_column (a.r / 3) a.work.now) 1 ≡ true = sym e.is_any.ensures ∙ e.if-is_any.true in
+    simp h c.none_added.ensures
+
+returns-then-is_any : goal.returns
+unfolding add_row space_at
+returns-then-is_any c =
+    let m = c in
+    let t = m in
+    let e = t in
+    let a = e.args in
+    let h : eqb (cell a.rows any_column (a.r / 3) a.work.now) 1 ≡ false = sym e.is_any.ensures ∙ e.if-is_any.false in
+    simp h
+    (c.weigh.ensures
+    ∙ (λ i. weighed_by a.z (c.number-angle.ensures i)
+    (record { s = t.s_at-s.ensures i; t = t.t_at-t.ensures i; s_magnitude = m.s_magnitude_at.ensures i; t_magnitude = m.t_magnitude_at.ensures i })))

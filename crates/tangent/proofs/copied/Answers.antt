@@ -1,0 +1,11 @@
+-- `tangent::copied` meets its contract: each way out is what the test picks. Assumes nothing.
+use Rattle.tangent.specs.Space.{copied}
+use Rattle.tangent.proofs.copied.Goals as goal
+
+pub returns-then-quad : goal.returns-then-quad
+unfolding copied
+returns-then-quad c = rw c.if-quad.true
+
+returns-then-quad : goal.returns
+unfolding copied
+returns-then-quad c = rw c.if-quad.false

@@ -1,0 +1,11 @@
+-- `tangent::flag` meets its contract: each arm is what `cond` picks. Assumes nothing.
+use Rattle.tangent.specs.Slot.{flag}
+use Rattle.tangent.proofs.flag.Goals as goal
+
+pub returns-then-b : goal.returns-then-b
+unfolding flag
+returns-then-b c = simp c.if-b.true
+
+pub returns-else-b : goal.returns-else-b
+unfolding flag
+returns-else-b c = simp c.if-b.false

@@ -1,0 +1,24 @@
+-- `triangles::quad_way` meets its contract. Assumes nothing.
+use Rattle.triangles.proofs.Ways.{way-1, way-2, way-3}
+use Rattle.triangles.proofs.quad_way.Goals as goal
+
+pub returns-then-t : goal.returns-then-t
+returns-then-t c =
+    let x = c.args in
+    way-1 x.s x.t c.if-t.true
+
+pub returns-then-x-y : goal.returns-then-x-y
+returns-then-x-y c =
+    let b = c in
+    let a = b in
+    let i = a in
+    let x = i.args in
+    way-2 x.s x.t i.if-t.false _ _ a.area-x.ensures b.area-y.ensures c.if-x-y.true
+
+returns-then-t : goal.returns
+returns-then-t c =
+    let b = c in
+    let a = b in
+    let i = a in
+    let x = i.args in
+    way-3 x.s x.t i.if-t.false _ _ a.area-x.ensures b.area-y.ensures c.if-x-y.false

@@ -1,0 +1,75 @@
+-- Proof that `unite` meets its contract: both ends are found, and the higher gets the lower. Assumes nothing.
+use Prim.Native.Nat.{ℕ, ◌≤◌, ◌<◌}
+use native.Mathlib.Omega.{arith}
+use mathlib.Core.Path.{◌≡◌, ◌∙◌}
+use mathlib.Core.List.{List}
+use lib.ListN.{length, set, length-set}
+use Rattle.unions.specs.Unions.{Climbed, United}
+use Rattle.unions.proofs.Stores.{join, united, united-sym}
+use Rattle.unions.proofs.unite.Goals as goal
+
+-- the start, from where both ends are known
+abbrev first : goal.After-slice_known-3-1 → goal.After-root-x
+first c = c.before.before.before.before.before.before
+
+abbrev start : goal.After-slice_known-3-1 → goal.Start
+start c = (first c)
+
+-- both ends
+climbs : (c : goal.After-slice_known-3-1) → let s = start c in let a = (first c).root-x in let b = c.root-y in
+    Climbed s.args.count s.args.parents.now a.last.0 s.args.a a.result × Climbed s.args.count a.last.0 b.new.0 s.args.b b.result
+climbs c = ((first c).root-x.ensures, c.root-y.ensures)
+
+-- the length is the one at the start
+long : (c : goal.After-slice_known-3-1) → length c.root-y.new.parents ≡ length (start c).args.parents.now
+long c = (climbs c).1.same.beyond.size ∙ (climbs c).0.same.beyond.size
+
+-- the higher end gets the lower
+module _ (c : goal.After-slice_known-3-1) where
+  abbrev n : ℕ
+  n = (start c).args.count
+
+  abbrev after : List ℕ
+  after = c.before.before.root2.new.0
+
+  abbrev x : ℕ
+  x = (first c).root.result
+
+  abbrev y : ℕ
+  y = c.before.before.root2.result
+
+  enough : n ≤ length after
+  enough = omega (arith, long c, (start c).requires.0)
+
+  x_below : x < n
+  x_below = omega (arith, (climbs c).0.low, (start c).requires.1)
+
+  y-below : y < n
+  y-below = omega (arith, (climbs c).1.low, (start c).requires.2)
+
+  higher-y : x < y → United n (start c).args.parents.now (set after y x) (start c).args.a (start c).args.b
+  higher-y h = united _ _ _ _ _ _ _ _ _ (climbs c).0 (climbs c).1 (join n after x y enough y-below (omega arith) (climbs c).1.same.down (climbs c).1.top)
+
+  higher-x : y ≤ x → United n (start c).args.parents.now (set after x y) (start c).args.a (start c).args.b
+  higher-x h = united _ _ _ _ _ _ _ _ _ (climbs c).0 (climbs c).1 (united-sym _ _ _ _ _ (join n after y x enough x_below h (climbs c).1.same.down ((climbs c).1.same.tops x x_below (climbs c).0.top)))
+
+pub root-y-requires : goal.root-y-requires
+root-y-requires c = let r = c.root-x.ensures in let s = c in (omega (arith, s.requires.0, r.same.beyond.size), s.requires.2, r.same.down)
+
+pub bounds-parents-y : goal.bounds-parents-y
+bounds-parents-y c = omega (arith, enough c, y-below c)
+
+pub shape_of-parents-then-x-y : goal.shape_of-parents-then-x-y
+shape_of-parents-then-x-y c = simp length-set (long c)
+
+pub returns-then-x-y : goal.returns-then-x-y
+returns-then-x-y c = higher-y c (omega (arith, c.if-x-y.true))
+
+pub bounds-parents-x : goal.bounds-parents-x
+bounds-parents-x c = omega (arith, enough c, x_below c)
+
+pub shape_of-parents : goal.shape_of-parents
+shape_of-parents c = simp length-set (long c)
+
+returns-then-x-y : goal.returns
+returns-then-x-y c = higher-x c (omega (arith, c.if-x-y.false))

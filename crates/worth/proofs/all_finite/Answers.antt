@@ -1,0 +1,8 @@
+-- `worth::all_finite` meets its contract. Assumes nothing.
+use Rattle.lists.specs.Parts.{every_below}
+use Rattle.worth.specs.Worth.{in_all}
+use Rattle.worth.proofs.all_finite.Goals as goal
+
+pub returns : goal.returns
+unfolding in_all every_below
+returns c = cc

@@ -1,0 +1,7 @@
+-- `worth::both_shown` meets its contract. Assumes nothing.
+use Rattle.worth.specs.Worth.{some_below, some_of, in_both}
+use Rattle.worth.proofs.both_shown.Goals as goal
+
+pub returns : goal.returns
+unfolding in_both some_of some_below
+returns c = cc

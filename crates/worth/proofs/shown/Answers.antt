@@ -1,0 +1,6 @@
+-- `worth::shown` meets its contract. Assumes nothing.
+use Rattle.worth.proofs.Hidden.{shown-is}
+use Rattle.worth.proofs.shown.Goals as goal
+
+pub returns : goal.returns
+returns c = shown-is c.args.w
