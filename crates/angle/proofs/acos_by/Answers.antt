@@ -22,14 +22,14 @@ returns-then-x c = let e = unlike-itself c.args.x c.if-x.true in e ∙ sym angle
 pub amended-requires : goal.amended-requires
 unfolding of_bits neg
 amended-requires c =
-    let s = c in
+    let s = c.before.before in
     let i = subst (λ (y : Float). T (le minus_oneᶠ y) × T (le y oneᶠ)) (sym c.cut.ensures) (cut_in s.args.x (like-itself s.args.x c.if-x.false)) in
     (s.requires, i.0, i.1)
 
-returns-then-x : goal.returns
-returns-then-x c =
-    let a = c in
-    let s = a in
+pub returns : goal.returns
+returns c =
+    let a = c.before.before in
+    let s = a.before.before.before in
     ap (λ (y : Float). y *ᶠ number 0x3149_0fdb)
     (c.nearest_u32_to_f32.ensures
     ∙ ap (λ (n : ℕ). of_int binary32 (pos n)) (c.top_digits.ensures ∙ ap top_digits (a.amended.ensures ∙ ap amended_way a.cut.ensures)))

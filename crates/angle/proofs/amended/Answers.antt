@@ -6,6 +6,12 @@ use Rattle.bits.proofs.Bools.{T-is}
 use Rattle.angle.specs.Angle.{plain_way, half_sine, size_of, doubled_way, amended_way}
 use Rattle.angle.proofs.Unit.{unit}
 use Rattle.angle.proofs.amended.Goals as goal
+use Rattle.angle.proofs.amended.Tie as tie
+use Rattle.angle.proofs.amended.Lts as lts
+use Rattle.angle.proofs.amended.Reads as reads
+
+abbrev At-After-half-b : Type 0
+At-After-half-b = lts.After-half tie.the-claims reads.Pre reads.Post
 
 -- the definition, by its tests
 close : (x a : Float) (b : ℕ) → a ≡ size_of x → lt halfᶠ a ≡ true → b ≡ plain_way (half_sine a) → amended_way x ≡ doubled_way x b
@@ -16,7 +22,7 @@ close x a b e h g =
 wide : (x a : Float) → a ≡ size_of x → lt halfᶠ a ≡ false → amended_way x ≡ plain_way x
 wide x a e h = ap (λ (b : Bool). cond b (doubled_way x (plain_way (half_sine (size_of x)))) (plain_way x)) (ap (lt halfᶠ) (sym e) ∙ h)
 
-doubled : (c : goal.After-half-b) → amended_way c.args.x ≡ doubled_way c.args.x c.half-b.result
+doubled : (c : At-After-half-b) → amended_way c.args.x ≡ doubled_way c.args.x c.half-b.result
 doubled c =
     let w = c.without_sign-a in
     close c.args.x w.result c.half-b.result w.ensures c.if-a.true c.half-b.ensures.0
@@ -24,7 +30,7 @@ doubled c =
 pub half-b-requires : goal.half-b-requires
 unfolding of_bits neg
 half-b-requires c =
-    let s = c in
+    let s = c.before.before in
     (s.requires.0, T-is c.if-a.true, subst (λ (a : Float). T (le a oneᶠ)) (sym c.without_sign-a.ensures) (unit s.args.x s.requires.1 s.requires.2).1)
 
 -- 2B where x is negative, and 2 ^ 30 - 2B elsewhere
@@ -35,10 +41,10 @@ above : (x : Float) (b r : ℕ) → lt x zeroᶠ ≡ false → r ≡ 2 ^ 30 - 2 
 above x b r h e = e ∙ sym (ap (λ (t : Bool). cond t (2 * b) (2 ^ 30 - 2 * b)) h)
 
 pub returns-then-x : goal.returns-then-x
-returns-then-x c = below c.args.x c.half-b.result _ c.if-x.true (omega arith) ∙ sym (doubled c)
+returns-then-x c = below c.args.x c.half-b.result _ c.if-x.true (omega arith) ∙ sym (doubled c.before)
 
 pub returns-then-a : goal.returns-then-a
-returns-then-a c = above c.args.x c.half-b.result _ c.if-x.false (omega arith) ∙ sym (doubled c)
+returns-then-a c = above c.args.x c.half-b.result _ c.if-x.false (omega arith) ∙ sym (doubled c.before)
 
-returns-then-x : goal.returns
-returns-then-x c = c.plain.ensures ∙ sym (wide c.args.x c.without_sign-a.result c.without_sign-a.ensures c.if-a.false)
+pub returns : goal.returns
+returns c = c.plain.ensures ∙ sym (wide c.args.x c.without_sign-a.result c.without_sign-a.ensures c.if-a.false)

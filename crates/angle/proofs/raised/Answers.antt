@@ -18,7 +18,7 @@ returns-then-entry-u c =
 pub loop-k-preserved : goal.loop-k-preserved
 loop-k-preserved c = (omega arith, subst (λ (x : ℕ). c.args.u ≤ x) c.entry.ensures c.if-entry-u.false)
 
-returns-then-entry-u : goal.returns
-returns-then-entry-u c =
+pub returns : goal.returns
+returns c =
     let l = c.loop-k in
     found c.args.u l.k l.invariant.0 l.invariant.1 (λ h. absurd (not-le_of_lt h c.loop-k-test.false))

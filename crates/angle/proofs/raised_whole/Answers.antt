@@ -20,5 +20,5 @@ offset-requires c =
     let x = c.args.x in
     subst (λ (y : Float). T (le minus_oneᶠ y) × T (le y oneᶠ)) (sym c.cut.ensures) (cut_in x (like-itself x c.if-x.false))
 
-returns-then-x : goal.returns
-returns-then-x c = sym (ap toward_zero c.cut.ensures) ∙ c.offset.ensures.0
+pub returns : goal.returns
+returns c = sym (ap toward_zero c.cut.ensures) ∙ c.offset.ensures.0

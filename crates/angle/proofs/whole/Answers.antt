@@ -16,4 +16,4 @@ pub returns : goal.returns
 unfolding of_bits
 returns c =
     let e = c.truncating_f32_to_u64.ensures in
-    (e, subst (λ (n : ℕ). n ≤ 2 ^ 30) (sym e) (known c).most)
+    (e, subst (λ (n : ℕ). n ≤ 2 ^ 30) (sym e) (known c.before).most)

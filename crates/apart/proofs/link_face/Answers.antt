@@ -8,19 +8,24 @@ use Rattle.apart.specs.Order.{Linked, label_at}
 use Rattle.apart.proofs.Lists.{past-none}
 use Rattle.apart.proofs.Ordering.{linked-skip, linked-more, past-linked}
 use Rattle.apart.proofs.link_face.Goals as goal
+use Rattle.apart.proofs.link_face.Lts as lts
+use Rattle.apart.proofs.link_face.Reads as reads
+
+abbrev At-Start : Type 0
+At-Start = lts.Start reads.Pre reads.Post
 
 -- the faces past f are linked
-linked : (s : goal.Start) → Linked s.args.count (label_at s.args.labels.now) (suc s.args.f) s.args.order.now
+linked : (s : At-Start) → Linked s.args.count (label_at s.args.labels.now) (suc s.args.f) s.args.order.now
 linked s = subst (λ i. Linked s.args.count (label_at s.args.labels.now) i s.args.order.now) (add-one s.args.f) s.requires.4
 
 pub overflow_cast-t : goal.overflow_cast-t
 overflow_cast-t c = omega (arith, c.shared_slice_known-1.given c.args.f)
 
 pub returns-then-count-t : goal.returns-then-count-t
-returns-then-count-t c = let s = c in (linked-skip _ _ _ _ c.if-count-t.true (linked s), past-none 0 _ _)
+returns-then-count-t c = let s = c.before.before in (linked-skip _ _ _ _ c.if-count-t.true (linked s), past-none 0 _ _)
 
 pub bounds-order-count-2 : goal.bounds-order-count-2
 bounds-order-count-2 c = simp length-set (omega arith)
 
-returns-then-count-t : goal.returns
-returns-then-count-t c = let e = c in let s = e in (linked-more _ _ _ _ s.requires.0 e.if-count-t.false s.requires.2 (linked s), past-linked _ _ _ _ s.requires.0 e.if-count-t.false s.requires.2 (linked s))
+pub returns : goal.returns
+returns c = let e = c.before in let s = e.before.before in (linked-more _ _ _ _ s.requires.0 e.if-count-t.false s.requires.2 (linked s), past-linked _ _ _ _ s.requires.0 e.if-count-t.false s.requires.2 (linked s))

@@ -13,10 +13,10 @@ returns-then-overfull c =
     let a = c.args in
     sym (following-by a.kind a.total a.long true (sym c.overfull.ensures ∙ c.if-overfull.true))
 
-returns-then-overfull : goal.returns
+pub returns : goal.returns
 unfolding after_next first_torn place_of
-returns-then-overfull c =
-    let e = c in
+returns c =
+    let e = c.before in
     let a = e.args in
     next-is a.kind a.total a.long _ _ _ c.wanted.ensures (omega arith) (omega arith)
     ∙ sym (following-by a.kind a.total a.long false (sym e.overfull.ensures ∙ e.if-overfull.false))

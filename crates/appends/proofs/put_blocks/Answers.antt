@@ -12,6 +12,12 @@ use Rattle.cards.specs.Writer.{records_of, card_bytes}
 use Rattle.appends.specs.Append.{blocks_from}
 use Rattle.appends.proofs.Counts.{NextRecords, follows, next-called, next-fit, length_from}
 use Rattle.appends.proofs.put_blocks.Goals as goal
+use Rattle.appends.proofs.put_blocks.Tie as tie
+use Rattle.appends.proofs.put_blocks.Lts as lts
+use Rattle.appends.proofs.put_blocks.Reads as reads
+
+abbrev At-Start : Type 0
+At-Start = lts.Start tie.the-claims reads.Pre reads.Post goal.the-invariant-loop-i goal.the-decreases-loop-i
 
 pub loop-i-init : goal.loop-i-init
 loop-i-init c =
@@ -19,13 +25,13 @@ loop-i-init c =
     (omega arith, joined-none a.lent.now 0 (λ k. block_of a.kind a.total (a.b + k) (part (room_words * k) (used_words a.kind a.total (a.b + k)) a.records.now)), refl)
 
 -- they are the next
-theirs : (s : goal.Start) → let a = s.args in NextRecords a.kind a.total a.b (records_of a.kind a.records.now)
+theirs : (s : At-Start) → let a = s.args in NextRecords a.kind a.total a.b (records_of a.kind a.records.now)
 theirs s = follows s.args.kind s.args.total s.args.b (records_of s.args.kind s.args.records.now) s.requires.1
 
 -- and few
 few : (c : goal.After-put_block-arg-1) → c.loop-i.i < word_values
 few c =
-    let s = c in
+    let s = c.before.before.before.before.before in
     let a = s.args in
     omega (arith, s.requires.0, s.requires.2, blocks-le a.kind (records_of a.kind a.records.now), c.loop-i-test.true)
 
@@ -39,16 +45,16 @@ pub put_block-requires : goal.put_block-requires
 unfolding card_bytes
 put_block-requires c =
     let l = c.loop-i in
-    let s = c in
+    let s = c.before.before.before.before.before in
     let a = s.args in
     let h : l.i < blocks_for a.kind (records_of a.kind a.records.now) = omega (arith, s.requires.0, c.loop-i-test.true) in
     (omega (arith, h, s.requires.4, l.invariant.2), next-called a.kind a.total a.b (records_of a.kind a.records.now) l.i (theirs s) h, next-fit a.kind a.total a.b a.records.now (theirs s) l.i h)
 
 pub loop-i-preserved : goal.loop-i-preserved
 loop-i-preserved c =
-    let p = c in
+    let p = c.before.before in
     let l = p.loop-i in
-    let s = p in
+    let s = p.before.before.before.before.before.before in
     let a = s.args in (
       omega arith,
       p.put_block.ensures
@@ -61,7 +67,7 @@ pub returns : goal.returns
 unfolding card_bytes blocks_from
 returns c =
     let l = c.loop-i in
-    let s = c in
+    let s = c.before.before.before.before in
     let a = s.args in
     let k = blocks_for a.kind (records_of a.kind a.records.now) in
     joined-front a.lent.now l.lent (λ i. block_of a.kind a.total (a.b + i) (part (room_words * i) (used_words a.kind a.total (a.b + i)) a.records.now)) l.i k (block_bytes * k) l.invariant.1

@@ -28,8 +28,8 @@ loop-i-preserved c =
     let a = c.args in
     (omega arith, every_more l.i (λ k. eqb (word_at a.card.now (a.p + k)) 0) l.invariant.1 (ap (λ w. eqb w 0) (sym c.word_at.ensures) ∙ eq-eqb _ _ c.if-word_at-ne0.false))
 
-returns-then-word_at-ne0 : goal.returns
-returns-then-word_at-ne0 c =
+pub returns : goal.returns
+returns c =
     let l = c.loop-i in
     let a = c.args in
     sym (ap (λ n. every_below n (λ k. eqb (word_at a.card.now (a.p + k)) 0)) (sym (le_antisymm l.invariant.0 c.loop-i-test.false)) ∙ l.invariant.1)

@@ -13,15 +13,27 @@ use Rattle.words.specs.Words.{word_at}
 use Rattle.blocks.specs.Judged.{headed, records_marked, emptied, checked, block_at}
 use Rattle.blocks.proofs.Judged.{headed-words, marked-words, emptied-words, good_none, bad-header, bad-mark, bad-rest, by-sum}
 use Rattle.blocks.proofs.good.Goals as goal
+use Rattle.blocks.proofs.good.Tie as tie
+use Rattle.blocks.proofs.good.Lts as lts
+use Rattle.blocks.proofs.good.Reads as reads
+
+abbrev At-After-headed : Type 0
+At-After-headed = lts.After-headed tie.the-claims reads.Pre reads.Post
+
+abbrev At-After-block_marked : Type 0
+At-After-block_marked = lts.After-block_marked tie.the-claims reads.Pre reads.Post
+
+abbrev At-After-emptied : Type 0
+At-After-emptied = lts.After-emptied tie.the-claims reads.Pre reads.Post
 
 -- what each of the first three tests says of the block
-headed-is : (c : goal.After-headed) → let a = c.args in c.headed.result ≡ headed a.kind a.total a.b (block_at a.b a.card.now)
+headed-is : (c : At-After-headed) → let a = c.args in c.headed.result ≡ headed a.kind a.total a.b (block_at a.b a.card.now)
 headed-is c =
     let a = c.args in
     c.headed.ensures
     ∙ (ap (λ (h : List ℕ). every_below header_words (λ i. eqb (word_at a.card.now (block_words * a.b + i)) (get_or h i 0))) c.header.ensures ∙ headed-words a.kind a.total a.b a.card.now)
 
-marked-is : (c : goal.After-block_marked) → let a = c.args in c.block_marked.result ≡ records_marked a.kind a.total a.b (block_at a.b a.card.now)
+marked-is : (c : At-After-block_marked) → let a = c.args in c.block_marked.result ≡ records_marked a.kind a.total a.b (block_at a.b a.card.now)
 marked-is c =
     let a = c.args in
     c.block_marked.ensures ∙ marked-words a.kind a.total a.b a.card.now
@@ -29,9 +41,9 @@ marked-is c =
 every-same : (n m : ℕ) (f : ℕ → Bool) (r : Bool) → r ≡ every_below n f → n ≡ m → r ≡ every_below m f
 every-same n m f r e h = e ∙ ap (λ (k : ℕ). every_below k f) h
 
-emptied-is : (c : goal.After-emptied) → let a = c.args in c.emptied.result ≡ emptied a.kind a.total a.b (block_at a.b a.card.now)
+emptied-is : (c : At-After-emptied) → let a = c.args in c.emptied.result ≡ emptied a.kind a.total a.b (block_at a.b a.card.now)
 emptied-is c =
-    let u = c in
+    let u = c.before.before.before.before.before.before in
     let a = u.args in
     every-same _ (room_words - u.used_words-count.result) _ _ c.emptied.ensures (omega (arith, u.used_words-count.ensures.1))
     ∙ (ap (λ (k : ℕ). every_below (room_words - k) (λ i. eqb (word_at a.card.now (block_words * a.b + header_words + k + i)) 0)) u.used_words-count.ensures.0
@@ -44,34 +56,34 @@ returns-then-card-b c =
 
 pub returns-then-not-headed : goal.returns-then-not-headed
 returns-then-not-headed c =
-    let i = c in
+    let i = c.before.before.before.before in
     let a = i.args in
-    bad-header a.kind a.total a.b a.card.now (omega (arith, i.if-card-b.false)) (sym (headed-is c) ∙ not-true _ c.if-not-headed.true)
+    bad-header a.kind a.total a.b a.card.now (omega (arith, i.if-card-b.false)) (sym (headed-is c.before) ∙ not-true _ c.if-not-headed.true)
 
 pub returns-then-not-block_marked : goal.returns-then-not-block_marked
 returns-then-not-block_marked c =
-    let e = c in
-    let i = e in
+    let e = c.before.before in
+    let i = e.before.before.before.before in
     let a = i.args in
-    bad-mark a.kind a.total a.b a.card.now (omega (arith, i.if-card-b.false)) (sym (headed-is e) ∙ not-false _ e.if-not-headed.false) (sym (marked-is c) ∙ not-true _ c.if-not-block_marked.true)
+    bad-mark a.kind a.total a.b a.card.now (omega (arith, i.if-card-b.false)) (sym (headed-is e.before) ∙ not-false _ e.if-not-headed.false) (sym (marked-is c.before) ∙ not-true _ c.if-not-block_marked.true)
 
 pub returns-then-not-emptied : goal.returns-then-not-emptied
 returns-then-not-emptied c =
-    let m = c in
-    let e = m in
-    let i = e in
+    let m = c.before.before in
+    let e = m.before.before in
+    let i = e.before.before.before.before in
     let a = i.args in
-    bad-rest a.kind a.total a.b a.card.now (omega (arith, i.if-card-b.false)) (sym (headed-is e) ∙ not-false _ e.if-not-headed.false) (sym (marked-is m) ∙ not-false _ m.if-not-block_marked.false)
-    (sym (emptied-is c) ∙ not-true _ c.if-not-emptied.true)
+    bad-rest a.kind a.total a.b a.card.now (omega (arith, i.if-card-b.false)) (sym (headed-is e.before) ∙ not-false _ e.if-not-headed.false) (sym (marked-is m.before) ∙ not-false _ m.if-not-block_marked.false)
+    (sym (emptied-is c.before) ∙ not-true _ c.if-not-emptied.true)
 
-returns-then-card-b : goal.returns
+pub returns : goal.returns
 unfolding block_at
-returns-then-card-b c =
-    let z = c in
-    let m = z in
-    let e = m in
-    let i = e in
+returns c =
+    let z = c.before in
+    let m = z.before.before in
+    let e = m.before.before in
+    let i = e.before.before.before.before in
     let a = i.args in
     c.checked.ensures
-    ∙ by-sum a.kind a.total a.b a.card.now (omega (arith, i.if-card-b.false)) (sym (headed-is e) ∙ not-false _ e.if-not-headed.false) (sym (marked-is m) ∙ not-false _ m.if-not-block_marked.false)
-    (sym (emptied-is z) ∙ not-false _ z.if-not-emptied.false)
+    ∙ by-sum a.kind a.total a.b a.card.now (omega (arith, i.if-card-b.false)) (sym (headed-is e.before) ∙ not-false _ e.if-not-headed.false) (sym (marked-is m.before) ∙ not-false _ m.if-not-block_marked.false)
+    (sym (emptied-is z.before) ∙ not-false _ z.if-not-emptied.false)

@@ -21,7 +21,7 @@ loop-r-init c =
 -- record r is among the words of the list
 inside : (c : goal.After-lose_one-arg-1) → let a = c.args in a.p + a.wide * c.loop-r.r + a.wide ≤ length a.answer.now
 inside c =
-    let s = c in
+    let s = c.before.before.before.before in
     omega (arith, one_of s.args.wide c.loop-r.r s.args.count c.loop-r-test.true, s.requires.0)
 
 pub overflow_mul-wide : goal.overflow_mul-wide
@@ -35,7 +35,7 @@ lose_one-requires c = (omega (arith, inside c, c.loop-r.invariant.2), c.requires
 
 pub loop-r-preserved : goal.loop-r-preserved
 loop-r-preserved c =
-    let p = c in
+    let p = c.before.before in
     let l = p.loop-r in
     let a = p.args in (
       omega arith,

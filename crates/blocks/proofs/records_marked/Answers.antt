@@ -20,7 +20,7 @@ loop-r-init c =
 -- record r is among the words of the card
 inside : (c : goal.In-loop-r) → let a = c.args in a.p + a.wide * c.loop-r.r < a.p + a.wide * a.count
 inside c =
-    let s = c in
+    let s = c.before.before.before in
     omega (arith, one_of s.args.wide c.loop-r.r s.args.count c.loop-r-test.true, s.requires.1)
 
 pub overflow_mul-wide : goal.overflow_mul-wide
@@ -44,8 +44,8 @@ loop-r-preserved c =
     let a = c.args in
     (omega arith, every_more l.r (λ k. leb (word_at a.card.now (a.p + a.wide * k)) 1) l.invariant.1 (ap (λ w. leb w 1) (sym c.word_at.ensures) ∙ le-leb c.word_at.result 1 (omega (arith, c.if-word_at-gt1.false))))
 
-returns-then-word_at-gt1 : goal.returns
-returns-then-word_at-gt1 c =
+pub returns : goal.returns
+returns c =
     let l = c.loop-r in
     let a = c.args in
     sym (ap (λ n. every_below n (λ k. leb (word_at a.card.now (a.p + a.wide * k)) 1)) (sym (le_antisymm l.invariant.0 c.loop-r-test.false)) ∙ l.invariant.1)

@@ -18,7 +18,7 @@ loop-r-init c = (omega arith, every-none (λ k. leb (get_or c.args.answer.now (c
 -- record r is among the words of the list
 inside : (c : goal.In-loop-r) → let a = c.args in a.wide * c.loop-r.r < length a.answer.now
 inside c =
-    let s = c in
+    let s = c.before.before in
     omega (arith, one_of s.args.wide c.loop-r.r s.args.count c.loop-r-test.true, s.requires)
 
 pub overflow_mul-wide : goal.overflow_mul-wide
@@ -28,7 +28,7 @@ pub offset_bounds-answer-wide : goal.offset_bounds-answer-wide
 offset_bounds-answer-wide c = omega (arith, inside c)
 
 pub bounds-answer-wide : goal.bounds-answer-wide
-bounds-answer-wide c = inside c
+bounds-answer-wide c = inside c.before
 
 pub returns-then-answer-wide-gt1 : goal.returns-then-answer-wide-gt1
 returns-then-answer-wide-gt1 c =
@@ -42,8 +42,8 @@ loop-r-preserved c =
     let a = c.args in
     (omega arith, every_more l.r (λ k. leb (get_or a.answer.now (a.wide * k) 0) 1) l.invariant.1 (le-leb (get_or a.answer.now (a.wide * l.r) 0) 1 (omega (arith, c.if-answer-wide-gt1.false))))
 
-returns-then-answer-wide-gt1 : goal.returns
-returns-then-answer-wide-gt1 c =
+pub returns : goal.returns
+returns c =
     let l = c.loop-r in
     let a = c.args in
     sym (ap (λ n. every_below n (λ k. leb (get_or a.answer.now (a.wide * k) 0) 1)) (sym (le_antisymm l.invariant.0 c.loop-r-test.false)) ∙ l.invariant.1)

@@ -7,6 +7,6 @@ pub returns-then-there-called : goal.returns-then-there-called
 unfolding bytes_past blocks_there
 returns-then-there-called c = omega (arith, c.blocks_for-called.ensures.0)
 
-returns-then-there-called : goal.returns
+pub returns : goal.returns
 unfolding bytes_past blocks_there
-returns-then-there-called c = omega (arith, c.blocks_for-called.ensures.0)
+returns c = omega (arith, c.blocks_for-called.ensures.0)

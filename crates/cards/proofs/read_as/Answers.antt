@@ -9,28 +9,34 @@ use Rattle.cards.specs.Writer.{records_of}
 use Rattle.cards.specs.Contract.{after_read}
 use Rattle.cards.proofs.Outcomes.{got-0, got-2}
 use Rattle.cards.proofs.read_as.Goals as goal
+use Rattle.cards.proofs.read_as.Tie as tie
+use Rattle.cards.proofs.read_as.Lts as lts
+use Rattle.cards.proofs.read_as.Reads as reads
+
+abbrev At-Else-records_of-total : Type 0
+At-Else-records_of-total = lts.Else1 tie.the-claims reads.Pre reads.Post
 
 pub returns-then-records_of-total : goal.returns-then-records_of-total
 unfolding after_read records_of
 returns-then-records_of-total c =
-    let n = c in
+    let n = c.before in
     let a = n.args in
     sym (got-2 a.kind a.total a.card.now a.answer.now (words-out a.kind (length a.answer.now) a.total (omega (arith, c.if-records_of-total.true, n.records_of.ensures))))
 
 -- the records have room
-room : (c : goal.Else-records_of-total) → let a = c.args in record_words a.kind * a.total ≤ length a.answer.now
+room : (c : At-Else-records_of-total) → let a = c.args in record_words a.kind * a.total ≤ length a.answer.now
 unfolding records_of
 room c =
     let a = c.args in
     words-in a.kind (length a.answer.now) a.total (omega (arith, c.if-records_of-total.false, c.records_of.ensures))
 
 pub read_blocks-requires : goal.read_blocks-requires
-read_blocks-requires c = room c
+read_blocks-requires c = room c.before
 
-returns-then-records_of-total : goal.returns
+pub returns : goal.returns
 unfolding after_read
-returns-then-records_of-total c =
-    let r = c in
-    let e = r in
+returns c =
+    let r = c.before.before.before in
+    let e = r.before.before in
     let a = e.args in
     (λ z. record { number = 0; past = c.bytes_past.ensures z; answer = r.read_blocks.ensures z }) ∙ sym (got-0 a.kind a.total a.card.now a.answer.now (room e))

@@ -10,43 +10,52 @@ use Rattle.blocks.proofs.Counts.{words-in}
 use Rattle.cards.specs.Writer.{records_of}
 use Rattle.cards.proofs.Outcomes.{cannot-part, cannot-many, marked-decides}
 use Rattle.cards.proofs.writable.Goals as goal
+use Rattle.cards.proofs.writable.Tie as tie
+use Rattle.cards.proofs.writable.Lts as lts
+use Rattle.cards.proofs.writable.Reads as reads
+
+abbrev At-After-record_words-wide : Type 0
+At-After-record_words-wide = lts.After-record_words tie.the-claims reads.Pre reads.Post
+
+abbrev At-Else-answer-wide-ne0 : Type 0
+At-Else-answer-wide-ne0 = lts.Else1 tie.the-claims reads.Pre reads.Post
 
 -- what is left of a record, by the width that was read
-left : (c : goal.After-record_words-wide) → let a = c.args in length a.answer.now % c.record_words-wide.result ≡ length a.answer.now % record_words a.kind
+left : (c : At-After-record_words-wide) → let a = c.args in length a.answer.now % c.record_words-wide.result ≡ length a.answer.now % record_words a.kind
 left c = ap (λ (w : ℕ). length c.args.answer.now % w) c.record_words-wide.ensures.0
 
 pub returns-then-answer-wide-ne0 : goal.returns-then-answer-wide-ne0
 returns-then-answer-wide-ne0 c =
-    let w = c in
+    let w = c.before in
     let a = w.args in
     cannot-part a.kind a.answer.now (λ e. omega (arith, c.if-answer-wide-ne0.true, left w, e))
 
 -- past the first test: whole records
-whole : (c : goal.Else-answer-wide-ne0) → let a = c.args in length a.answer.now % record_words a.kind ≡ 0
-whole c = omega (arith, c.if-answer-wide-ne0.false, left c)
+whole : (c : At-Else-answer-wide-ne0) → let a = c.args in length a.answer.now % record_words a.kind ≡ 0
+whole c = omega (arith, c.if-answer-wide-ne0.false, left c.before)
 
 pub returns-then-count-ge4294967296 : goal.returns-then-count-ge4294967296
 returns-then-count-ge4294967296 c =
-    let e = c in
+    let e = c.before.before in
     let a = e.args in
     cannot-many a.kind a.answer.now (whole e) (omega (arith, c.if-count-ge4294967296.true, c.records_of-count.ensures))
 
 pub all_marked-requires : goal.all_marked-requires
 unfolding records_of
 all_marked-requires c =
-    let n = c in
-    let w = n in
+    let n = c.before in
+    let w = n.before.before in
     let a = w.args in
     let inside = words-in a.kind (length a.answer.now) (records_of a.kind a.answer.now) (omega arith) in
     let product : w.record_words-wide.result * n.records_of-count.result ≡ record_words a.kind * records_of a.kind a.answer.now = λ z. w.record_words-wide.ensures.0 z * n.records_of-count.ensures z in
     (omega (arith, product, inside), w.record_words-wide.ensures.1)
 
-returns-then-answer-wide-ne0 : goal.returns
-returns-then-answer-wide-ne0 c =
-    let e = c in
-    let n = e in
-    let i = n in
-    let w = i in
+pub returns : goal.returns
+returns c =
+    let e = c.before in
+    let n = e.before in
+    let i = n.before in
+    let w = i.before in
     let a = w.args in
     c.all_marked.ensures
     ∙ ((λ z. every_below (n.records_of-count.ensures z) (λ r. leb (get_or a.answer.now (w.record_words-wide.ensures.0 z * r) 0) 1))

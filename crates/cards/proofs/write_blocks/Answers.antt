@@ -31,7 +31,7 @@ pub put_block-requires : goal.put_block-requires
 unfolding card_bytes
 put_block-requires c =
     let l = c.loop-b in
-    let f = c in
+    let f = c.before.before.before in
     let a = f.args in
     let k = called a.kind a.total l.b (omega (arith, blocks-are f, c.loop-b-test.true)) in
     (omega (arith, blocks-are f, f.requires.1, l.invariant.2), k, omega (arith, words-fit a.kind a.total l.b k, f.requires.0))
@@ -39,10 +39,10 @@ put_block-requires c =
 pub loop-b-preserved : goal.loop-b-preserved
 unfolding blocks_of records_in
 loop-b-preserved c =
-    let p = c in
+    let p = c.before.before in
     let l = p.loop-b in
-    let f = p in
-    let s = f in
+    let f = p.before.before.before.before in
+    let s = f.before.before.before in
     let a = s.args in (
       omega arith,
       p.put_block.ensures
@@ -55,8 +55,8 @@ pub returns : goal.returns
 unfolding card_bytes blocks_of
 returns c =
     let l = c.loop-b in
-    let f = c in
-    let s = f in
+    let f = c.before.before in
+    let s = f.before.before.before in
     let kind = s.args.kind in
     let n = s.args.total in
     joined-front s.args.card.now l.card (λ b. block_of kind n b (records_in kind n b s.args.answer.now)) l.b (blocks_for kind n) (block_bytes * blocks_for kind n) l.invariant.1

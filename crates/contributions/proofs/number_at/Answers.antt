@@ -19,4 +19,4 @@ pub offset_bounds-work-k : goal.offset_bounds-work-k
 offset_bounds-work-k c = omega (arith, ends c)
 
 pub bounds-work-k : goal.bounds-work-k
-bounds-work-k c = omega (arith, ends c)
+bounds-work-k c = omega (arith, ends c.before)

@@ -2,10 +2,16 @@
 use Rattle.math.specs.Held.{HeldVec}
 use borrow.Author.Rules.{rules}
 use Rattle.contributions.proofs.put_vector.Goals as goal
+use Rattle.contributions.proofs.put_vector.Tie as tie
+use Rattle.contributions.proofs.put_vector.Lts as lts
+use Rattle.contributions.proofs.put_vector.Reads as reads
+
+abbrev At-Start : Type 0
+At-Start = lts.Start tie.the-claims reads.Pre reads.Post
 
 -- the parameter's numbers are of single precision
-held : (c : goal.Start) → HeldVec c.args.v
+held : (c : At-Start) → HeldVec c.args.v
 held c = record { x_held = search rules; y_held = search rules; z_held = search rules }
 
 pub returns : goal.returns
-returns c = (cc, held c)
+returns c = (cc, held c.before.before.before.before)

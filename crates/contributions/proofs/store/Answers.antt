@@ -11,8 +11,14 @@ use lib.ListN.{set, length-set}
 use Rattle.contributions.proofs.Laws.{stored-as}
 use borrow.Author.Rules.{rules}
 use Rattle.contributions.proofs.store.Goals as goal
+use Rattle.contributions.proofs.store.Tie as tie
+use Rattle.contributions.proofs.store.Lts as lts
+use Rattle.contributions.proofs.store.Reads as reads
 
-held : (c : goal.Start) → T (fits binary32 c.args.opening)
+abbrev At-Start : Type 0
+At-Start = lts.Start tie.the-claims reads.Pre reads.Post
+
+held : (c : At-Start) → T (fits binary32 c.args.opening)
 held c = search rules
 
 pub shape_of-work : goal.shape_of-work
@@ -20,9 +26,9 @@ shape_of-work c = simp length-set (omega arith)
 
 pub returns : goal.returns
 returns c =
-    let s = c in
-    let p = c in
-    let q = c in
+    let s = c.before.before.before.before.before.before.before.before.before.before in
+    let p = c.before.before.before.before.before.before.before in
+    let q = c.before.before.before in
     let a = s.args in
     let n = a.rows in
     let r = a.r in

@@ -10,5 +10,5 @@ returns-then-missing-ne0 c = (sym (missed-later _ _ c.if-missing-ne0.true), omeg
 pub returns-then-first-eq0 : goal.returns-then-first-eq0
 returns-then-first-eq0 c = (omega (arith, c.if-first-eq0.true, missed_first c.args.first _ c.if-missing-ne0.false), omega arith)
 
-returns-then-missing-ne0 : goal.returns
-returns-then-missing-ne0 c = (omega (arith, missed_first c.args.first _ c.if-missing-ne0.false), omega (arith, c.requires.0))
+pub returns : goal.returns
+returns c = (omega (arith, missed_first c.args.first _ c.if-missing-ne0.false), omega (arith, c.requires.0))

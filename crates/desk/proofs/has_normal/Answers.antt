@@ -10,6 +10,6 @@ pub returns-then-not_zero-2 : goal.returns-then-not_zero-2
 unfolding has_normal
 returns-then-not_zero-2 c = rw (← c.not_zero.ensures, c.if-not_zero.false, ← c.not_zero-2.ensures, c.if-not_zero-2.true)
 
-returns-then-not_zero : goal.returns
+pub returns : goal.returns
 unfolding has_normal
-returns-then-not_zero c = rw (← c.not_zero.ensures, c.if-not_zero.false, ← c.not_zero-2.ensures, c.if-not_zero-2.false, ← c.not_zero-3.ensures)
+returns c = rw (← c.not_zero.ensures, c.if-not_zero.false, ← c.not_zero-2.ensures, c.if-not_zero-2.false, ← c.not_zero-3.ensures)

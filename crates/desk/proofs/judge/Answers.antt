@@ -11,112 +11,139 @@ use Rattle.desk.specs.Verdict.{said, found, lent_number, threshold_number, said_
 use Rattle.desk.proofs.Bad.{at-corner, no-corner, corner-number, seven-or-none}
 use Rattle.desk.proofs.Telling.{IsMany, IsMisfit, IsFinite, Lowest, Bare, many, few, fits, row1, row2, third, not_third, row4, row7, rows56, lent-number}
 use Rattle.desk.proofs.judge.Goals as goal
+use Rattle.desk.proofs.judge.Tie as tie
+use Rattle.desk.proofs.judge.Lts as lts
+use Rattle.desk.proofs.judge.Reads as reads
+
+abbrev At-After-shared_slice_known-4-1 : Type 0
+At-After-shared_slice_known-4-1 = lts.After-shared_slice_known4 tie.the-claims reads.Pre reads.Post
+
+abbrev At-Else-sizes-gt-FACE_LIMIT : Type 0
+At-Else-sizes-gt-FACE_LIMIT = lts.Else1 tie.the-claims reads.Pre reads.Post
+
+abbrev At-After-unfit : Type 0
+At-After-unfit = lts.After-unfit tie.the-claims reads.Pre reads.Post
+
+abbrev At-Else-unfit : Type 0
+At-Else-unfit = lts.Else2 tie.the-claims reads.Pre reads.Post
+
+abbrev At-After-lent-lists : Type 0
+At-After-lent-lists = lts.After-lent tie.the-claims reads.Pre reads.Post
+
+abbrev At-Else-third-ne0 : Type 0
+At-Else-third-ne0 = lts.Else3 tie.the-claims reads.Pre reads.Post
+
+abbrev At-Else-four-ne0 : Type 0
+At-Else-four-ne0 = lts.Else4 tie.the-claims reads.Pre reads.Post
+
+abbrev At-Else-seven-ne0 : Type 0
+At-Else-seven-ne0 = lts.Else5 tie.the-claims reads.Pre reads.Post
 
 -- what was asked, where the tests begin
-abbrev asked : goal.After-shared_slice_known-4-1 → Shown
+abbrev asked : At-After-shared_slice_known-4-1 → Shown
 asked c =
     let a = c.before.before.before.before.args in
     shown (handed a.sizes.now a.positions.now a.normals.now a.texture.now) a.threshold a.answer a.work
 
 -- row 1 does not apply
-not-many : (c : goal.Else-sizes-gt-FACE_LIMIT) → IsMany (asked c) false
-not-many c = few (asked c) (omega (arith, c.if-sizes-gt-FACE_LIMIT.false))
+not-many : (c : At-Else-sizes-gt-FACE_LIMIT) → IsMany (asked c.before) false
+not-many c = few (asked c.before) (omega (arith, c.if-sizes-gt-FACE_LIMIT.false))
 
 pub returns-then-sizes-gt-FACE_LIMIT : goal.returns-then-sizes-gt-FACE_LIMIT
-returns-then-sizes-gt-FACE_LIMIT c = let q = asked c in c.said.ensures ∙ row1 q (many q (omega (arith, c.if-sizes-gt-FACE_LIMIT.true)))
+returns-then-sizes-gt-FACE_LIMIT c = let q = asked c.before.before in c.said.ensures ∙ row1 q (many q (omega (arith, c.if-sizes-gt-FACE_LIMIT.true)))
 
 -- what the test of row 2 tells
-misfit-is : (c : goal.After-unfit) → IsMisfit (asked c) c.unfit.result
-misfit-is c = fits (asked c) c.look_over-seen.result.corners c.look_over-seen.ensures.0 ∙ sym c.unfit.ensures
+misfit-is : (c : At-After-unfit) → IsMisfit (asked c.before.before.before) c.unfit.result
+misfit-is c = fits (asked c.before.before.before) c.look_over-seen.result.corners c.look_over-seen.ensures.0 ∙ sym c.unfit.ensures
 
 -- nor does row 2
-not-misfit : (c : goal.Else-unfit) → IsMisfit (asked c) false
-not-misfit c = misfit-is c ∙ c.if-unfit.false
+not-misfit : (c : At-Else-unfit) → IsMisfit (asked c.before.before.before.before) false
+not-misfit c = misfit-is c.before ∙ c.if-unfit.false
 
 pub returns-then-unfit : goal.returns-then-unfit
 returns-then-unfit c =
-    let t = c in
-    let e = t in
-    c.said-then-unfit.ensures ∙ row2 (asked e) (not-many e) (misfit-is t ∙ t.if-unfit.true)
+    let t = c.before in
+    let e = t.before.before.before in
+    c.said-then-unfit.ensures ∙ row2 (asked e.before) (not-many e) (misfit-is t.before ∙ t.if-unfit.true)
 
 -- ---- the tests of the other rows, all of them made
 
-abbrev shown_to : goal.After-lent-lists → Shown
+abbrev shown_to : At-After-lent-lists → Shown
 shown_to e = asked e.before.before.before.before.before.before.before.before
 
-third-is : (e : goal.After-lent-lists) → e.unfit_threshold-third.result ≡ threshold_number (shown_to e).threshold
+third-is : (e : At-After-lent-lists) → e.unfit_threshold-third.result ≡ threshold_number (shown_to e).threshold
 third-is e = e.unfit_threshold-third.ensures
 
-fourth-is : (e : goal.After-lent-lists) → e.Said-at.result ≡ said_at 4 (found (not_finite (shown_to e).mesh))
+fourth-is : (e : At-After-lent-lists) → e.Said-at.result ≡ said_at 4 (found (not_finite (shown_to e).mesh))
 fourth-is e = e.Said-at.ensures ∙ ap (said_at 4) e.look_over-seen.ensures.2
 
-seventh-is : (e : goal.After-lent-lists) → e.said_at-seventh.result ≡ said_at 7 (found (no_normal (shown_to e).mesh))
+seventh-is : (e : At-After-lent-lists) → e.said_at-seventh.result ≡ said_at 7 (found (no_normal (shown_to e).mesh))
 seventh-is e = e.said_at-seventh.ensures ∙ ap (said_at 7) e.look_over-seen.ensures.3
 
-lists-is : (e : goal.After-lent-lists) → let q = shown_to e in e.lent-lists.result ≡ lent_number (slot_count q.mesh.sizes) (length q.mesh.sizes) q.answer q.work
+lists-is : (e : At-After-lent-lists) → let q = shown_to e in e.lent-lists.result ≡ lent_number (slot_count q.mesh.sizes) (length q.mesh.sizes) q.answer q.work
 lists-is e =
     let q = shown_to e in
     e.lent-lists.ensures ∙ ap (λ (k : ℕ). lent_number k (length q.mesh.sizes) q.answer q.work) e.look_over-seen.ensures.1
 
 -- what numbers they have
-four-small : (e : goal.After-lent-lists) → e.Said-at.result.number ≤ 4
+four-small : (e : At-After-lent-lists) → e.Said-at.result.number ≤ 4
 four-small e = corner-number 4 _ _ (fourth-is e)
 
-seven-small : (e : goal.After-lent-lists) → e.said_at-seventh.result.number ≤ 7
+seven-small : (e : At-After-lent-lists) → e.said_at-seventh.result.number ≤ 7
 seven-small e = corner-number 7 _ _ (seventh-is e)
 
-seven-only : (e : goal.After-lent-lists) → e.said_at-seventh.result.number % 7 ≡ 0
+seven-only : (e : At-After-lent-lists) → e.said_at-seventh.result.number % 7 ≡ 0
 seven-only e = seven-or-none _ _ (seventh-is e)
 
-lists-small : (e : goal.After-lent-lists) → e.lent-lists.result ≤ 6
+lists-small : (e : At-After-lent-lists) → e.lent-lists.result ≤ 6
 lists-small e = lent-number _ _ _ _ _ (lists-is e)
 
 -- rows 1 and 2 do not apply
-few-faces : (e : goal.After-lent-lists) → IsMany (shown_to e) false
-few-faces e = not-many e
+few-faces : (e : At-After-lent-lists) → IsMany (shown_to e) false
+few-faces e = not-many e.before.before.before.before.before.before.before
 
-all_fit : (e : goal.After-lent-lists) → IsMisfit (shown_to e) false
-all_fit e = not-misfit e
+all_fit : (e : At-After-lent-lists) → IsMisfit (shown_to e) false
+all_fit e = not-misfit e.before.before.before.before
 
 -- ---- the first that applies
 
 -- row 3 does not
-finite-threshold : (c : goal.Else-third-ne0) → IsFinite (shown_to c) true
-finite-threshold c = let e = c in not_third (shown_to e) e.unfit_threshold-third.result (third-is e) (omega (arith, c.if-third-ne0.false, four-small e))
+finite-threshold : (c : At-Else-third-ne0) → IsFinite (shown_to c.before) true
+finite-threshold c = let e = c.before in not_third (shown_to e) e.unfit_threshold-third.result (third-is e) (omega (arith, c.if-third-ne0.false, four-small e))
 
 pub returns-then-third-ne0 : goal.returns-then-third-ne0
 returns-then-third-ne0 c =
-    let t = c in
-    let e = t in
+    let t = c.before in
+    let e = t.before in
     c.said-then-third-ne0.ensures ∙ third (shown_to e) e.unfit_threshold-third.result (third-is e) (λ z. omega (arith, z, t.if-third-ne0.true)) (few-faces e) (all_fit e)
 
 -- nor does row 4
-none-bad : (c : goal.Else-four-ne0) → Lowest (shown_to c) none
-none-bad c = let e = c in no-corner 3 _ e.Said-at.result (fourth-is e) (omega (arith, c.if-four-ne0.false, seven-small e))
+none-bad : (c : At-Else-four-ne0) → Lowest (shown_to c.before.before) none
+none-bad c = let e = c.before.before in no-corner 3 _ e.Said-at.result (fourth-is e) (omega (arith, c.if-four-ne0.false, seven-small e))
 
 pub returns-then-four-ne0 : goal.returns-then-four-ne0
 returns-then-four-ne0 c =
-    let d = c in
-    let e = d in
+    let d = c.before in
+    let e = d.before in
     let r = at-corner 4 _ e.Said-at.result (fourth-is e) (λ z. omega (arith, z, c.if-four-ne0.true)) in
     r.2 ∙ row4 (shown_to e) (few-faces e) (all_fit e) (finite-threshold d) r.0 r.1
 
 -- nor does row 7
-none_bare : (c : goal.Else-seven-ne0) → Bare (shown_to c) none
-none_bare c = let e = c in no-corner 6 _ e.said_at-seventh.result (seventh-is e) (omega (arith, c.if-seven-ne0.false, seven-small e, seven-only e, lists-small e))
+none_bare : (c : At-Else-seven-ne0) → Bare (shown_to c.before.before.before) none
+none_bare c = let e = c.before.before.before in no-corner 6 _ e.said_at-seventh.result (seventh-is e) (omega (arith, c.if-seven-ne0.false, seven-small e, seven-only e, lists-small e))
 
 pub returns-then-seven-ne0 : goal.returns-then-seven-ne0
 returns-then-seven-ne0 c =
-    let b = c in
-    let d = b in
-    let e = d in
+    let b = c.before in
+    let d = b.before in
+    let e = d.before in
     let r = at-corner 7 _ e.said_at-seventh.result (seventh-is e) (λ z. omega (arith, z, c.if-seven-ne0.true)) in
     r.2 ∙ row7 (shown_to e) (few-faces e) (all_fit e) (finite-threshold d) (none-bad b) r.0 r.1
 
-returns-then-sizes-gt-FACE_LIMIT : goal.returns
-returns-then-sizes-gt-FACE_LIMIT c =
-    let l = c in
-    let b = l in
-    let d = b in
-    let e = d in
+pub returns : goal.returns
+returns c =
+    let l = c.before in
+    let b = l.before in
+    let d = b.before in
+    let e = d.before in
     c.said-2.ensures ∙ ap (λ (n : ℕ). said n 0) (lists-is e) ∙ rows56 (shown_to e) (few-faces e) (all_fit e) (finite-threshold d) (none-bad b) (none_bare l)

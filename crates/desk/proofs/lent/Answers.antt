@@ -34,8 +34,8 @@ returns-then-work-sizes c =
     let t = c.if-work-sizes.true in
     number_is _ a.slots (length a.sizes.now) a.answer a.work (λ h. omega (arith, h, l, t)) (λ g h. omega (arith, g, h, l, t)) (λ g h. omega (arith, g, h, l, t))
 
-returns-then-answer-slots : goal.returns
-returns-then-answer-slots c =
+pub returns : goal.returns
+returns c =
     let a = c.args in
     let l = c.if-answer-slots.false in
     let t = c.if-work-sizes.false in

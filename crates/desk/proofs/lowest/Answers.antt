@@ -10,6 +10,6 @@ pub returns-then-fine : goal.returns-then-fine
 unfolding found unless_found
 returns-then-fine c = rw (c.in_default.is, c.if-fine.true)
 
-returns-in-At : goal.returns
+pub returns : goal.returns
 unfolding found unless_found
-returns-in-At c = rw (c.in_default.is, c.if-fine.false)
+returns c = rw (c.in_default.is, c.if-fine.false)

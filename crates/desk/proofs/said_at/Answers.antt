@@ -7,6 +7,6 @@ pub returns-in-At : goal.returns-in-At
 unfolding said_at
 returns-in-At c = c.said.ensures ∙ ap (said_at c.args.number) (sym c.in-At.is)
 
-returns-in-At : goal.returns
+pub returns : goal.returns
 unfolding said_at
-returns-in-At c = c.said-2.ensures ∙ ap (said_at c.args.number) (sym c.in_default.is)
+returns c = c.said-2.ensures ∙ ap (said_at c.args.number) (sym c.in_default.is)

@@ -7,6 +7,6 @@ pub returns-then-is_finite : goal.returns-then-is_finite
 unfolding threshold_number
 returns-then-is_finite c = simp (sym c.is_finite.ensures ∙ c.if-is_finite.true)
 
-returns-then-is_finite : goal.returns
+pub returns : goal.returns
 unfolding threshold_number
-returns-then-is_finite c = simp (sym c.is_finite.ensures ∙ c.if-is_finite.false)
+returns c = simp (sym c.is_finite.ensures ∙ c.if-is_finite.false)

@@ -12,47 +12,53 @@ use Rattle.laws.proofs.Verdict.{Fine, fine}
 use Rattle.mikktspace.specs.Alone.{longest_answer as longest}
 use Rattle.examine.proofs.Columns.{decides, cleared, linked-fit, sharp-left}
 use Rattle.examine.proofs.decide.Goals as goal
+use Rattle.examine.proofs.decide.Tie as tie
+use Rattle.examine.proofs.decide.Lts as lts
+use Rattle.examine.proofs.decide.Reads as reads
+
+abbrev At-Start : Type 0
+At-Start = lts.Start tie.the-claims reads.Pre reads.Post
 
 -- what holds of the lists
-known : (s : goal.Start) → let t = s.args in Fine (shown (handed t.sizes.now t.positions.now t.normals.now t.texture.now) zeroᶠ longest (length t.work.now))
+known : (s : At-Start) → let t = s.args in Fine (shown (handed t.sizes.now t.positions.now t.normals.now t.texture.now) zeroᶠ longest (length t.work.now))
 known s = let t = s.args in fine (shown (handed t.sizes.now t.positions.now t.normals.now t.texture.now) zeroᶠ longest (length t.work.now)) s.requires
 
-room : (s : goal.Start) → columns * rows_of (length s.args.sizes.now) ≤ length s.args.work.now
+room : (s : At-Start) → columns * rows_of (length s.args.sizes.now) ≤ length s.args.work.now
 room s = omega (arith, (known s).work-fits)
 
 pub overflow_mul-rows : goal.overflow_mul-rows
-overflow_mul-rows c = let s = c in omega (arith, (known s).few)
+overflow_mul-rows c = let s = c.before.before.before.before.before.before.before.before in omega (arith, (known s).few)
 
 pub link_mesh-counts-requires : goal.link_mesh-counts-requires
-link_mesh-counts-requires c = let s = c in ((known s).few, room s)
+link_mesh-counts-requires c = let s = c.before.before.before.before.before.before.before.before.before in ((known s).few, room s)
 
 pub examine_all-o-requires : goal.examine_all-o-requires
 examine_all-o-requires c =
-    let m = c in
-    let s = m in
+    let m = c.before.before.before in
+    let s = m.before.before.before.before.before.before.before.before.before.before in
     let t = s.args in
     let K = m.link_mesh-counts.ensures in
-    (linked-fit _ _ _ _ _ K, omega (arith, room s, K.only.size), omega (arith, (known s).few), sharp-left (handed t.sizes.now t.positions.now t.normals.now t.texture.now) (some-triangle (corner_at t.positions.now t.normals.now t.texture.now 0)) _ _ t.work.now _ K (known s).well-formed)
+    (linked-fit _ _ _ _ _ K, omega (arith, room s, K.only.size), omega (arith, (known s).few), sharp-left (handed t.sizes.now t.positions.now t.normals.now t.texture.now) (some-triangle (corner_at t.positions.now t.normals.now t.texture.now 0)) _ _ t.work.now _ K (known s).well_formed)
 
 pub overflow_mul-sizes : goal.overflow_mul-sizes
 overflow_mul-sizes c =
-    let s = c in
+    let s = c.before.before.before.before.before.before.before.before.before.before.before.before.before.before.before.before.before in
     omega (arith, (known s).few)
 
 pub clear_first-requires : goal.clear_first-requires
 clear_first-requires c =
-    let e = c in
-    let m = e in
-    let s = m in
+    let e = c.before.before.before in
+    let m = e.before.before.before.before in
+    let s = m.before.before.before.before.before.before.before.before.before.before in
     omega (arith, (known s).work-fits, m.link_mesh-counts.ensures.only.size, e.examine_all-o.ensures.1.size)
 
 pub returns : goal.returns
 returns c =
-    let y = c in
-    let e = y in
-    let m = e in
-    let s = m in
+    let y = c.before.before in
+    let e = y.before.before.before.before in
+    let m = e.before.before.before.before in
+    let s = m.before.before.before.before.before.before.before.before.before.before in
     let t = s.args in
     let K = m.link_mesh-counts.ensures in
     let r = e.examine_all-o.ensures in
-    (decides (handed t.sizes.now t.positions.now t.normals.now t.texture.now) _ _ t.work.now _ t.given.now t.groups.now t.ways.now _ _ K (known s).well-formed r.0, cleared t.sizes.now t.work.now _ _ (r.1.rest ∙ K.only.rest) y.clear_first.ensures)
+    (decides (handed t.sizes.now t.positions.now t.normals.now t.texture.now) _ _ t.work.now _ t.given.now t.groups.now t.ways.now _ _ K (known s).well_formed r.0, cleared t.sizes.now t.work.now _ _ (r.1.rest ∙ K.only.rest) y.clear_first.ensures)

@@ -13,6 +13,6 @@ pub returns-then-groups-faces : goal.returns-then-groups-faces
 unfolding too_short
 returns-then-groups-faces c = simp (le-ltb _ _ c.if-links-faces.false, lt-ltb _ _ c.if-groups-faces.true)
 
-returns-then-links-faces : goal.returns
+pub returns : goal.returns
 unfolding too_short
-returns-then-links-faces c = simp (le-ltb _ _ c.if-links-faces.false, le-ltb _ _ c.if-groups-faces.false)
+returns c = simp (le-ltb _ _ c.if-links-faces.false, le-ltb _ _ c.if-groups-faces.false)

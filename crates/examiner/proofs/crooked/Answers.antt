@@ -7,5 +7,5 @@ use Rattle.examiner.proofs.crooked.Goals as goal
 pub returns-then-word-eq0 : goal.returns-then-word-eq0
 returns-then-word-eq0 c = told-not (not-crooked _ _ _ _ _ c.word_at-word.ensures c.if-word-eq0.true)
 
-returns-then-word-eq0 : goal.returns
-returns-then-word-eq0 c = crooked-tells _ _ _ _ _ _ c.word_at-word.ensures c.if-word-eq0.false (omega (arith, c.word_at-word.ensures, c.requires.5)) c.unlike.ensures
+pub returns : goal.returns
+returns c = crooked-tells _ _ _ _ _ _ c.word_at-word.ensures c.if-word-eq0.false (omega (arith, c.word_at-word.ensures, c.requires.5)) c.unlike.ensures

@@ -7,14 +7,20 @@ use Rattle.view.proofs.Frame.{only_none}
 use Rattle.asked.proofs.Rows.{all-passed}
 use Rattle.examiner.proofs.Stages.{on-wide, on-crooked, on-one-sided, on-left-over, on_none}
 use Rattle.examiner.proofs.examine_links.Goals as goal
+use Rattle.examiner.proofs.examine_links.Tie as tie
+use Rattle.examiner.proofs.examine_links.Lts as lts
+use Rattle.examiner.proofs.examine_links.Reads as reads
 
-module _ (s : goal.Start) where
+abbrev At-Start : Type 0
+At-Start = lts.Start tie.the-claims reads.Pre reads.Post
+
+module _ (s : At-Start) where
   abbrev vertex : ℕ → ℕ
   vertex x = cell s.args.rows vertex_column x s.args.work.now
 
 pub returns-then-a-n : goal.returns-then-a-n
 returns-then-a-n c =
-    let s = c in
+    let s = c.before.before.before.before.before in
     let a = s.args in
     (on-wide a.tris (vertex s) a.given.now _ _ _ c.first_wide-a.ensures c.if-a-n.true c.said.ensures.0 c.said.ensures.1, only_none _ _ _)
 
@@ -25,7 +31,7 @@ first_crooked-b-requires c =
 
 pub returns-then-b-n : goal.returns-then-b-n
 returns-then-b-n c =
-    let s = c in
+    let s = c.before.before.before.before.before.before.before.before in
     let a = s.args in
     (on-crooked a.tris (vertex s) a.given.now _ _ _ c.first_wide-a.ensures c.if-a-n.false _ c.first_crooked-b.ensures c.if-b-n.true c.said-then-b-n.ensures.0 c.said-then-b-n.ensures.1, only_none _ _ _)
 
@@ -36,20 +42,20 @@ first_one_sided-c-requires c =
 
 pub returns-then-c-n : goal.returns-then-c-n
 returns-then-c-n c =
-    let s = c in
+    let s = c.before.before.before.before.before.before.before.before.before.before in
     let a = s.args in
     (on-one-sided a.tris (vertex s) a.given.now _ _ _ c.first_wide-a.ensures c.if-a-n.false _ c.first_crooked-b.ensures c.if-b-n.false _ c.first_one_sided-c.ensures c.if-c-n.true c.said-then-c-n.ensures.0 c.said-then-c-n.ensures.1, only_none _ _ _)
 
 pub returns-then-d-n : goal.returns-then-d-n
 returns-then-d-n c =
-    let l = c in
-    let s = l in
+    let l = c.before.before.before.before in
+    let s = l.before.before.before.before.before.before.before.before.before.before.before in
     let a = s.args in
     (on-left-over a.tris (vertex s) a.given.now _ _ _ l.first_wide-a.ensures l.if-a-n.false _ l.first_crooked-b.ensures l.if-b-n.false _ l.first_one_sided-c.ensures l.if-c-n.false _ l.first_left-d.ensures.0 (omega (arith, c.if-d-n.true)) c.said-then-d-n.ensures.0 c.said-then-d-n.ensures.1, l.first_left-d.ensures.1)
 
-returns-then-a-n : goal.returns
-returns-then-a-n c =
-    let l = c in
-    let s = l in
+pub returns : goal.returns
+returns c =
+    let l = c.before.before.before.before in
+    let s = l.before.before.before.before.before.before.before.before.before.before.before in
     let a = s.args in
     (on_none a.tris (vertex s) a.given.now _ _ _ l.first_wide-a.ensures l.if-a-n.false _ l.first_crooked-b.ensures l.if-b-n.false _ l.first_one_sided-c.ensures l.if-c-n.false _ l.first_left-d.ensures.0 (omega (arith, c.if-d-n.false)) c.said-2.ensures.0 c.said-2.ensures.1, l.first_left-d.ensures.1)

@@ -9,7 +9,7 @@ loop-r-init c = (omega arith, none-zero _)
 
 pub one_sided-requires : goal.one_sided-requires
 one_sided-requires c =
-    let s = c in
+    let s = c.before.before.before in
     (c.loop-r-test.true, s.requires.0, s.requires.1, not-lt _ _ (s.requires.2 _ c.loop-r-test.true))
 
 pub returns-then-one_sided : goal.returns-then-one_sided
@@ -23,5 +23,5 @@ loop-r-preserved c =
     let l = c.loop-r in
     (omega (arith, c.loop-r-test.true), none_more _ l.r l.invariant.1 (c.one_sided.ensures.fails c.if-one_sided.false))
 
-returns-then-one_sided : goal.returns
-returns-then-one_sided c = let l = c.loop-r in lowest-end _ _ l.r l.invariant.0 c.loop-r-test.false l.invariant.1
+pub returns : goal.returns
+returns c = let l = c.loop-r in lowest-end _ _ l.r l.invariant.0 c.loop-r-test.false l.invariant.1

@@ -23,5 +23,5 @@ loop-r-preserved c =
     let l = c.loop-r in
     (omega (arith, c.loop-r-test.true), none_more _ l.r l.invariant.1 (λ p. omega (arith, p, c.if-n-word_at.false, c.word_at.ensures)))
 
-returns-then-n-word_at : goal.returns
-returns-then-n-word_at c = let l = c.loop-r in lowest-end _ _ l.r l.invariant.0 c.loop-r-test.false l.invariant.1
+pub returns : goal.returns
+returns c = let l = c.loop-r in lowest-end _ _ l.r l.invariant.0 c.loop-r-test.false l.invariant.1

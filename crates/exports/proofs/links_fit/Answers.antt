@@ -17,5 +17,5 @@ returns-then-tris-work c = λ e. absurd (false≢true e)
 pub loop-r-preserved : goal.loop-r-preserved
 loop-r-preserved c = (omega arith, below_more _ _ c.loop-r.invariant.1 c.if-tris-work.false)
 
-returns-then-tris-work : goal.returns
-returns-then-tris-work c = λ e r h. c.loop-r.invariant.1 r (omega arith)
+pub returns : goal.returns
+returns c = λ e r h. c.loop-r.invariant.1 r (omega arith)

@@ -18,5 +18,5 @@ returns-then-rows-tris-2 c = λ e. absurd (false≢true e)
 pub returns-then-work-rows : goal.returns-then-work-rows
 returns-then-work-rows c = λ e. absurd (false≢true e)
 
-returns-then-most-rows : goal.returns
-returns-then-most-rows c = λ e. (omega arith, omega arith, omega arith, c.links_fit.ensures e)
+pub returns : goal.returns
+returns c = λ e. (omega arith, omega arith, omega arith, c.links_fit.ensures e)

@@ -17,7 +17,7 @@ returns-then-c-tris c =
     let t = c.args in
     on-parted t.rows t.tris t.work.now t.groups.now t.ways.now _ _ t.given.now _ c.first_unlike-a.ensures c.if-a-tris.false _ c.first_unlike-b.ensures c.if-b-tris.false _ c.first_parted-c.ensures c.if-c-tris.true c.said-then-c-tris.ensures.0 c.said-then-c-tris.ensures.1
 
-returns-then-a-tris : goal.returns
-returns-then-a-tris c =
+pub returns : goal.returns
+returns c =
     let t = c.args in
     on-beside t.rows t.tris t.work.now t.groups.now t.ways.now _ _ t.given.now _ c.first_unlike-a.ensures c.if-a-tris.false _ c.first_unlike-b.ensures c.if-b-tris.false _ c.first_parted-c.ensures c.if-c-tris.false c.said-2.ensures.0 c.said-2.ensures.1

@@ -18,7 +18,7 @@ returns-then-c-tris c =
     let t = c.args in
     on-loose t.rows t.tris t.work.now t.groups.now t.ways.now _ _ _ c.first_no_flag-a.ensures c.if-a-tris.false _ c.first_turned-b.ensures c.if-b-tris.false _ c.first_loose-c.ensures c.if-c-tris.true c.said-then-c-tris.ensures.0 c.said-then-c-tris.ensures.1
 
-returns-then-a-tris : goal.returns
-returns-then-a-tris c =
+pub returns : goal.returns
+returns c =
     let t = c.args in
     on-words t.rows t.tris t.work.now t.groups.now t.ways.now _ _ _ c.first_no_flag-a.ensures c.if-a-tris.false _ c.first_turned-b.ensures c.if-b-tris.false _ c.first_loose-c.ensures c.if-c-tris.false c.said-2.ensures.0 c.said-2.ensures.1

@@ -23,5 +23,5 @@ loop-t-preserved c =
     let l = c.loop-t in
     (omega (arith, c.loop-t-test.true), none_more _ l.t l.invariant.1 (λ p. omega (arith, p, c.if-word_at-gt1.false, c.word_at.ensures)))
 
-returns-then-word_at-gt1 : goal.returns
-returns-then-word_at-gt1 c = let l = c.loop-t in lowest-end _ _ l.t l.invariant.0 c.loop-t-test.false l.invariant.1
+pub returns : goal.returns
+returns c = let l = c.loop-t in lowest-end _ _ l.t l.invariant.0 c.loop-t-test.false l.invariant.1

@@ -9,7 +9,7 @@ returns-then-any_at-ne0 c = told-not (λ k. c.if-any_at-ne0.true (c.any_at.ensur
 pub returns-then-word_at-ne0 : goal.returns-then-word_at-ne0
 returns-then-word_at-ne0 c = told-not (λ k. c.if-word_at-ne0.true (c.word_at.ensures ∙ k.free))
 
-returns-then-any_at-ne0 : goal.returns
-returns-then-any_at-ne0 c =
-    let e = c in
+pub returns : goal.returns
+returns c =
+    let e = c.before.before in
     told (record { firm = sym e.any_at.ensures ∙ e.if-any_at-ne0.false; free = sym c.word_at.ensures ∙ c.if-word_at-ne0.false })

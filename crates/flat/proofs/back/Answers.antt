@@ -10,9 +10,9 @@ pub returns-then-stored-eq0 : goal.returns-then-stored-eq0
 unfolding back
 returns-then-stored-eq0 c = simp (eq-eqb _ _ c.if-stored-eq0.true)
 
-returns-then-stored-eq0 : goal.returns
+pub returns : goal.returns
 unfolding back
-returns-then-stored-eq0 c =
+returns c =
     let a = c.args in
     let made : ℕ → Going = λ x. record { side = x; left = a.stored; count = a.count } in
     simp (ne_eqb _ _ c.if-stored-eq0.false) (ap made c.wide-side.ensures)

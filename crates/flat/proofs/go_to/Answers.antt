@@ -9,13 +9,13 @@ use Rattle.flat.proofs.go_to.Goals as goal
 below : (c : goal.In-At) → c.in-At.i < 3
 below c =
     let enter = c.enter_at in
-    let start = c in
+    let start = c.before.before.before.before.before.before.before.before in
     corner-below _ _ _ _ _ _ _ _ start.requires.0 start.requires.1 _ _ enter.ensures.0 enter.ensures.1 _ c.in-At.is
 
 pub returns-in_default : goal.returns-in_default
 returns-in_default c =
     let enter = c.enter_at in
-    let start = c in
+    let start = c.before.before.before.before.before.before.before.before.before in
     goes_back _ _ _ _ _ _ _ _ _ start.requires.0 start.requires.1 start.requires.2 _ _ enter.ensures.0 enter.ensures.1 _ c.in_default.is c.back.ensures
 
 pub overflow_add-work : goal.overflow_add-work
@@ -27,8 +27,8 @@ overflow_cast-work c = omega (arith, below c, c.requires.1.fits, c.requires.1.fe
 pub overflow_add-result : goal.overflow_add-result
 overflow_add-result c = omega (arith, below c)
 
-returns-in_default : goal.returns
-returns-in_default c =
+pub returns : goal.returns
+returns c =
     let enter = c.enter_at in
-    let start = c in
+    let start = c.before.before.before.before.before.before.before.before in
     goes_to _ _ _ _ _ _ _ _ _ start.requires.0 start.requires.1 start.requires.2 _ _ enter.ensures.0 enter.ensures.1 _ c.in-At.is _ _ _ _ (omega (arith, below c)) (omega arith) (omega arith) (omega (arith, below c))

@@ -16,6 +16,6 @@ pub returns-then-work-rows-3 : goal.returns-then-work-rows-3
 unfolding corner_of
 returns-then-work-rows-3 c = (simp (ne_eqb _ _ c.if-work-rows.false, ne_eqb _ _ c.if-work-rows-2.false, eq-eqb _ _ c.if-work-rows-3.true), omega arith)
 
-returns-then-work-rows : goal.returns
+pub returns : goal.returns
 unfolding corner_of
-returns-then-work-rows c = (simp (ne_eqb _ _ c.if-work-rows.false, ne_eqb _ _ c.if-work-rows-2.false, ne_eqb _ _ c.if-work-rows-3.false), omega arith)
+returns c = (simp (ne_eqb _ _ c.if-work-rows.false, ne_eqb _ _ c.if-work-rows-2.false, ne_eqb _ _ c.if-work-rows-3.false), omega arith)

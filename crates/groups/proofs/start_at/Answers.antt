@@ -23,7 +23,7 @@ returns-then-work-rows-ne0-2 c =
 
 pub corner_step-n-requires : goal.corner_step-n-requires
 corner_step-n-requires c =
-    let start = c in
+    let start = c.before.before.before.before.before.before.before.before in
     (omega arith, ready-begun _ _ _ _ _ _ _ (omega (arith, start.requires.2.fits)) start.requires.2)
 
 pub shape_of-work : goal.shape_of-work
@@ -31,10 +31,10 @@ shape_of-work c =
     let a = c.args in
     c.corner_step-n.auto.work ∙ length-set a.work.now (begin_column * a.rows + a.s.groups) a.s.members
 
-returns-then-work-rows-ne0 : goal.returns
+pub returns : goal.returns
 unfolding turn
-returns-then-work-rows-ne0 c =
-    let start = c in
+returns c =
+    let start = c.before.before.before.before.before.before.before.before.before.before.before in
     let a = start.args in
     let R = start.requires.2 in
     let step = c.corner_step-n in

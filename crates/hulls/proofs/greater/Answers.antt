@@ -11,6 +11,6 @@ pub returns-then-a-x : goal.returns-then-a-x
 unfolding greater
 returns-then-a-x c = simp (c.if-x-a.false, c.if-a-x.true)
 
-returns-then-x-a : goal.returns
+pub returns : goal.returns
 unfolding greater of_bits div neg
-returns-then-x-a c = simp (c.if-x-a.false, c.if-a-x.false)
+returns c = simp (c.if-x-a.false, c.if-a-x.false)

@@ -11,6 +11,6 @@ pub returns-then-x-a : goal.returns-then-x-a
 unfolding lesser
 returns-then-x-a c = simp (c.if-a-x.false, c.if-x-a.true)
 
-returns-then-a-x : goal.returns
+pub returns : goal.returns
 unfolding lesser of_bits div neg
-returns-then-a-x c = simp (c.if-a-x.false, c.if-x-a.false)
+returns c = simp (c.if-a-x.false, c.if-x-a.false)

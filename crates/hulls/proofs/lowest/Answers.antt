@@ -10,6 +10,6 @@ pub returns-then-lo : goal.returns-then-lo
 unfolding lowest
 returns-then-lo c = simp (c.if-lo.true, c.if-hi.false)
 
-returns-then-hi : goal.returns
+pub returns : goal.returns
 unfolding lowest
-returns-then-hi c = simp c.if-lo.false
+returns c = simp c.if-lo.false

@@ -6,5 +6,5 @@ use Rattle.labels.proofs.counted.Goals as goal
 pub returns-then-label-face : goal.returns-then-label-face
 returns-then-label-face c = let a = c.args in rw (eq-eqb a.label a.face (omega (arith, c.if-label-face.true)))
 
-returns-then-label-face : goal.returns
-returns-then-label-face c = let a = c.args in rw (ne_eqb a.label a.face (omega (arith, c.if-label-face.false))) (omega arith)
+pub returns : goal.returns
+returns c = let a = c.args in rw (ne_eqb a.label a.face (omega (arith, c.if-label-face.false))) (omega arith)

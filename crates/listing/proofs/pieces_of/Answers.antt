@@ -12,6 +12,6 @@ pub returns-then-size-eq4 : goal.returns-then-size-eq4
 unfolding pieces_of
 returns-then-size-eq4 c = (rw c.if-size-eq4.true, omega arith)
 
-returns-then-size-eq3 : goal.returns
+pub returns : goal.returns
 unfolding pieces_of
-returns-then-size-eq3 c = (rw (ne_eqb _ 3 c.if-size-eq3.false, ne_eqb _ 4 c.if-size-eq4.false), omega arith)
+returns c = (rw (ne_eqb _ 3 c.if-size-eq3.false, ne_eqb _ 4 c.if-size-eq4.false), omega arith)

@@ -4,10 +4,15 @@ use lib.Dec.{T}
 use lib.Ieee.{of_bits, binary32, fits}
 use Rattle.math.proofs.Abs.{negative, zeroed, kept}
 use Rattle.math.proofs.fabsf.Goals as goal
+use Rattle.math.proofs.fabsf.Lts as lts
+use Rattle.math.proofs.fabsf.Reads as reads
+
+abbrev At-Start : Type 0
+At-Start = lts.Start reads.Pre reads.Post
 
 -- what owning an `f32` tells: the format holds it
-held : (c : goal.Start) → T (fits binary32 c.args.x)
-held c = subst T (sym c.well-formed.0.1) tt
+held : (c : At-Start) → T (fits binary32 c.args.x)
+held c = subst T (sym c.well_formed.0.1) tt
 
 pub returns-then-x : goal.returns-then-x
 unfolding of_bits
@@ -15,7 +20,7 @@ returns-then-x c = negative c.args.x c.if-x.true
 
 pub returns-then-x-2 : goal.returns-then-x-2
 unfolding of_bits
-returns-then-x-2 c = zeroed c.args.x (held c) c.if-x-2.true
+returns-then-x-2 c = zeroed c.args.x (held c.before.before) c.if-x-2.true
 
 pub returns-else-x-2 : goal.returns-else-x-2
 unfolding of_bits

@@ -13,7 +13,7 @@ returns-then-q-s c =
     let a = c.args in
     begin-in a.rows a.s.groups a.s.members a.work.now a.q c.least.result c.if-q-s.true c.least.ensures
 
-returns-then-q-s : goal.returns
-returns-then-q-s c =
+pub returns : goal.returns
+returns c =
     let a = c.args in
     begin-out a.rows a.s.groups a.s.members a.work.now a.q c.if-q-s.false

@@ -3,16 +3,22 @@ use mathlib.Core.Path.{◌∙◌}
 use Rattle.definition.specs.Handed.{Handed, handed}
 use Rattle.mesh.proofs.Fitting.{caught-many, caught-few, all-taken}
 use Rattle.mesh.proofs.caught.Goals as goal
+use Rattle.mesh.proofs.caught.Tie as tie
+use Rattle.mesh.proofs.caught.Lts as lts
+use Rattle.mesh.proofs.caught.Reads as reads
+
+abbrev At-Start : Type 0
+At-Start = lts.Start tie.the-claims reads.Pre reads.Post
 
 -- the lists that were handed in
-abbrev given : goal.Start → Handed
+abbrev given : At-Start → Handed
 given s = let a = s.args in handed a.sizes.now a.positions.now a.normals.now a.texture.now
 
 pub returns-then-sizes-gt-FACE_LIMIT : goal.returns-then-sizes-gt-FACE_LIMIT
-returns-then-sizes-gt-FACE_LIMIT c = caught-many (given c) c.if-sizes-gt-FACE_LIMIT.true
+returns-then-sizes-gt-FACE_LIMIT c = caught-many (given c.before.before.before.before.before) c.if-sizes-gt-FACE_LIMIT.true
 
-returns-then-sizes-gt-FACE_LIMIT : goal.returns
-returns-then-sizes-gt-FACE_LIMIT c =
-    let b = c in
-    let s = b in
+pub returns : goal.returns
+returns c =
+    let b = c.before in
+    let s = b.before.before.before.before.before.before in
     c.unfit.ensures ∙ caught-few (given s) b.corners_before-corners.result b.if-sizes-gt-FACE_LIMIT.false (b.corners_before-corners.ensures.0 ∙ all-taken s.args.sizes.now b.if-sizes-gt-FACE_LIMIT.false)

@@ -43,7 +43,7 @@ within : (c : goal.After-shared_slice_known-3-1) → c.args.width * c.corners_be
 within c =
     let a = c.args in
     let p = c.requires in
-    let e = ap (λ (n : ℕ). a.width * n) (start_is c) in
+    let e = ap (λ (n : ℕ). a.width * n) (start_is c.before) in
     omega (arith, e, part-ends a.width a.sizes.now a.face (omega (arith, c.if-sizes-face.false)), p.2)
 
 pub returns-then-sizes-face : goal.returns-then-sizes-face
@@ -62,15 +62,15 @@ pub overflow_mul-end : goal.overflow_mul-end
 overflow_mul-end c = omega (arith, size_small c)
 
 pub overflow_add-end : goal.overflow_add-end
-overflow_add-end c = omega (arith, start_small c, size_small c)
+overflow_add-end c = omega (arith, start_small c.before, size_small c)
 
 pub offset_bounds-xs-start : goal.offset_bounds-xs-start
-offset_bounds-xs-start c = omega (arith, start_small c)
+offset_bounds-xs-start c = omega (arith, start_small c.before)
 
 pub slice-bounds-result-end : goal.slice-bounds-result-end
 slice-bounds-result-end c = let h = within c in search rules
 
-returns-then-sizes-face : goal.returns
-returns-then-sizes-face c =
+pub returns : goal.returns
+returns c =
     let a = c.args in
-    part-is a.width c.corners_before.result a.xs.now a.sizes.now a.face (omega (arith, c.if-sizes-face.false)) (start_is c)
+    part-is a.width c.corners_before.result a.xs.now a.sizes.now a.face (omega (arith, c.if-sizes-face.false)) (start_is c.before.before)

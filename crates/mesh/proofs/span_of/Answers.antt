@@ -10,6 +10,12 @@ use Rattle.definition.specs.Handed.{Handed, handed, corner_count}
 use Rattle.mesh.specs.Parts.{caught, width_of, nowhere, span_of}
 use Rattle.mesh.proofs.Fitting.{fit}
 use Rattle.mesh.proofs.span_of.Goals as goal
+use Rattle.mesh.proofs.span_of.Tie as tie
+use Rattle.mesh.proofs.span_of.Lts as lts
+use Rattle.mesh.proofs.span_of.Reads as reads
+
+abbrev At-Start : Type 0
+At-Start = lts.Start tie.the-claims reads.Pre reads.Post
 
 module _ (mesh : Handed) (list f : ℕ) where
   -- the three ways out
@@ -30,7 +36,7 @@ module _ (mesh : Handed) (list f : ℕ) where
       rw (e, lt-leb (length mesh.sizes) f h, p, r)
 
 -- the lists that were handed in
-abbrev given : goal.Start → Handed
+abbrev given : At-Start → Handed
 given s = let a = s.args in handed a.sizes.now a.positions.now a.normals.now a.texture.now
 
 -- a size is a byte
@@ -38,12 +44,12 @@ byte : (c : goal.After-shared_slice_known-5-1) → get_or c.args.sizes.now c.arg
 byte c = omega (arith, c.shared_slice_known-5-1.given c.args.face)
 
 pub returns-then-caught : goal.returns-then-caught
-returns-then-caught c = stopped (given c) _ _ (sym c.caught.ensures ∙ c.if-caught.true)
+returns-then-caught c = stopped (given c.before.before.before.before.before.before) _ _ (sym c.caught.ensures ∙ c.if-caught.true)
 
 pub returns-then-face-sizes : goal.returns-then-face-sizes
 returns-then-face-sizes c =
-    let e = c in
-    past (given e) _ _ (sym e.caught.ensures ∙ e.if-caught.false) (omega (arith, c.if-face-sizes.true))
+    let e = c.before in
+    past (given e.before.before.before.before.before.before) _ _ (sym e.caught.ensures ∙ e.if-caught.false) (omega (arith, c.if-face-sizes.true))
 
 pub overflow_mul-from : goal.overflow_mul-from
 overflow_mul-from c = omega (arith, mul-le-mul c.width_of_lem.ensures.1 c.corners_before.ensures.1)
@@ -54,9 +60,9 @@ overflow_cast-result c = omega (arith, byte c)
 pub overflow_mul-result : goal.overflow_mul-result
 overflow_mul-result c = omega (arith, mul-le-mul c.width_of_lem.ensures.1 (byte c))
 
-returns-then-caught : goal.returns
-returns-then-caught c =
-    let w = c in
-    let p = w in
-    let e = p in
-    within (given e) _ _ (sym e.caught.ensures ∙ e.if-caught.false) (omega (arith, p.if-face-sizes.false)) _ _ w.width_of_lem.ensures.0 c.corners_before.ensures.0
+pub returns : goal.returns
+returns c =
+    let w = c.before.before in
+    let p = w.before in
+    let e = p.before in
+    within (given e.before.before.before.before.before.before) _ _ (sym e.caught.ensures ∙ e.if-caught.false) (omega (arith, p.if-face-sizes.false)) _ _ w.width_of_lem.ensures.0 c.corners_before.ensures.0

@@ -15,8 +15,8 @@ returns-then-normals-triple c =
     let a = c.args in
     rw (eq-eqb a.positions (3 * a.corners) (omega (arith, c.if-positions-triple.false)), ne_eqb a.normals (3 * a.corners) (λ h. c.if-normals-triple.true (omega (arith, h))))
 
-returns-then-positions-triple : goal.returns
+pub returns : goal.returns
 unfolding unfit
-returns-then-positions-triple c =
+returns c =
     let a = c.args in
     rw (eq-eqb a.positions (3 * a.corners) (omega (arith, c.if-positions-triple.false)), eq-eqb a.normals (3 * a.corners) (omega (arith, c.if-normals-triple.false)))

@@ -13,7 +13,7 @@ returns-then-stopped c =
 pub part-requires : goal.part-requires
 part-requires c = c.requires c.if-stopped.false
 
-returns-then-stopped : goal.returns
-returns-then-stopped c =
+pub returns : goal.returns
+returns c =
     let a = c.args in
     c.part.ensures ∙ sym (ap (λ (b : Bool). cond b [] (part_or_none a.width a.xs.now a.sizes.now a.face)) c.if-stopped.false)

@@ -12,6 +12,6 @@ pub returns-then-list-eq2 : goal.returns-then-list-eq2
 unfolding width_of
 returns-then-list-eq2 c = let a = c.args.list in (rw (le-ltb a 2 (omega (arith, c.if-list-lt2.false)), c.if-list-eq2.true), omega arith)
 
-returns-then-list-lt2 : goal.returns
+pub returns : goal.returns
 unfolding width_of
-returns-then-list-lt2 c = let a = c.args.list in (rw (le-ltb a 2 (omega (arith, c.if-list-lt2.false)), ne_eqb a 2 c.if-list-eq2.false), omega arith)
+returns c = let a = c.args.list in (rw (le-ltb a 2 (omega (arith, c.if-list-lt2.false)), ne_eqb a 2 c.if-list-eq2.false), omega arith)

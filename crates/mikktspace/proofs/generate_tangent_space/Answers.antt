@@ -8,9 +8,18 @@ use Rattle.definition.specs.Outcome.{accepted, answered, outcome}
 use Rattle.mikktspace.specs.Contract.{left}
 use Rattle.mikktspace.proofs.Verdicts.{left-same, refused, no-refusal, number_small}
 use Rattle.mikktspace.proofs.generate_tangent_space.Goals as goal
+use Rattle.mikktspace.proofs.generate_tangent_space.Tie as tie
+use Rattle.mikktspace.proofs.generate_tangent_space.Lts as lts
+use Rattle.mikktspace.proofs.generate_tangent_space.Reads as reads
+
+abbrev At-Start : Type 0
+At-Start = lts.Start tie.the-claims reads.Pre reads.Post
+
+abbrev At-Else-v-ne0 : Type 0
+At-Else-v-ne0 = lts.Else1 tie.the-claims reads.Pre reads.Post
 
 -- the call that is made
-abbrev called : goal.Start → Call
+abbrev called : At-Start → Call
 called s =
     let a = s.args in
     call (handed a.sizes.now a.positions.now a.normals.now a.texture.now) a.threshold a.answer.now a.work.now
@@ -18,8 +27,8 @@ called s =
 pub returns-then-v-ne0 : goal.returns-then-v-ne0
 unfolding outcome
 returns-then-v-ne0 c =
-    let j = c in
-    let s = j in
+    let j = c.before.before.before in
+    let s = j.before.before.before.before.before.before.before in
     let a = s.args in
     let v = verdict (at_desk (called s)) in
     let e = j.judge-v.ensures in
@@ -27,22 +36,22 @@ returns-then-v-ne0 c =
     ∙ refused v (accepted (called s)) a.answer.now a.work.now (λ q. c.if-v-ne0.true (omega (arith, ap (λ x. x.number) e, q)))
 
 -- past the test no row applies
-passed : (i : goal.Else-v-ne0) → verdict (at_desk (called i)) ≡ none
+passed : (i : At-Else-v-ne0) → verdict (at_desk (called i.before.before.before.before.before.before.before.before.before)) ≡ none
 passed i =
-    let j = i in
-    let x = at_desk (called j) in
+    let j = i.before.before in
+    let x = at_desk (called j.before.before.before.before.before.before.before) in
     no-refusal x (omega (arith, ap (λ x. x.number) j.judge-v.ensures, number_small x, i.if-v-ne0.false))
 
 pub make_frames-slots-requires : goal.make_frames-slots-requires
-make_frames-slots-requires c = passed c
+make_frames-slots-requires c = passed c.before.before
 
-returns-then-v-ne0 : goal.returns
+pub returns : goal.returns
 unfolding outcome answered
-returns-then-v-ne0 c =
-    let m = c in
-    let i = m in
-    let j = i in
-    let s = j in
+returns c =
+    let m = c.before.before.before.before.before in
+    let i = m.before.before.before in
+    let j = i.before.before in
+    let s = j.before.before.before.before.before.before.before in
     let a = s.args in
     let z = accepted (called s) in
     left-same _ _ _ _ c.said-2.ensures ∙ (m.make_frames-slots.ensures ∙ ap (λ o. answered o z a.answer.now a.work.now) (sym (passed i)))

@@ -15,46 +15,52 @@ use Rattle.laws.proofs.Verdict.{Fine, fine}
 use Rattle.mikktspace.proofs.Verdicts.{all_slots}
 use Rattle.mikktspace.proofs.Whole.{counts-fit, all-ranged, answered, cleared}
 use Rattle.mikktspace.proofs.make_frames.Goals as goal
+use Rattle.mikktspace.proofs.make_frames.Tie as tie
+use Rattle.mikktspace.proofs.make_frames.Lts as lts
+use Rattle.mikktspace.proofs.make_frames.Reads as reads
+
+abbrev At-Start : Type 0
+At-Start = lts.Start tie.the-claims reads.Pre reads.Post
 
 -- what holds of the lists
-known : (s : goal.Start) → let a = s.args in Fine (shown (handed a.sizes.now a.positions.now a.normals.now a.texture.now) a.threshold (length a.answer.now) (length a.work.now))
+known : (s : At-Start) → let a = s.args in Fine (shown (handed a.sizes.now a.positions.now a.normals.now a.texture.now) a.threshold (length a.answer.now) (length a.work.now))
 known s = let a = s.args in fine (shown (handed a.sizes.now a.positions.now a.normals.now a.texture.now) a.threshold (length a.answer.now) (length a.work.now)) s.requires
 
-room : (s : goal.Start) → columns * rows_of (length s.args.sizes.now) ≤ length s.args.work.now
+room : (s : At-Start) → columns * rows_of (length s.args.sizes.now) ≤ length s.args.work.now
 room s = omega (arith, (known s).work-fits)
 
 pub overflow_mul-rows : goal.overflow_mul-rows
-overflow_mul-rows c = omega (arith, (known c).few)
+overflow_mul-rows c = omega (arith, (known c.before.before.before.before.before.before.before).few)
 
 pub clear_first-requires : goal.clear_first-requires
 clear_first-requires c =
-    let n = c in
-    let s = n in
+    let n = c.before in
+    let s = n.before.before.before.before.before.before.before in
     omega (arith, (known s).answer-fits, all_slots s.args.sizes.now _ (known s).few n.slots_before-slots.ensures.0)
 
 pub group_mesh-counts-requires : goal.group_mesh-counts-requires
-group_mesh-counts-requires c = let s = c in ((known s).few, room s)
+group_mesh-counts-requires c = let s = c.before.before.before.before.before.before.before.before.before.before.before.before in ((known s).few, room s)
 
 -- the mesh handed in
-abbrev mesh : goal.Start → Handed
+abbrev mesh : At-Start → Handed
 mesh s = let a = s.args in handed a.sizes.now a.positions.now a.normals.now a.texture.now
 
 pub finish_frames-requires : goal.finish_frames-requires
 finish_frames-requires c =
-    let g = c in
-    let s = g in
+    let g = c.before.before.before.before in
+    let s = g.before.before.before.before.before.before.before.before.before.before.before.before.before in
     let L = g.group_mesh-counts.ensures in
     let R = counts-fit (mesh s) _ s.args.work.now _ L in
-    (omega arith, refl, R.0, R.1, L.few, L.small, omega (arith, room s, L.only.size), all-ranged (mesh s) _ s.args.work.now _ L (known s).well-formed (room s))
+    (omega arith, refl, R.0, R.1, L.few, L.small, omega (arith, room s, L.only.size), all-ranged (mesh s) _ s.args.work.now _ L (known s).well_formed (room s))
 
 pub overflow_mul-sizes : goal.overflow_mul-sizes
-overflow_mul-sizes c = omega (arith, (known c).few)
+overflow_mul-sizes c = omega (arith, (known c.before.before.before.before.before.before.before.before.before.before.before.before.before.before.before.before.before.before.before.before.before.before.before).few)
 
 pub clear_first-requires-2 : goal.clear_first-requires-2
 clear_first-requires-2 c =
-    let f = c in
-    let g = f in
-    omega (arith, (known g).work-fits, g.group_mesh-counts.ensures.only.size, f.finish_frames.ensures.only.size)
+    let f = c.before.before.before.before.before in
+    let g = f.before.before.before.before.before in
+    omega (arith, (known g.before.before.before.before.before.before.before.before.before.before.before.before.before).work-fits, g.group_mesh-counts.ensures.only.size, f.finish_frames.ensures.only.size)
 
 -- a list that is cleared so far
 cleared-to : (k m : ℕ) (l u : List ℕ) → u ≡ cleared_first k l → k ≡ m → u ≡ replicate m 0 ++ drop m l
@@ -64,16 +70,16 @@ cleared-to k m l u e h = e ∙ ap (λ (j : ℕ). replicate j 0 ++ drop j l) h
 pub returns : goal.returns
 unfolding left accepted
 returns c =
-    let y = c in
-    let f = y in
-    let g = f in
-    let q = g in
-    let n = q in
-    let s = n in
+    let y = c.before.before in
+    let f = y.before.before.before.before.before.before in
+    let g = f.before.before.before.before.before in
+    let q = g.before.before.before.before in
+    let n = q.before.before in
+    let s = n.before.before.before.before.before.before.before in
     let a = s.args in
     let L = g.group_mesh-counts.ensures in
     let slots = all_slots a.sizes.now _ (known s).few n.slots_before-slots.ensures.0 in
     let first = cleared-to _ (slot_words * slot_count a.sizes.now) a.answer.now _ q.clear_first.ensures (omega (arith, slots)) in
-    let answer = answered (mesh s) _ a.work.now _ L (known s).well-formed a.threshold a.answer.now _ _ _ first f.finish_frames.ensures in
-    let work = cleared (mesh s) _ a.work.now _ L (known s).well-formed a.threshold a.answer.now _ _ _ first f.finish_frames.ensures _ (cleared-to _ (work_words * length a.sizes.now) _ _ y.clear_first-2.ensures (omega arith)) in
+    let answer = answered (mesh s) _ a.work.now _ L (known s).well_formed a.threshold a.answer.now _ _ _ first f.finish_frames.ensures in
+    let work = cleared (mesh s) _ a.work.now _ L (known s).well_formed a.threshold a.answer.now _ _ _ first f.finish_frames.ensures _ (cleared-to _ (work_words * length a.sizes.now) _ _ y.clear_first-2.ensures (omega arith)) in
     λ i. record { number = 0; place = 0; slots = slots i; answer = answer i; work = work i }

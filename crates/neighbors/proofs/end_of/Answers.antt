@@ -8,6 +8,6 @@ pub returns-then-r-eq2 : goal.returns-then-r-eq2
 unfolding end_row
 returns-then-r-eq2 c = simp (eq-eqb _ _ c.if-r-eq2.true) refl
 
-returns-then-r-eq2 : goal.returns
+pub returns : goal.returns
 unfolding end_row
-returns-then-r-eq2 c = simp (ne_eqb _ _ c.if-r-eq2.false) refl
+returns c = simp (ne_eqb _ _ c.if-r-eq2.false) refl

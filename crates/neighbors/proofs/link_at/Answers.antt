@@ -9,7 +9,7 @@ pub returns-then-word-eq0 : goal.returns-then-word-eq0
 unfolding link_of
 returns-then-word-eq0 c = (ap link_of (sym c.if-word-eq0.true ∙ c.wide-word.ensures), tt)
 
-returns-then-word-eq0 : goal.returns
-returns-then-word-eq0 c =
-    let start = c in
+pub returns : goal.returns
+returns c =
+    let start = c.before.before.before.before in
     (named _ c.if-word-eq0.false ∙ ap link_of c.wide-word.ensures, omega (arith, start.requires.3))

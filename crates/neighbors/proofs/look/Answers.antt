@@ -13,9 +13,9 @@ told f p q e h = sym (λ k. f (p k) (q k)) ∙ sym e ∙ h
 
 pub returns-then-not-same_ends : goal.returns-then-not-same_ends
 returns-then-not-same_ends c =
-    let b = c in
+    let b = c.before.before in
     let at = b.side_at-u in
-    let start = b in
+    let start = b.before.before.before.before.before in
     let a = start.args in
     let p = start.requires in
     parted a.rows a.n a.c.near a.c.far a.work.now p.0.2 p.1.2 p.0.0 p.0.1
@@ -23,23 +23,23 @@ returns-then-not-same_ends c =
 
 pub returns-then-not-suits : goal.returns-then-not-suits
 returns-then-not-suits c =
-    let d = c in
-    let b = d in
+    let d = c.before.before in
+    let b = d.before.before.before in
     let at = b.side_at-u in
-    let start = b in
+    let start = b.before.before.before.before.before in
     let a = start.args in
     let p = start.requires in
     unsuited a.rows a.n a.c.near a.c.far a.work.now p.0.2 p.1.2 p.0.0 p.0.1
     (told (λ x y. same_ends a.rows x y a.work.now) p.1.0 at.ensures.0 b.same_ends.ensures (not-false _ d.if-not-same_ends.false))
     (told (λ x y. suits a.rows x y a.work.now) p.1.0 at.ensures.0 d.suits.ensures (not-true _ c.if-not-suits.true))
 
-returns-then-not-same_ends : goal.returns
-returns-then-not-same_ends c =
-    let j = c in
-    let d = j in
-    let b = d in
+pub returns : goal.returns
+returns c =
+    let j = c.before.before.before.before in
+    let d = j.before.before.before in
+    let b = d.before.before.before in
     let at = b.side_at-u in
-    let start = b in
+    let start = b.before.before.before.before.before in
     let a = start.args in
     let p = start.requires in
     linked-as a.rows a.n a.c.near a.c.far a.work.now p.0.2 p.1.2 p.0.0 p.0.1

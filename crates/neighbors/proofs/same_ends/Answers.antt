@@ -7,6 +7,6 @@ pub returns-then-work-rows : goal.returns-then-work-rows
 unfolding same_ends
 returns-then-work-rows c = simp (ne_eqb _ _ c.if-work-rows.true)
 
-returns-then-work-rows : goal.returns
+pub returns : goal.returns
 unfolding same_ends
-returns-then-work-rows c = simp (eq-eqb _ _ c.if-work-rows.false)
+returns c = simp (eq-eqb _ _ c.if-work-rows.false)

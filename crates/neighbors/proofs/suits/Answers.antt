@@ -7,6 +7,6 @@ pub returns-then-work-rows-ne0 : goal.returns-then-work-rows-ne0
 unfolding suits
 returns-then-work-rows-ne0 c = simp (ne_eqb _ _ c.if-work-rows-ne0.true)
 
-returns-then-work-rows-ne0 : goal.returns
+pub returns : goal.returns
 unfolding suits
-returns-then-work-rows-ne0 c = simp (eq-eqb _ _ c.if-work-rows-ne0.false)
+returns c = simp (eq-eqb _ _ c.if-work-rows-ne0.false)

@@ -9,7 +9,7 @@ returns-then-w-lt-SIGN c =
     let w = c.args.w in
     component-positive w c.units-q.result c.if-w-lt-SIGN.true (c.units-q.ensures.0 ∙ ap spec.units c.cut.ensures.0)
 
-returns-then-w-lt-SIGN : goal.returns
-returns-then-w-lt-SIGN c =
+pub returns : goal.returns
+returns c =
     let w = c.args.w in
     component-negative w c.units-q.result c.if-w-lt-SIGN.false (c.units-q.ensures.0 ∙ ap spec.units c.cut.ensures.0)

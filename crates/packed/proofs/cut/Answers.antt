@@ -7,6 +7,6 @@ pub returns-then-m-lt-ONE : goal.returns-then-m-lt-ONE
 unfolding cut
 returns-then-m-lt-ONE c = omega arith
 
-returns-then-m-lt-ONE : goal.returns
+pub returns : goal.returns
 unfolding cut
-returns-then-m-lt-ONE c = omega arith
+returns c = omega arith

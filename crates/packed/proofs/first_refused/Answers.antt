@@ -39,8 +39,8 @@ loop-s-preserved c =
     let e = sym (c.is_packed.ensures ∙ ap is_packed (cut-is packed_words l.s a.packed.now)) in
     (omega arith, failing-more l.s (passes a.packed.now) l.invariant.1 (e ∙ not-false _ c.if-not-is_packed.false))
 
-returns-then-not-is_packed : goal.returns
-returns-then-not-is_packed c =
+pub returns : goal.returns
+returns c =
     let l = c.loop-s in
     let a = c.args in
     let e = le_antisymm l.invariant.0 c.loop-s-test.false in

@@ -55,8 +55,8 @@ returns-then-d-r c =
 pub overflow_add-result-2 : goal.overflow_add-result-2
 overflow_add-result-2 c = omega (arith, div-le_self c.args.n (shifted c.args.k))
 
-returns-then-r-d : goal.returns
-returns-then-r-d c =
+pub returns : goal.returns
+returns c =
     let n = c.args.n in
     let k = c.args.k in
     let h = c.requires.1 in

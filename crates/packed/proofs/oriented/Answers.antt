@@ -7,6 +7,6 @@ pub returns-then-n-eq1 : goal.returns-then-n-eq1
 unfolding oriented
 returns-then-n-eq1 c = simp (eq-eqb _ _ c.if-n-eq1.true)
 
-returns-then-n-eq1 : goal.returns
+pub returns : goal.returns
 unfolding oriented
-returns-then-n-eq1 c = simp (ne_eqb _ _ c.if-n-eq1.false)
+returns c = simp (ne_eqb _ _ c.if-n-eq1.false)

@@ -19,10 +19,10 @@ returns-then-packed-count c =
     let a = c.args in
     pack-short a.answer.now a.packed.now (omega (arith, c.if-answer-ne0.false)) (omega (arith, c.if-packed-count.true))
 
-returns-then-answer-ne0 : goal.returns
+pub returns : goal.returns
 unfolding after_pack all_packed slots_in
-returns-then-answer-ne0 c =
-    let p = c in
-    let t = p in
+returns c =
+    let p = c.before.before in
+    let t = p.before.before in
     let a = t.args in
     (λ i. record { number = 0; count = packed_words * slots_in a.answer.now; packed = p.pack_slots.ensures i }) ∙ pack-done a.answer.now a.packed.now (omega (arith, t.if-answer-ne0.false)) (omega (arith, t.if-packed-count.false))

@@ -9,9 +9,9 @@ pub returns-then-not-has_frame : goal.returns-then-not-has_frame
 unfolding packed_slot frame_packed
 returns-then-not-has_frame c = simp (sym c.has_frame.ensures ∙ not-true _ c.if-not-has_frame.true)
 
-returns-then-not-has_frame : goal.returns
+pub returns : goal.returns
 unfolding packed_slot frame_packed frame list_of
-returns-then-not-has_frame c =
-    let s = c in
-    let e = s in
+returns c =
+    let s = c.before.before.before.before.before.before.before in
+    let e = s.before.before.before.before.before.before.before in
     simp (sym e.has_frame.ensures ∙ not-false _ e.if-not-has_frame.false) (cc)

@@ -7,6 +7,6 @@ pub returns-then-o-eq1 : goal.returns-then-o-eq1
 unfolding packed_facing
 returns-then-o-eq1 c = simp (eq-eqb _ _ c.if-o-eq1.true)
 
-returns-then-o-eq1 : goal.returns
+pub returns : goal.returns
 unfolding packed_facing
-returns-then-o-eq1 c = simp (ne_eqb _ _ c.if-o-eq1.false)
+returns c = simp (ne_eqb _ _ c.if-o-eq1.false)

@@ -20,5 +20,5 @@ nearest-le c = subst (λ (q : ℕ). q ≤ full_scale) (sym (nearest-is c)) (unit
 pub overflow_cast-result : goal.overflow_cast-result
 overflow_cast-result c = omega (arith, nearest-le c)
 
-returns-then-m-lt-LEAST : goal.returns
-returns-then-m-lt-LEAST c = (nearest-is c, nearest-le c)
+pub returns : goal.returns
+returns c = (nearest-is c, nearest-le c)

@@ -11,6 +11,6 @@ pub returns-then-origin-eq-SINGLE : goal.returns-then-origin-eq-SINGLE
 unfolding reason_by
 returns-then-origin-eq-SINGLE c = simp (ne_eqb _ _ c.if-origin-eq0.false, eq-eqb _ _ c.if-origin-eq-SINGLE.true)
 
-returns-then-origin-eq0 : goal.returns
+pub returns : goal.returns
 unfolding reason_by
-returns-then-origin-eq0 c = simp (ne_eqb _ _ c.if-origin-eq0.false, ne_eqb _ _ c.if-origin-eq-SINGLE.false)
+returns c = simp (ne_eqb _ _ c.if-origin-eq0.false, ne_eqb _ _ c.if-origin-eq-SINGLE.false)

@@ -7,6 +7,6 @@ pub returns-then-there-eq0 : goal.returns-then-there-eq0
 unfolding only_absent
 returns-then-there-eq0 c = simp (eq-eqb _ _ c.if-there-eq0.true)
 
-returns-then-there-eq0 : goal.returns
+pub returns : goal.returns
 unfolding only_absent
-returns-then-there-eq0 c = simp (ne_eqb _ _ c.if-there-eq0.false)
+returns c = simp (ne_eqb _ _ c.if-there-eq0.false)

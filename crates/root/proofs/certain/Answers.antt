@@ -9,5 +9,5 @@ overflow_mul-r c = square-fits 33554432 c.args.r tt (omega arith)
 pub returns-then-r-n : goal.returns-then-r-n
 returns-then-r-n c = simp (lt-ltb _ _ c.if-r-n.true)
 
-returns-then-r-n : goal.returns
-returns-then-r-n c = simp (le-ltb _ _ c.if-r-n.false)
+pub returns : goal.returns
+returns c = simp (le-ltb _ _ c.if-r-n.false)

@@ -27,8 +27,8 @@ overflow_shl-result c = omega (arith, (known c).few)
 pub overflow_sub-result : goal.overflow_sub-result
 overflow_sub-result c = omega (arith, (known c).few)
 
-returns-then-b-ge8388608 : goal.returns
-returns-then-b-ge8388608 c =
+pub returns : goal.returns
+returns c =
     let b = c.args.b in
     let k = known c in
     (subst (λ (m : ℕ). Digits m (149 - zeros b)) (sym (kept c)) (record { least = k.least; most = k.most; low = omega (arith, k.few); high = omega arith }), ap (λ (m : ℕ). rooted (m * 2 ^ (149 - zeros b))) (kept c) ∙ sym (subnormal-root b c.requires.0 (omega arith)))

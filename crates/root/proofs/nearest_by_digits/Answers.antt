@@ -18,7 +18,7 @@ pub overflow_mul-h-2 : goal.overflow_mul-h-2
 overflow_mul-h-2 c = square-fits 33554432 (2 * c.whole_root-q.result + 1) tt (omega (arith, small c))
 
 pub overflow_add-result : goal.overflow_add-result
-overflow_add-result c = omega (arith, small c)
+overflow_add-result c = omega (arith, small c.before)
 
 -- each arm is what the definition picks at the q that was found, which is the root
 up : (n q r v : ℕ) → q ≡ r → (2 * q + 1) * (2 * q + 1) < 4 * n → v ≡ q + 1 → v ≡ to_nearest r n

@@ -5,5 +5,5 @@ use Rattle.severed.proofs.over_to.Goals as goal
 pub returns-then-back : goal.returns-then-back
 returns-then-back c = way_of _ _ _ _ _ _ c.if-back.true c.over_before.ensures
 
-returns-then-back : goal.returns
-returns-then-back c = way_of _ _ _ _ _ _ c.if-back.false c.over_after.ensures
+pub returns : goal.returns
+returns c = way_of _ _ _ _ _ _ c.if-back.false c.over_after.ensures

@@ -12,9 +12,9 @@ returns-then-answer-slot c =
     let a = c.args in
     sym (written-not a.slot (replicate slot_words 0) a.answer.now c.if-answer-slot.true)
 
-returns-then-answer-slot : goal.returns
+pub returns : goal.returns
 unfolding cleared_at
-returns-then-answer-slot c =
-    let e = c in
+returns c =
+    let e = c.before.before.before.before in
     let a = e.args in
     c.put.ensures ∙ sym (written-there a.slot (replicate slot_words 0) a.answer.now e.if-answer-slot.false)

@@ -20,11 +20,11 @@ returns-then-answer-to c =
     let l = a.answer.now in
     sym (copied-there a.quad a.from a.to l c.if-answer-from.false ∙ written-not a.to (copy_at a.quad a.from l) l c.if-answer-to.true)
 
-returns-then-answer-from : goal.returns
+pub returns : goal.returns
 unfolding copy_at
-returns-then-answer-from c =
-    let w = c in
-    let e = w in
+returns c =
+    let w = c.before.before.before.before in
+    let e = w.before.before.before.before.before in
     let a = e.args in
     let l = a.answer.now in
     let before = w.reading_of-before.ensures ∙ ap reading_of w.words_at.ensures in

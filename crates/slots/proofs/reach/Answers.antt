@@ -16,11 +16,11 @@ returns-then-answer-slot c =
     let l = a.answer.now in
     sym (written-not a.slot (words (reached (reading_of (words_at a.slot l)) a.v a.orientation)) l c.if-answer-slot.true)
 
-returns-then-answer-slot : goal.returns
+pub returns : goal.returns
 unfolding reached_at
-returns-then-answer-slot c =
-    let w = c in
-    let e = w in
+returns c =
+    let w = c.before.before.before.before in
+    let e = w.before.before.before.before.before in
     let a = e.args in
     let l = a.answer.now in
     let before = w.reading_of-before.ensures ∙ ap reading_of w.words_at.ensures in

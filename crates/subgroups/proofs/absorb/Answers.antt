@@ -16,10 +16,10 @@ returns-then-is_any c =
     let h : eqb (cell a.rows any_column (a.r / 3) a.work.now) 1 ≡ true = sym c.is_any.ensures ∙ c.if-is_any.true in
     simp h
 
-returns-then-is_any : goal.returns
+pub returns : goal.returns
 unfolding absorbed
-returns-then-is_any c =
-    let e = c in
+returns c =
+    let e = c.before.before.before.before.before.before in
     let a = e.args in
     let h : eqb (cell a.rows any_column (a.r / 3) a.work.now) 1 ≡ false = sym e.is_any.ensures ∙ e.if-is_any.false in
     simp h

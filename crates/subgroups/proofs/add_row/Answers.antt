@@ -12,17 +12,17 @@ use Rattle.subgroups.proofs.add_row.Goals as goal
 pub returns-then-is_any : goal.returns-then-is_any
 unfolding add_row
 returns-then-is_any c =
-    let e = c in
+    let e = c.before in
     let a = e.args in
     let h : eqb (cell a.rows any_column (a.r / 3) a.work.now) 1 ≡ true = sym e.is_any.ensures ∙ e.if-is_any.true in
     simp h c.none_added.ensures
 
-returns-then-is_any : goal.returns
+pub returns : goal.returns
 unfolding add_row space_at
-returns-then-is_any c =
-    let m = c in
-    let t = m in
-    let e = t in
+returns c =
+    let m = c.before.before.before in
+    let t = m.before.before in
+    let e = t.before.before in
     let a = e.args in
     let h : eqb (cell a.rows any_column (a.r / 3) a.work.now) 1 ≡ false = sym e.is_any.ensures ∙ e.if-is_any.false in
     simp h

@@ -7,6 +7,6 @@ pub returns-then-taken : goal.returns-then-taken
 unfolding add_taken
 returns-then-taken c = simp (sym c.taken.ensures ∙ c.if-taken.true) c.add_row.ensures
 
-returns-then-taken : goal.returns
+pub returns : goal.returns
 unfolding add_taken
-returns-then-taken c = simp (sym c.taken.ensures ∙ c.if-taken.false)
+returns c = simp (sym c.taken.ensures ∙ c.if-taken.false)

@@ -6,6 +6,6 @@ pub returns-then-all : goal.returns-then-all
 unfolding taken_at
 returns-then-all c = simp c.if-all.true
 
-returns-then-all : goal.returns
+pub returns : goal.returns
 unfolding taken_at
-returns-then-all c = simp c.if-all.false
+returns c = simp c.if-all.false

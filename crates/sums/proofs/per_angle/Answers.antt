@@ -6,6 +6,6 @@ pub returns-then-angles : goal.returns-then-angles
 unfolding per_angle
 returns-then-angles c = simp c.if-angles.true
 
-returns-then-angles : goal.returns
+pub returns : goal.returns
 unfolding per_angle
-returns-then-angles c = simp c.if-angles.false
+returns c = simp c.if-angles.false

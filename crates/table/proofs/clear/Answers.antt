@@ -10,7 +10,7 @@ use Rattle.table.proofs.clear.Goals as goal
 
 -- the column ends at or before the last one's end
 ends : (c : goal.In-loop-r) → let a = c.args in a.column * a.rows + a.rows ≤ columns * a.rows
-ends c = let s = c in column-ends s.args.column columns s.args.rows s.requires.0
+ends c = let s = c.before.before in column-ends s.args.column columns s.args.rows s.requires.0
 
 pub loop-r-init : goal.loop-r-init
 loop-r-init c = (omega arith, fill_none c.args.rows c.args.column (λ _. 0) c.args.work.now, refl)

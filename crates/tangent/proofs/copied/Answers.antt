@@ -6,6 +6,6 @@ pub returns-then-quad : goal.returns-then-quad
 unfolding copied
 returns-then-quad c = rw c.if-quad.true
 
-returns-then-quad : goal.returns
+pub returns : goal.returns
 unfolding copied
-returns-then-quad c = rw c.if-quad.false
+returns c = rw c.if-quad.false

@@ -15,6 +15,6 @@ pub returns-then-origin-eq-FILLED : goal.returns-then-origin-eq-FILLED
 unfolding of_origin
 returns-then-origin-eq-FILLED c = rw (ne_eqb _ 1 c.if-origin-eq-SINGLE.false, ne_eqb _ 3 c.if-origin-eq-COPIED.false, eq-eqb _ 4 c.if-origin-eq-FILLED.true)
 
-returns-then-origin-eq-SINGLE : goal.returns
+pub returns : goal.returns
 unfolding of_origin
-returns-then-origin-eq-SINGLE c = rw (ne_eqb _ 1 c.if-origin-eq-SINGLE.false, ne_eqb _ 3 c.if-origin-eq-COPIED.false, ne_eqb _ 4 c.if-origin-eq-FILLED.false)
+returns c = rw (ne_eqb _ 1 c.if-origin-eq-SINGLE.false, ne_eqb _ 3 c.if-origin-eq-COPIED.false, ne_eqb _ 4 c.if-origin-eq-FILLED.false)

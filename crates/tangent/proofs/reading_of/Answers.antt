@@ -7,6 +7,6 @@ pub returns-then-words-eq0 : goal.returns-then-words-eq0
 unfolding reading_of
 returns-then-words-eq0 c = simp (eq-eqb _ _ c.if-words-eq0.true)
 
-returns-then-words-eq0 : goal.returns
+pub returns : goal.returns
 unfolding reading_of
-returns-then-words-eq0 c = simp (ne_eqb _ _ c.if-words-eq0.false) (cc)
+returns c = simp (ne_eqb _ _ c.if-words-eq0.false) (cc)

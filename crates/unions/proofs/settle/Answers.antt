@@ -6,9 +6,14 @@ use mathlib.Core.Path.{sym, subst}
 use lib.ListN.{get_or}
 use Rattle.unions.proofs.Stores.{Settling, settling-none, settling-more, settled}
 use Rattle.unions.proofs.settle.Goals as goal
+use Rattle.unions.proofs.settle.Lts as lts
+use Rattle.unions.proofs.settle.Reads as reads
+
+abbrev At-In-loop-x : Type 0
+At-In-loop-x = lts.In-loop reads.Pre reads.Post goal.the-invariant-loop-x goal.the-decreases-loop-x
 
 -- the parent of x is the one of the start, and not above x
-up-low : (c : goal.In-loop-x) → get_or c.loop-x.parents c.loop-x.x 0 ≤ c.loop-x.x
+up-low : (c : At-In-loop-x) → get_or c.loop-x.parents c.loop-x.x 0 ≤ c.loop-x.x
 up-low c =
     let l = c.loop-x in
     subst (λ v. v ≤ l.x) (sym (l.invariant.1.ahead l.x (omega arith))) (c.requires.1 l.x c.loop-x-test.true)
@@ -17,7 +22,7 @@ pub loop-x-init : goal.loop-x-init
 loop-x-init c = (omega arith, settling-none _ _)
 
 pub bounds-parents-x : goal.bounds-parents-x
-bounds-parents-x c = let i = c in omega (arith, i.loop-x.invariant.1.beyond.size, i.loop-x-test.true, i.requires.0)
+bounds-parents-x c = let i = c.before in omega (arith, i.loop-x.invariant.1.beyond.size, i.loop-x-test.true, i.requires.0)
 
 pub overflow_cast-parents : goal.overflow_cast-parents
 overflow_cast-parents c = omega (arith, c.slice_known-1.given c.loop-x.x)
@@ -26,15 +31,15 @@ pub offset_bounds-parents-up : goal.offset_bounds-parents-up
 offset_bounds-parents-up c = omega (arith, c.slice_known-1.given c.loop-x.x)
 
 pub bounds-parents-up : goal.bounds-parents-up
-bounds-parents-up c = let i = c in omega (arith, up-low i, i.loop-x.invariant.1.beyond.size, i.loop-x-test.true, i.requires.0)
+bounds-parents-up c = let i = c.before.before in omega (arith, up-low i, i.loop-x.invariant.1.beyond.size, i.loop-x-test.true, i.requires.0)
 
 pub bounds-parents-x-in-loop-x : goal.bounds-parents-x-in-loop-x
-bounds-parents-x-in-loop-x c = let i = c in omega (arith, i.loop-x.invariant.1.beyond.size, i.loop-x-test.true, i.requires.0)
+bounds-parents-x-in-loop-x c = let i = c.before.before in omega (arith, i.loop-x.invariant.1.beyond.size, i.loop-x-test.true, i.requires.0)
 
 pub loop-x-preserved : goal.loop-x-preserved
 loop-x-preserved c =
-    let i = c in
-    let s = i in
+    let i = c.before.before in
+    let s = i.before.before in
     (omega (arith, i.loop-x-test.true), settling-more _ _ _ _ s.requires.0 s.requires.1 i.loop-x-test.true i.loop-x.invariant.1)
 
 pub shape_of-parents : goal.shape_of-parents
@@ -43,5 +48,5 @@ shape_of-parents c = c.loop-x.invariant.1.beyond.size
 pub returns : goal.returns
 returns c =
     let l = c.loop-x in
-    let s = c in
+    let s = c.before.before in
     settled _ _ _ (subst (λ n. Settling s.args.count s.args.parents.now n l.parents) (le_antisymm l.invariant.0 c.loop-x-test.false) l.invariant.1)

@@ -7,25 +7,37 @@ use lib.ListN.{length, set, length-set}
 use Rattle.unions.specs.Unions.{Climbed, United}
 use Rattle.unions.proofs.Stores.{join, united, united-sym}
 use Rattle.unions.proofs.unite.Goals as goal
+use Rattle.unions.proofs.unite.Tie as tie
+use Rattle.unions.proofs.unite.Lts as lts
+use Rattle.unions.proofs.unite.Reads as reads
+
+abbrev At-After-slice_known-3-1 : Type 0
+At-After-slice_known-3-1 = lts.After-slice_known3 tie.the-claims reads.Pre reads.Post
+
+abbrev At-After-root-x : Type 0
+At-After-root-x = lts.After-root tie.the-claims reads.Pre reads.Post
+
+abbrev At-Start : Type 0
+At-Start = lts.Start tie.the-claims reads.Pre reads.Post
 
 -- the start, from where both ends are known
-abbrev first : goal.After-slice_known-3-1 → goal.After-root-x
+abbrev first : At-After-slice_known-3-1 → At-After-root-x
 first c = c.before.before.before.before.before.before
 
-abbrev start : goal.After-slice_known-3-1 → goal.Start
-start c = (first c)
+abbrev start : At-After-slice_known-3-1 → At-Start
+start c = (first c).before.before.before
 
 -- both ends
-climbs : (c : goal.After-slice_known-3-1) → let s = start c in let a = (first c).root-x in let b = c.root-y in
+climbs : (c : At-After-slice_known-3-1) → let s = start c in let a = (first c).root-x in let b = c.root-y in
     Climbed s.args.count s.args.parents.now a.last.0 s.args.a a.result × Climbed s.args.count a.last.0 b.new.0 s.args.b b.result
 climbs c = ((first c).root-x.ensures, c.root-y.ensures)
 
 -- the length is the one at the start
-long : (c : goal.After-slice_known-3-1) → length c.root-y.new.parents ≡ length (start c).args.parents.now
+long : (c : At-After-slice_known-3-1) → length c.root-y.new.parents ≡ length (start c).args.parents.now
 long c = (climbs c).1.same.beyond.size ∙ (climbs c).0.same.beyond.size
 
 -- the higher end gets the lower
-module _ (c : goal.After-slice_known-3-1) where
+module _ (c : At-After-slice_known-3-1) where
   abbrev n : ℕ
   n = (start c).args.count
 
@@ -54,22 +66,22 @@ module _ (c : goal.After-slice_known-3-1) where
   higher-x h = united _ _ _ _ _ _ _ _ _ (climbs c).0 (climbs c).1 (united-sym _ _ _ _ _ (join n after y x enough x_below h (climbs c).1.same.down ((climbs c).1.same.tops x x_below (climbs c).0.top)))
 
 pub root-y-requires : goal.root-y-requires
-root-y-requires c = let r = c.root-x.ensures in let s = c in (omega (arith, s.requires.0, r.same.beyond.size), s.requires.2, r.same.down)
+root-y-requires c = let r = c.root-x.ensures in let s = c.before.before.before.before.before.before in (omega (arith, s.requires.0, r.same.beyond.size), s.requires.2, r.same.down)
 
 pub bounds-parents-y : goal.bounds-parents-y
-bounds-parents-y c = omega (arith, enough c, y-below c)
+bounds-parents-y c = omega (arith, enough c.before, y-below c.before)
 
 pub shape_of-parents-then-x-y : goal.shape_of-parents-then-x-y
-shape_of-parents-then-x-y c = simp length-set (long c)
+shape_of-parents-then-x-y c = simp length-set (long c.before)
 
 pub returns-then-x-y : goal.returns-then-x-y
-returns-then-x-y c = higher-y c (omega (arith, c.if-x-y.true))
+returns-then-x-y c = higher-y c.before (omega (arith, c.if-x-y.true))
 
 pub bounds-parents-x : goal.bounds-parents-x
-bounds-parents-x c = omega (arith, enough c, x_below c)
+bounds-parents-x c = omega (arith, enough c.before, x_below c.before)
 
 pub shape_of-parents : goal.shape_of-parents
-shape_of-parents c = simp length-set (long c)
+shape_of-parents c = simp length-set (long c.before)
 
-returns-then-x-y : goal.returns
-returns-then-x-y c = higher-x c (omega (arith, c.if-x-y.false))
+pub returns : goal.returns
+returns c = higher-x c.before (omega (arith, c.if-x-y.false))

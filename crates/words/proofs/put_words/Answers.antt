@@ -29,9 +29,9 @@ overflow_add-sum c =
 
 pub loop-i-preserved : goal.loop-i-preserved
 loop-i-preserved c =
-    let p = c in
+    let p = c.before.before in
     let l = p.loop-i in
-    let s = p in
+    let s = p.before.before.before.before.before.before.before in
     let a = s.args in
     let w = c.shared_slice_known-in-loop-i-1.given (a.from + l.i) in (
       omega arith,

@@ -16,7 +16,7 @@ loop-i-init c =
 
 pub loop-i-preserved : goal.loop-i-preserved
 loop-i-preserved c =
-    let p = c in
+    let p = c.before.before in
     let l = p.loop-i in
     let a = p.args in
     (omega arith, p.put_word.ensures ∙ zeros-more a.bytes.now l.bytes a.to l.i l.invariant.1, p.put_word.auto.bytes ∙ l.invariant.2)

@@ -38,8 +38,8 @@ loop-s-preserved c =
     let x = get_or a.verdicts.now l.s 0 in
     (omega arith, failing-more l.s (passes a.verdicts.now) l.invariant.1 (eq-eqb x good_slot (omega (arith, c.if-verdicts-s-ne-GOOD.false))))
 
-returns-then-verdicts-s-ne-GOOD : goal.returns
-returns-then-verdicts-s-ne-GOOD c =
+pub returns : goal.returns
+returns c =
     let l = c.loop-s in
     let a = c.args in
     let e = le_antisymm l.invariant.0 c.loop-s-test.false in

@@ -6,43 +6,49 @@ use Rattle.packed.specs.Packer.{slots_in}
 use Rattle.worth.specs.Contract.{refusal, not_judged, all_judged, after_judge}
 use Rattle.worth.proofs.Outcomes.{Fit, none-fit, judge-refused, judge-done, count-there, first-there}
 use Rattle.worth.proofs.judge.Goals as goal
+use Rattle.worth.proofs.judge.Tie as tie
+use Rattle.worth.proofs.judge.Lts as lts
+use Rattle.worth.proofs.judge.Reads as reads
+
+abbrev At-Else-number-ne0 : Type 0
+At-Else-number-ne0 = lts.Else1 tie.the-claims reads.Pre reads.Post
 
 pub returns-then-number-ne0 : goal.returns-then-number-ne0
 unfolding after_judge not_judged
 returns-then-number-ne0 c =
-    let f = c in
+    let f = c.before in
     let a = f.args in
     (λ i. record { number = f.refusal-number.ensures i; good = 0; first = 0; verdicts = a.verdicts.now })
     ∙ judge-refused a.answer.now a.verdicts.now (λ e. c.if-number-ne0.true (f.refusal-number.ensures ∙ e))
 
 -- what is known where nothing is refused
-none : (c : goal.Else-number-ne0) → let a = c.args in refusal (length a.answer.now) (length a.verdicts.now) ≡ 0
+none : (c : At-Else-number-ne0) → let a = c.args in refusal (length a.answer.now) (length a.verdicts.now) ≡ 0
 none c = sym c.refusal-number.ensures ∙ c.if-number-ne0.false
 
-fit : (c : goal.Else-number-ne0) → let a = c.args in Fit (length a.answer.now) (length a.verdicts.now)
+fit : (c : At-Else-number-ne0) → let a = c.args in Fit (length a.answer.now) (length a.verdicts.now)
 fit c = let a = c.args in none-fit (length a.answer.now) (length a.verdicts.now) (none c)
 
 pub judge_slots-requires : goal.judge_slots-requires
-judge_slots-requires c = (omega arith, omega (arith, (fit c).room_for))
+judge_slots-requires c = (omega arith, omega (arith, (fit c.before).room_for))
 
 pub good_among-good-requires : goal.good_among-good-requires
 good_among-good-requires c =
-    let j = c in
-    let e = j in
+    let j = c.before.before.before in
+    let e = j.before.before in
     (omega (arith, (fit e).room_for, j.judge_slots.auto.1.0), omega (arith, (fit e).few))
 
 pub first_other-first-requires : goal.first_other-first-requires
 first_other-first-requires c =
-    let j = c in
-    let e = j in
+    let j = c.before.before.before.before.before in
+    let e = j.before.before in
     omega (arith, (fit e).room_for, j.judge_slots.auto.1.0)
 
-returns-then-number-ne0 : goal.returns
+pub returns : goal.returns
 unfolding after_judge all_judged slots_in
-returns-then-number-ne0 c =
-    let g = c in
-    let j = g in
-    let e = j in
+returns c =
+    let g = c.before.before in
+    let j = g.before.before.before.before in
+    let e = j.before.before in
     let a = e.args in
     let l = a.answer.now in
     let v = a.verdicts.now in

@@ -18,5 +18,5 @@ of_other v r e h = simp (ne_eqb _ _ e) h
 pub returns-then-verdict-eq-GOOD : goal.returns-then-verdict-eq-GOOD
 returns-then-verdict-eq-GOOD c = (of-good c.args.verdict _ (omega (arith, c.if-verdict-eq-GOOD.true)) (omega arith), omega arith)
 
-returns-then-verdict-eq-GOOD : goal.returns
-returns-then-verdict-eq-GOOD c = (of_other c.args.verdict _ (λ k. omega (arith, k, c.if-verdict-eq-GOOD.false)) (omega arith), omega arith)
+pub returns : goal.returns
+returns c = (of_other c.args.verdict _ (λ k. omega (arith, k, c.if-verdict-eq-GOOD.false)) (omega arith), omega arith)

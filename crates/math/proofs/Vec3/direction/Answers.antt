@@ -21,8 +21,8 @@ returns-then-points c =
     ap Along (c.scale.ensures ∙ ap (λ (l : Float). spec.scaled_by u (Ieee.div binary32 (of_bits binary32 0x3f80_0000) l)) c.length.ensures)
     ∙ sym (ap (λ (t : Bool). cond t (unit u) Nowhere) (sym c.points.ensures ∙ c.if-points.true))
 
-returns-then-points : goal.returns
+pub returns : goal.returns
 unfolding direction
-returns-then-points c =
+returns c =
     let u = c.args.self in
     sym (ap (λ (t : Bool). cond t (unit u) Nowhere) (sym c.points.ensures ∙ c.if-points.false))

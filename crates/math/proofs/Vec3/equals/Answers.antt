@@ -7,15 +7,20 @@ use lib.Ieee as Ieee
 use Rattle.math.specs.Vector.{equals}
 use Rattle.bits.proofs.Bools.{and-held, and-failed, last-held, last-failed}
 use Rattle.math.proofs.Vec3.equals.Goals as goal
+use Rattle.math.proofs.Vec3.equals.Lts as lts
+use Rattle.math.proofs.Vec3.equals.Reads as reads
+
+abbrev At-Joined-self-other : Type 0
+At-Joined-self-other = lts.Joined1 reads.Pre reads.Post
 
 -- the flag where the first `&&` is done
-flag : (c : goal.Joined-self-other) → c.if-self-other.if2 ≡ (Ieee.eq c.args.self.x c.args.other.x && Ieee.eq c.args.self.y c.args.other.y)
+flag : (c : At-Joined-self-other) → c.if-self-other.if2 ≡ (Ieee.eq c.args.self.x c.args.other.x && Ieee.eq c.args.self.y c.args.other.y)
 flag c = ⊎_elim (λ w. and-held w.0.taken w.3) (λ w. and-failed _ w.0.left w.1) c.if-self-other.branch
 
 pub returns-then-self-other-2 : goal.returns-then-self-other-2
 unfolding equals
-returns-then-self-other-2 c = last-held (flag c) c.if-self-other-2.true
+returns-then-self-other-2 c = last-held (flag c.before.before.before) c.if-self-other-2.true
 
 pub returns-else-self-other-2 : goal.returns-else-self-other-2
 unfolding equals
-returns-else-self-other-2 c = last-failed _ (flag c) c.if-self-other-2.false
+returns-else-self-other-2 c = last-failed _ (flag c.before) c.if-self-other-2.false

@@ -32,12 +32,12 @@ mixed-is : (a b : RawTangentSpace) (q : Bool) (u s v t : Vec3)
 unfolding combine
 mixed-is a b q u s v t e f h₁ h₂ h₃ h₄ = cc
 
-returns-then-equals : goal.returns
+pub returns : goal.returns
 unfolding mean neg of_bits
-returns-then-equals c =
-    let n₂ = c in
-    let n₁ = n₂ in
-    let start = n₁ in
+returns c =
+    let n₂ = c.before.before.before.before in
+    let n₁ = n₂.before.before in
+    let start = n₁.before.before.before.before in
     mixed-is start.args.self start.args.rhs _ _ _ _ _
     n₁.equals.ensures n₁.if-equals.false
     n₁.add.ensures n₁.normalized_or_zero-s.ensures

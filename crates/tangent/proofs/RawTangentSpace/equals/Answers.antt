@@ -11,9 +11,9 @@ use Rattle.tangent.proofs.RawTangentSpace.equals.Goals as goal
 pub returns-then-self-other : goal.returns-then-self-other
 unfolding equals
 returns-then-self-other c =
-    let t₃ = c in
-    let t₂ = t₃ in
-    let t₁ = t₂ in
+    let t₃ = c.before.before in
+    let t₂ = t₃.before.before.before in
+    let t₁ = t₂.before.before in
     all _ _ _ _ (sym t₁.equals.ensures ∙ t₁.if-equals.true) (sym t₂.equals-then-equals.ensures ∙ t₂.if-equals-2.true) t₃.if-self-other.true
 
 -- the parts of the test, of two values
@@ -33,7 +33,7 @@ module _ (a b : RawTangentSpace) where
 pub returns-else-self-other : goal.returns-else-self-other
 unfolding equals
 returns-else-self-other c =
-    let start = c in
+    let start = c.before.before.before.before.before.before.before in
     let a = start.args.self in
     let b = start.args.other in
     third (one a b) (two a b) (three a b) (four a b) c.if-self-other.false
