@@ -32,8 +32,8 @@ overflow_sub-part c = omega (arith, (known c.before.before).low)
 pub overflow_sub-part-2 : goal.overflow_sub-part-2
 overflow_sub-part-2 c = omega (arith, (known c.before.before).apart, second c)
 
-pub nonzero-div-part : goal.nonzero-div-part
-nonzero-div-part c = omega (arith, (known c.before.before).apart, second c)
+pub nonzero_div-part : goal.nonzero_div-part
+nonzero_div-part c = omega (arith, (known c.before.before).apart, second c)
 
 pub overflow_mul-result : goal.overflow_mul-result
 overflow_mul-result c = omega (arith, (known c.before.before).within)

@@ -10,7 +10,7 @@ known c = whole-unit c.args.a c.requires.0 c.requires.1
 
 pub truncating_f32_to_u64-requires : goal.truncating_f32_to_u64-requires
 unfolding of_bits
-truncating_f32_to_u64-requires c = ((known c).above, (known c).under)
+truncating_f32_to_u64-requires c = record { lower_bound = (known c).above; upper_bound = (known c).under }
 
 pub returns : goal.returns
 unfolding of_bits

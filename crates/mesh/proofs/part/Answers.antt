@@ -67,8 +67,8 @@ overflow_add-end c = omega (arith, start_small c.before, size_small c)
 pub offset_bounds-xs-start : goal.offset_bounds-xs-start
 offset_bounds-xs-start c = omega (arith, start_small c.before)
 
-pub slice-bounds-result-end : goal.slice-bounds-result-end
-slice-bounds-result-end c = let h = within c in search rules
+pub slice_bounds-result-end : goal.slice_bounds-result-end
+slice_bounds-result-end c = let h = within c in search rules
 
 pub returns : goal.returns
 returns c =
