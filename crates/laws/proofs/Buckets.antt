@@ -145,8 +145,8 @@ module _ (all : List Spot) (names : Apart all) (s₀ : Spot) where
   all-part : {l k : List Link} {ss ts : List Spot} → Spots ss ts → Links l k → Links (link_all l ss) (link_all k ts)
   unfolding link_all same
   all-part nothing r = r
-  all-part (mine {x = s} o q) r = all-part q (one-ours r q s o)
-  all-part (other {y = s} h q) r = all-part q (one-theirs r q s h)
+  all-part {l = l} {k = k} (mine {x = s} {l = l'} {k = k'} o q) r = all-part {l = link_one l s l'} {k = link_one k s k'} q (one-ours r q s o)
+  all-part {l = l} {k = k} (other {y = s} {k = k'} h q) r = all-part {l = l} {k = link_one k s k'} q (one-theirs r q s h)
 
   beyond-as : {l k : List Link} → Links l k → (s : Spot) → Ours s → beyond k s ≡ beyond l s
   unfolding beyond same_link

@@ -84,7 +84,7 @@ module _ (ss : List Triangle) where
   spots-whole [] f = every_nil
   spots-whole (t ∷ ts) f =
       let h : Whole ss t =
-      record { at = λ i. elim i [ one ↦ f _ (Memᴰ.head refl) | two ↦ f _ (Memᴰ.tail (Memᴰ.head refl)) | three ↦ f _ (Memᴰ.tail (Memᴰ.tail (Memᴰ.head refl))) ] } in
+      record { at = λ i. elim i as (λ (k : Third). Memᴰ {A = Spot} (record { tri = t; at = k }) (spots ss)) [ one ↦ f _ (Memᴰ.head refl) | two ↦ f _ (Memᴰ.tail (Memᴰ.head refl)) | three ↦ f _ (Memᴰ.tail (Memᴰ.tail (Memᴰ.head refl))) ] } in
       every_cons h (every_cons h (every_cons h (spots-whole ts (λ s m. f s (Memᴰ.tail (Memᴰ.tail (Memᴰ.tail m)))))))
 
   -- links among the triangles, run opposite ways: all that steps 6 to 9 ask of step 5, in either edition

@@ -6,6 +6,7 @@ use lib.Dec.{eqb}
 use lib.Ieee.{Float}
 use Rattle.tangent.specs.declared.Reading.{Reading}
 use Rattle.tangent.specs.declared.Reading.TheVariants.{Absent}
+use Rattle.tangent.specs.Space.{reached}
 use Rattle.tangent.specs.Finite.{Pointing, FiniteReading, absent}
 use Rattle.tangent.specs.Held.{HeldSpace}
 use Rattle.tangent.proofs.Held.{zero_held}
@@ -50,7 +51,7 @@ brought-points h ss ms (m ∷ l) = every_cons (evaluate-points _ _) (brought-poi
 puts-finite : (r : Reading) {l : List Brought} → FiniteReading r → Every PointingBrought l → FiniteReading (run put r l)
 unfolding run put
 puts-finite r h every_nil = h
-puts-finite r h (every_cons {x} p q) = puts-finite _ (reached-finite r x.value x.orientation h p) q
+puts-finite r h (every_cons {x} p q) = puts-finite (reached r x.value x.orientation) (reached-finite r x.value x.orientation h p) q
 
 module _ (bs : List Brought) (P : Every PointingBrought bs) where
   reading-finite : (f i : ℕ) → FiniteReading (reading bs f i)

@@ -15,6 +15,7 @@ use Rattle.math.proofs.Held.{added-held, unit-held}
 use Rattle.tangent.specs.declared.RawTangentSpace.{RawTangentSpace}
 use Rattle.tangent.specs.declared.Reading.{Reading}
 use Rattle.tangent.specs.declared.Reading.TheVariants.{Absent}
+use Rattle.tangent.specs.Space.{reached}
 use Rattle.tangent.specs.Held.{HeldSpace, HeldReading, absent}
 use Rattle.tangent.proofs.Held.{zero_held, reached-held}
 use Rattle.definition.specs.declared.Corner.{Corner}
@@ -87,7 +88,7 @@ every_take (suc n) (every_cons p r) = every_cons p (every_take n r)
 pub puts-held : (r : Reading) {l : List Brought} → HeldReading r → Every HeldBrought l → HeldReading (run put r l)
 unfolding run put
 puts-held r h every_nil = h
-puts-held r h (every_cons {x} p q) = puts-held _ (reached-held r x.value x.orientation h p) q
+puts-held r h (every_cons {x} p q) = puts-held (reached r x.value x.orientation) (reached-held r x.value x.orientation h p) q
 
 -- the reading of a slot when all were brought
 pub readings-held : (h : Float) (ss : List Triangle) (ms : List Mark) (f i : ℕ) → HeldReading (reading (brought_all h ss ms) f i)

@@ -80,8 +80,8 @@ module _ (w : World) where
   pub link_all-part : {l k : List Link} {ss ts : List Spot} → Spots w ss ts → Links l k → Links (link_all l ss) (link_all k ts)
   unfolding link_all
   link_all-part nothing r = r
-  link_all-part (mine {x = s} o q) r = link_all-part q (one-ours r q s o)
-  link_all-part (other {y = s} h q) r = link_all-part q (one-theirs r q s h)
+  link_all-part {l = l} {k = k} (mine {x = s} {l = l'} {k = k'} o q) r = link_all-part {l = link_one l s l'} {k = link_one k (moved_spot w s) k'} q (one-ours r q s o)
+  link_all-part {l = l} {k = k} (other {y = s} {k = k'} h q) r = link_all-part {l = l} {k = link_one k s k'} q (one-theirs r q s h)
 
   -- step 5
   pub links-part : {l k : List Triangle} → Triangles w l k → Links (links l) (links k)

@@ -60,11 +60,13 @@ spots-apart (names_cons {t} h r) =
     (apart_cons (every_cons d (spots-other t two h)) (apart_cons (spots-other t three h) (spots-apart r)))
 
 pub every-at : {X : Type 0} {P : X → Type 0} {x : X} {l : List X} → Every P l → Memᴰ x l → P x
+every-at every_nil m = elim m [ ]
 every-at {P = P} (every_cons h r) (Memᴰ.head e) = subst P (sym e) h
 every-at (every_cons h r) (Memᴰ.tail m) = every-at r m
 
 -- one name, one side
 pub apart-inj : {l : List Spot} → Apart l → (s t : Spot) → Memᴰ s l → Memᴰ t l → same_spot s t ≡ true → s ≡ t
+apart-inj apart-nil s t m _ e = elim m [ ]
 apart-inj (apart_cons h r) s t (Memᴰ.head a) (Memᴰ.head b) e = a ∙ sym b
 apart-inj (apart_cons {s = x} h r) s t (Memᴰ.head a) (Memᴰ.tail n) e = absurd (true≢false (sym e ∙ (ap (λ y. same_spot y t) a ∙ every-at h n)))
 apart-inj (apart_cons {s = x} h r) s t (Memᴰ.tail m) (Memᴰ.head b) e = absurd (true≢false (sym e ∙ (spot-sym s t ∙ (ap (λ y. same_spot y s) b ∙ every-at h m))))

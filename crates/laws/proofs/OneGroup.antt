@@ -16,7 +16,7 @@ use Rattle.bits.proofs.Bools.{and_left}
 use Rattle.laws.proofs.Closed.{spots-every}
 use Rattle.laws.proofs.Weld.{welded-as, first-same}
 use Rattle.laws.proofs.Closed.{links-sound}
-use Rattle.laws.proofs.Laws.{one_corner, marks-inside, Once, once-cons, at_most_one, at_least_one, final-way}
+use Rattle.laws.proofs.Laws.{one_corner, marks-inside, Once, once-nil, once-cons, at_most_one, at_least_one, final-way}
 use Rattle.definition.specs.Names.{Names}
 use Rattle.laws.proofs.Mutual.{spots-apart, apart-inj, spot-sym, every-at, mutual'}
 use Rattle.laws.proofs.Sharp.{Sharp, sharp-own}
@@ -157,6 +157,7 @@ marked ss names s h f =
 
 -- marks on two corners that have one name
 once-inj : {ms : List Mark} → Once ms → (m n : Mark) → Memᴰ m ms → Memᴰ n ms → same_spot m.spot n.spot ≡ true → m ≡ n
+once-inj once-nil m n k _ e = elim k [ ]
 once-inj (once-cons h r) m n (Memᴰ.head a) (Memᴰ.head b) e = a ∙ sym b
 once-inj (once-cons h r) m n (Memᴰ.head a) (Memᴰ.tail k) e = absurd (true≢false (sym e ∙ (ap (λ x. same_spot x.spot n.spot) a ∙ every-at h k)))
 once-inj (once-cons h r) m n (Memᴰ.tail k) (Memᴰ.head b) e = absurd (true≢false (sym e ∙ (spot-sym m.spot n.spot ∙ (ap (λ x. same_spot x.spot m.spot) b ∙ every-at h k))))

@@ -27,11 +27,11 @@ pub record Of (n : ℕ) (Q : Corner → Type 0) (t : Triangle) : Type 0 where
 module _ (n : ℕ) (Q : Corner → Type 0) where
   make-of : (b : Bool) (m i j k : ℕ) {c d e : Corner} → Q c → Q d → Q e → Of n Q (make n b m (nook i c) (nook j d) (nook k e))
   unfolding make kept
-  make-of b m i j k p q r = record { name = refl; corners = λ x. elim x [ one ↦ p | two ↦ q | three ↦ r ] }
+  make-of b m i j k {c} {d} {e} p q r = record { name = refl; corners = λ x. elim x as (λ (y : Third). Q (kept (make n b m (nook i c) (nook j d) (nook k e)) y).corner) [ one ↦ p | two ↦ q | three ↦ r ] }
 
   settled-of : (t : Triangle) (m o : Bool) → Of n Q t → Of n Q (settled t m o)
   unfolding settled kept
-  settled-of t m o h = record { name = h.name; corners = λ x. elim x [ one ↦ h.corners one | two ↦ h.corners two | three ↦ h.corners three ] }
+  settled-of t m o h = record { name = h.name; corners = λ x. elim x as (λ (y : Third). Q (kept (settled t m o) y).corner) [ one ↦ h.corners one | two ↦ h.corners two | three ↦ h.corners three ] }
 
   pair_of : (s t : Triangle) → Of n Q s → Of n Q t → Every (Of n Q) (pair s t)
   unfolding pair

@@ -36,11 +36,11 @@ record Keeps (t : Triangle) : Type 0 where
 
 make-keeps : (n : ℕ) (b : Bool) (m i j k : ℕ) (c d e : Corner) → eqb i m ≡ false → eqb j m ≡ false → eqb k m ≡ false → Keeps (make n b m (nook i c) (nook j d) (nook k e))
 unfolding make kept
-make-keeps n b m i j k c d e p q r = record { at = λ x. elim x [ one ↦ p | two ↦ q | three ↦ r ] }
+make-keeps n b m i j k c d e p q r = record { at = λ x. elim x as (λ (y : Third). eqb (kept (make n b m (nook i c) (nook j d) (nook k e)) y).which m ≡ false) [ one ↦ p | two ↦ q | three ↦ r ] }
 
 settled-keeps : (t : Triangle) (m o : Bool) → Keeps t → Keeps (settled t m o)
 unfolding settled kept
-settled-keeps t m o h = record { at = λ x. elim x [ one ↦ h.at one | two ↦ h.at two | three ↦ h.at three ] }
+settled-keeps t m o h = record { at = λ x. elim x as (λ (y : Third). eqb (kept (settled t m o) y).which t.missing ≡ false) [ one ↦ h.at one | two ↦ h.at two | three ↦ h.at three ] }
 
 -- the corners of one sound triangle, in a face whose sound triangle it is
 one-sound : (t : Triangle) → Keeps t → Every (λ s. missed_by (some t) (slot_of s) ≡ false) (spots (t ∷ []))

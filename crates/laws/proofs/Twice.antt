@@ -37,20 +37,20 @@ module _ (n : ℕ) (b : Bool) (m i j k : ℕ) (c d e : Corner) where
   make-plain : eqb i j ≡ false → eqb i k ≡ false → eqb j i ≡ false → eqb j k ≡ false → eqb k i ≡ false → eqb k j ≡ false → Plain (make n b m (nook i c) (nook j d) (nook k e))
   unfolding make kept same_third
   make-plain ij ik ji jk ki kj = record {
-    slots = λ x y. elim x [
-      | one ↦ elim y [ one ↦ eq-eqb i i refl | two ↦ ij | three ↦ ik ]
-      | two ↦ elim y [ one ↦ ji | two ↦ eq-eqb j j refl | three ↦ jk ]
-      | three ↦ elim y [ one ↦ ki | two ↦ kj | three ↦ eq-eqb k k refl ]
+    slots = λ x y. elim x as (λ (x : Third). eqb (kept (make n b m (nook i c) (nook j d) (nook k e)) x).which (kept (make n b m (nook i c) (nook j d) (nook k e)) y).which ≡ same_third x y) [
+      | one ↦ elim y as (λ (y : Third). eqb (kept (make n b m (nook i c) (nook j d) (nook k e)) one).which (kept (make n b m (nook i c) (nook j d) (nook k e)) y).which ≡ same_third one y) [ one ↦ eq-eqb i i refl | two ↦ ij | three ↦ ik ]
+      | two ↦ elim y as (λ (y : Third). eqb (kept (make n b m (nook i c) (nook j d) (nook k e)) two).which (kept (make n b m (nook i c) (nook j d) (nook k e)) y).which ≡ same_third two y) [ one ↦ ji | two ↦ eq-eqb j j refl | three ↦ jk ]
+      | three ↦ elim y as (λ (y : Third). eqb (kept (make n b m (nook i c) (nook j d) (nook k e)) three).which (kept (make n b m (nook i c) (nook j d) (nook k e)) y).which ≡ same_third three y) [ one ↦ ki | two ↦ kj | three ↦ eq-eqb k k refl ]
     ];
   }
 
 settled_plain : (t : Triangle) (m o : Bool) → Plain t → Plain (settled t m o)
 unfolding settled kept
 settled_plain t m o h = record {
-  slots = λ x y. elim x [
-    | one ↦ elim y [ one ↦ h.slots one one | two ↦ h.slots one two | three ↦ h.slots one three ]
-    | two ↦ elim y [ one ↦ h.slots two one | two ↦ h.slots two two | three ↦ h.slots two three ]
-    | three ↦ elim y [ one ↦ h.slots three one | two ↦ h.slots three two | three ↦ h.slots three three ]
+  slots = λ x y. elim x as (λ (x : Third). eqb (kept (settled t m o) x).which (kept (settled t m o) y).which ≡ same_third x y) [
+    | one ↦ elim y as (λ (y : Third). eqb (kept (settled t m o) one).which (kept (settled t m o) y).which ≡ same_third one y) [ one ↦ h.slots one one | two ↦ h.slots one two | three ↦ h.slots one three ]
+    | two ↦ elim y as (λ (y : Third). eqb (kept (settled t m o) two).which (kept (settled t m o) y).which ≡ same_third two y) [ one ↦ h.slots two one | two ↦ h.slots two two | three ↦ h.slots two three ]
+    | three ↦ elim y as (λ (y : Third). eqb (kept (settled t m o) three).which (kept (settled t m o) y).which ≡ same_third three y) [ one ↦ h.slots three one | two ↦ h.slots three two | three ↦ h.slots three three ]
   ];
 }
 
