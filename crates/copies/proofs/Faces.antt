@@ -51,7 +51,7 @@ by-triangle P (x ∷ l) h = every_cons (here x.degenerate h) (by-triangle P l (r
   where
     here : (b : Bool) → Every P (spots (cond (not b) (x ∷ keep is_sound l) (keep is_sound l))) → b ≡ false → (i : Third) → P (record { tri = x; at = i })
     here true h e = absurd (true≢false e)
-    here false (every_cons p (every_cons q (every_cons r h))) e = λ i. elim i [ one ↦ p | two ↦ q | three ↦ r ]
+    here false (every_cons p (every_cons q (every_cons r h))) e = λ i. elim i as (λ (j : Third). P (record { tri = x; at = j })) [ one ↦ p | two ↦ q | three ↦ r ]
 
     rest : (b : Bool) → Every P (spots (cond (not b) (x ∷ keep is_sound l) (keep is_sound l))) → Every P (spots (keep is_sound l))
     rest true h = h

@@ -288,7 +288,7 @@ module _ (rows : ℕ) (ps : List Float) (w sizes : List ℕ) (ns ts : List Float
         record {
           readings = C.next;
           shows = C.shows;
-          far = far-broken t q C.next (far-stays t q B.next C.next G C.stays) (λ n i. elim i [ one ↦ C.stays _ _ (B.stays _ _ A.known) | two ↦ C.stays _ _ B.known | three ↦ C.known ]);
+          far = far-broken t q C.next (far-stays t q B.next C.next G C.stays) (λ n i. elim i as (λ (j : Third). Ended C.next t j) [ one ↦ C.stays _ _ (B.stays _ _ A.known) | two ↦ C.stays _ _ B.known | three ↦ C.known ]);
         }
 
     -- and nothing where it is marked

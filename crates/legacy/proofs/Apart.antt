@@ -69,12 +69,12 @@ make-ends f s m a b c = record {
       let ab = equals a.corner.place b.corner.place in
       let bc = equals b.corner.place c.corner.place in
       let ca = equals c.corner.place a.corner.place in
-      elim i [ one ↦ or_left ab bc (or_left (ab || bc) ca e) | two ↦ or_right ab bc (or_left (ab || bc) ca e) | three ↦ or_right (ab || bc) ca e ];
+      elim i as (λ (j : Third). equals (kept (make f s m a b c) j).corner.place (kept (make f s m a b c) (after j)).corner.place ≡ false) [ one ↦ or_left ab bc (or_left (ab || bc) ca e) | two ↦ or_right ab bc (or_left (ab || bc) ca e) | three ↦ or_right (ab || bc) ca e ];
 }
 
 settled-ends : (t : Triangle) (m o : Bool) → Ends t → Ends (settled t m o)
 unfolding settled kept after
-settled-ends t m o E = record { apart = λ e i. elim i [ one ↦ E.apart e one | two ↦ E.apart e two | three ↦ E.apart e three ] }
+settled-ends t m o E = record { apart = λ e i. elim i as (λ (j : Third). equals (kept (settled t m o) j).corner.place (kept (settled t m o) (after j)).corner.place ≡ false) [ one ↦ E.apart e one | two ↦ E.apart e two | three ↦ E.apart e three ] }
 
 two_ends : (s t : Triangle) → Ends s → Ends t → Every Ends (pair s t)
 unfolding pair

@@ -9,7 +9,7 @@ use Rattle.lists.specs.Lists.{keep}
 use Rattle.lists.specs.Every.{Every, every_nil, every_cons}
 use Rattle.definition.specs.declared.Corner.{Corner}
 use Rattle.definition.specs.declared.Triangle.{Triangle}
-use Rattle.definition.specs.Mesh.{one, two, three, kept, same_triangle}
+use Rattle.definition.specs.Mesh.{Third, one, two, three, kept, same_triangle}
 use Rattle.definition.specs.Step4Old.{recornered}
 use Rattle.definition.specs.Names.{Names, names_nil, names_cons}
 use Rattle.legacy.specs.Merged.{Like}
@@ -22,7 +22,7 @@ recornered-like [] cs d h t = record { face = refl; second = refl; missing = ref
 recornered-like (x ∷ ts) [] d h t = absurd (omega (arith, h))
 recornered-like (x ∷ ts) (a ∷ []) d h t = absurd (omega (arith, h))
 recornered-like (x ∷ ts) (a ∷ b ∷ []) d h t = absurd (omega (arith, h))
-recornered-like (x ∷ ts) (a ∷ b ∷ c ∷ cs) d h zero = record { face = refl; second = refl; missing = refl; which = λ i. elim i [ one ↦ refl | two ↦ refl | three ↦ refl ]; degenerate = refl; marked = refl; any = refl; orientation = refl; tangent = refl }
+recornered-like (x ∷ ts) (a ∷ b ∷ c ∷ cs) d h zero = record { face = refl; second = refl; missing = refl; which = λ i. elim i as (λ (j : Third). (kept (get_or (recornered (x ∷ ts) (a ∷ b ∷ c ∷ cs)) zero d) j).which ≡ (kept (get_or (x ∷ ts) zero d) j).which) [ one ↦ refl | two ↦ refl | three ↦ refl ]; degenerate = refl; marked = refl; any = refl; orientation = refl; tangent = refl }
 recornered-like (x ∷ ts) (a ∷ b ∷ c ∷ cs) d h (suc t) = recornered-like ts cs d (omega (arith, h)) t
 
 -- ---- names

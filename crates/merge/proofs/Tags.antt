@@ -25,11 +25,11 @@ pub record Follows (t : Triangle) : Type 0 where
 
 make-follows : (f : ℕ) (s : Bool) (m i j k : ℕ) (c d e : Corner) → i ≡ which_in m 0 → j ≡ which_in m 1 → k ≡ which_in m 2 → Follows (make f s m (nook i c) (nook j d) (nook k e))
 unfolding make kept num
-make-follows f s m i j k c d e p q r = record { at = λ x. elim x [ one ↦ p | two ↦ q | three ↦ r ] }
+make-follows f s m i j k c d e p q r = record { at = λ x. elim x as (λ (y : Third). (kept (make f s m (nook i c) (nook j d) (nook k e)) y).which ≡ which_in m (num y)) [ one ↦ p | two ↦ q | three ↦ r ] }
 
 settled-follows : (t : Triangle) (m o : Bool) → Follows t → Follows (settled t m o)
 unfolding settled kept
-settled-follows t m o h = record { at = λ x. elim x [ one ↦ h.at one | two ↦ h.at two | three ↦ h.at three ] }
+settled-follows t m o h = record { at = λ x. elim x as (λ (y : Third). (kept (settled t m o) y).which ≡ which_in t.missing (num y)) [ one ↦ h.at one | two ↦ h.at two | three ↦ h.at three ] }
 
 pair-follows : (s t : Triangle) → Follows s → Follows t → Every Follows (pair s t)
 unfolding pair

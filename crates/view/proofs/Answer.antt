@@ -287,12 +287,12 @@ module _ (f n : ℕ) where
   -- a triangle of three corners below n
   make-within : (b : Bool) (m i j k : ℕ) (c d e : Corner) → i < n → j < n → k < n → Within f n (make f b m (nook i c) (nook j d) (nook k e))
   unfolding make kept
-  make-within b m i j k c d e p q r = record { name = refl; below = λ x. elim x [ one ↦ p | two ↦ q | three ↦ r ] }
+  make-within b m i j k c d e p q r = record { name = refl; below = λ x. elim x as (λ (y : Third). (kept (make f b m (nook i c) (nook j d) (nook k e)) y).which < n) [ one ↦ p | two ↦ q | three ↦ r ] }
 
   -- the same with another mark and orientation
   settled-within : (t : Triangle) (m o : Bool) → Within f n t → Within f n (settled t m o)
   unfolding settled kept
-  settled-within t m o h = record { name = h.name; below = λ x. elim x [ one ↦ h.below one | two ↦ h.below two | three ↦ h.below three ] }
+  settled-within t m o h = record { name = h.name; below = λ x. elim x as (λ (y : Third). (kept (settled t m o) y).which < n) [ one ↦ h.below one | two ↦ h.below two | three ↦ h.below three ] }
 
   -- the two of a quad
   pair-within : (s t : Triangle) → Within f n s → Within f n t → Every (Within f n) (pair s t)

@@ -7,38 +7,26 @@ use Rattle.definition.specs.Handed.{handed}
 use Rattle.apart.specs.Steps.{DoneBelow}
 use Rattle.apart.proofs.Whole.{below_none, below_more, kept-none, kept_trans, room-kept}
 use Rattle.apart.proofs.all_islands.Goals as goal
-use Rattle.apart.proofs.all_islands.Tie as tie
-use Rattle.apart.proofs.all_islands.Lts as lts
-use Rattle.apart.proofs.all_islands.Reads as reads
-
-abbrev At-At-loop-t : Type 0
-At-At-loop-t = lts.At-loop tie.the-claims reads.Pre reads.Post goal.the-invariant-loop-t goal.the-decreases-loop-t
-
-abbrev At-Start : Type 0
-At-Start = lts.Start tie.the-claims reads.Pre reads.Post goal.the-invariant-loop-t goal.the-decreases-loop-t
-
-abbrev start : At-At-loop-t → At-Start
-start c = c.before.before.before.before.before.before.before.before.before.before.before
 
 pub loop-t-init : goal.loop-t-init
-loop-t-init c = let s = c.before.before.before.before.before.before.before.before.before.before in (omega arith, below_none _ _ _ s.requires.0 _, refl, kept-none _ _ _ _)
+loop-t-init c = let s = c in (omega arith, below_none _ _ _ s.requires.0 _, refl, kept-none _ _ _ _)
 
 pub one_island-requires : goal.one_island-requires
 one_island-requires c =
-    let i = c.before.before.before.before.before in
+    let i = c in
     let v = i.loop-t.invariant in
-    let s = start i.before in
+    let s = i in
     (omega (arith, i.loop-t-test.true), s.requires.0, s.requires.1, room-kept _ _ _ _ _ _ _ _ _ _ _ v.1.past.size v.2 v.3 s.requires.2)
 
 pub loop-t-smaller : goal.loop-t-smaller
-loop-t-smaller c = let i = c.before.before.before.before.before.before.before.before.before.before.before.before.before.before.before.before in omega (arith, i.loop-t-test.true)
+loop-t-smaller c = let i = c in omega (arith, i.loop-t-test.true)
 
 pub loop-t-preserved : goal.loop-t-preserved
 loop-t-preserved c =
-    let o = c.before.before.before.before.before.before.before.before.before.before in
-    let i = o.before.before.before.before.before.before in
+    let o = c in
+    let i = o in
     let v = i.loop-t.invariant in
-    let s = start i.before in
+    let s = i in
     let e = o.one_island.ensures in
     (omega (arith, i.loop-t-test.true), below_more _ _ _ s.requires.0 _ _ _ _ v.1 e.0, e.1 ∙ v.2, kept_trans _ _ _ _ _ _ _ _ _ _ v.3 e.2)
 
@@ -60,6 +48,6 @@ shape_of-work c = let v = c.loop-t.invariant in mathlib.Core.Path.ap length v.2
 pub returns : goal.returns
 returns c =
     let v = c.loop-t.invariant in
-    let a = (start c.before).args in
+    let a = c.args in
     let e : c.loop-t.t ≡ length a.sizes.now = omega (arith, v.0, c.loop-t-test.false) in
     (subst (λ t. DoneBelow (handed a.sizes.now a.positions.now a.normals.now a.texture.now) a.threshold t a.answer.now c.loop-t.answer) e v.1, v.2, v.3)

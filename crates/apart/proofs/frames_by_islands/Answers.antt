@@ -17,27 +17,24 @@ use Rattle.apart.proofs.frames_by_islands.Reads as reads
 abbrev At-Start : Type 0
 At-Start = lts.Start tie.the-claims reads.Pre reads.Post
 
-abbrev At-After-judge-v : Type 0
-At-After-judge-v = lts.After-judge tie.the-claims reads.Pre reads.Post
+abbrev At-Else-v-ne0 : Type 0
+At-Else-v-ne0 = lts.Else1 tie.the-claims reads.Pre reads.Post
 
 -- the lists of its own that are lent
 abbrev own : At-Start → Own
 own s = let a = s.args in lists a.labels.now a.order.now a.own-sizes.now a.own-numbers.now a.own-frames.now
 
-abbrev start : At-After-judge-v → At-Start
-start c = c.before.before.before.before.before.before.before.before.before.before.before.before
-
 -- past the first test there is no refusal of the table
-accepted : (c : goal.Else-v-ne0) → let a = (start c.before.before).args in verdict (shown (handed a.sizes.now a.positions.now a.normals.now a.texture.now) a.threshold (length a.answer.now) (length a.work.now)) ≡ none
+accepted : (c : At-Else-v-ne0) → let a = c.args in verdict (shown (handed a.sizes.now a.positions.now a.normals.now a.texture.now) a.threshold (length a.answer.now) (length a.work.now)) ≡ none
 accepted c =
-    let j = c.before.before in
-    let a = (start j).args in
+    let j = c in
+    let a = j.args in
     no-refusal (shown (handed a.sizes.now a.positions.now a.normals.now a.texture.now) a.threshold (length a.answer.now) (length a.work.now)) (let e = ap (λ x. x.number) j.judge-v.ensures in omega (arith, e, c.if-v-ne0.false))
 
 pub returns-then-v-ne0 : goal.returns-then-v-ne0
 returns-then-v-ne0 c =
-    let j = c.before.before.before in
-    let s = start j in
+    let j = c in
+    let s = j in
     let a = s.args in
     let e = j.judge-v.ensures in
     table-leaves (handed a.sizes.now a.positions.now a.normals.now a.texture.now) a.threshold a.answer.now a.work.now (own s) _ (c.said.ensures ∙ (λ i. record { number = (e i).number; place = (e i).place; slots = 0 })) (λ q. let n = ap (λ x. x.number) e in omega (arith, n, q, c.if-v-ne0.true))
@@ -48,26 +45,26 @@ is_short-requires c = (fine _ (accepted c)).few
 pub returns-then-is_short : goal.returns-then-is_short
 unfolding short
 returns-then-is_short c =
-    let i = c.before.before in
-    let j = i.before in
-    let s = start j.before.before in
+    let i = c in
+    let j = i in
+    let s = j in
     let a = s.args in
     nine-leaves (handed a.sizes.now a.positions.now a.normals.now a.texture.now) a.threshold a.answer.now a.work.now (own s) _ c.said-then-is_short.ensures (accepted j) (sym i.is_short.ensures ∙ c.if-is_short.true)
 
 pub make_frames-slots-requires : goal.make_frames-slots-requires
 unfolding short
 make_frames-slots-requires c =
-    let x = c.before.before.before.before.before.before.before in
-    let i = x.before in
+    let x = c in
+    let i = x in
     (accepted i.before, sym i.is_short.ensures ∙ x.if-is_short.false)
 
 pub returns : goal.returns
 unfolding short
 returns c =
-    let m = c.before.before.before.before.before.before.before.before.before.before.before.before.before.before.before in
-    let x = m.before.before.before.before.before.before.before.before in
-    let i = x.before in
-    let j = i.before in
-    let s = start j.before.before in
+    let m = c in
+    let x = m in
+    let i = x in
+    let j = i in
+    let s = j in
     let a = s.args in
     leaving-same _ _ _ _ _ c.said-2.ensures ∙ m.make_frames-slots.ensures ∙ taken-leaves (handed a.sizes.now a.positions.now a.normals.now a.texture.now) a.threshold a.answer.now a.work.now (own s) (accepted j) (sym i.is_short.ensures ∙ x.if-is_short.false)

@@ -4,81 +4,69 @@ use native.Mathlib.Omega.{arith}
 use lib.ListN.{length}
 use Rattle.apart.proofs.Turns.{going-none, gathered-all, safe, going_more}
 use Rattle.apart.proofs.gather.Goals as goal
-use Rattle.apart.proofs.gather.Tie as tie
-use Rattle.apart.proofs.gather.Lts as lts
-use Rattle.apart.proofs.gather.Reads as reads
-
-abbrev At-At-loop-next : Type 0
-At-At-loop-next = lts.At-loop tie.the-claims reads.Pre reads.Post goal.the-invariant-loop-next goal.the-decreases-loop-next
-
-abbrev At-Start : Type 0
-At-Start = lts.Start tie.the-claims reads.Pre reads.Post goal.the-invariant-loop-next goal.the-decreases-loop-next
-
-abbrev start : At-At-loop-next → At-Start
-start c = c.before.before.before.before.before.before.before.before.before
 
 pub overflow_add-next : goal.overflow_add-next
-overflow_add-next c = let s = c.before.before.before.before.before.before.before in omega (arith, s.requires.0, s.requires.1.fits.few)
+overflow_add-next c = let s = c in omega (arith, s.requires.0, s.requires.1.fits.few)
 
 pub bounds-order-n : goal.bounds-order-n
-bounds-order-n c = let s = c.before.before.before.before.before.before.before.before in omega (arith, s.requires.0, s.requires.1.long)
+bounds-order-n c = let s = c in omega (arith, s.requires.0, s.requires.1.long)
 
 pub loop-next-init : goal.loop-next-init
-loop-next-init c = let s = c.before.before.before.before.before.before.before.before in going-none _ _ s.requires.1 _ s.requires.0 _ _ s.requires.2
+loop-next-init c = let s = c in going-none _ _ s.requires.1 _ s.requires.0 _ _ s.requires.2
 
 pub overflow_cast-f : goal.overflow_cast-f
-overflow_cast-f c = let i = c in let s = start i.before in let k = safe _ _ s.requires.1 _ s.requires.0 _ _ s.requires.2 _ _ _ _ _ _ i.loop-next.invariant i.loop-next-test.true in omega (arith, k.is, k.below, s.requires.1.fits.few)
+overflow_cast-f c = let i = c in let s = i in let k = safe _ _ s.requires.1 _ s.requires.0 _ _ s.requires.2 _ _ _ _ _ _ i.loop-next.invariant i.loop-next-test.true in omega (arith, k.is, k.below, s.requires.1.fits.few)
 
 pub overflow_sub-size : goal.overflow_sub-size
 overflow_sub-size c = omega (arith, c.loop-next-test.true)
 
 pub bounds-sizes-f : goal.bounds-sizes-f
-bounds-sizes-f c = let i = c.before in let s = start i.before in let k = safe _ _ s.requires.1 _ s.requires.0 _ _ s.requires.2 _ _ _ _ _ _ i.loop-next.invariant i.loop-next-test.true in omega (arith, k.below, k.is)
+bounds-sizes-f c = let i = c in let s = i in let k = safe _ _ s.requires.1 _ s.requires.0 _ _ s.requires.2 _ _ _ _ _ _ i.loop-next.invariant i.loop-next-test.true in omega (arith, k.below, k.is)
 
 pub overflow_sub-base : goal.overflow_sub-base
-overflow_sub-base c = let i = c.before in let s = start i.before in let k = safe _ _ s.requires.1 _ s.requires.0 _ _ s.requires.2 _ _ _ _ _ _ i.loop-next.invariant i.loop-next-test.true in omega (arith, k.is)
+overflow_sub-base c = let i = c in let s = i in let k = safe _ _ s.requires.1 _ s.requires.0 _ _ s.requires.2 _ _ _ _ _ _ i.loop-next.invariant i.loop-next-test.true in omega (arith, k.is)
 
 pub overflow_add-base : goal.overflow_add-base
-overflow_add-base c = let i = c.before in let s = start i.before in let k = safe _ _ s.requires.1 _ s.requires.0 _ _ s.requires.2 _ _ _ _ _ _ i.loop-next.invariant i.loop-next-test.true in omega (arith, k.below, k.is, s.requires.1.fits.few)
+overflow_add-base c = let i = c in let s = i in let k = safe _ _ s.requires.1 _ s.requires.0 _ _ s.requires.2 _ _ _ _ _ _ i.loop-next.invariant i.loop-next-test.true in omega (arith, k.below, k.is, s.requires.1.fits.few)
 
 pub offset_bounds-order-n-in-loop-next : goal.offset_bounds-order-n-in-loop-next
-offset_bounds-order-n-in-loop-next c = let i = c.before in let s = start i.before in let k = safe _ _ s.requires.1 _ s.requires.0 _ _ s.requires.2 _ _ _ _ _ _ i.loop-next.invariant i.loop-next-test.true in omega (arith, k.is, k.below, s.requires.1.fits.few)
+offset_bounds-order-n-in-loop-next c = let i = c in let s = i in let k = safe _ _ s.requires.1 _ s.requires.0 _ _ s.requires.2 _ _ _ _ _ _ i.loop-next.invariant i.loop-next-test.true in omega (arith, k.is, k.below, s.requires.1.fits.few)
 
 pub bounds-order-n-in-loop-next : goal.bounds-order-n-in-loop-next
-bounds-order-n-in-loop-next c = let i = c.before.before in let s = start i.before in let k = safe _ _ s.requires.1 _ s.requires.0 _ _ s.requires.2 _ _ _ _ _ _ i.loop-next.invariant i.loop-next-test.true in omega (arith, k.below, k.is, s.requires.1.long)
+bounds-order-n-in-loop-next c = let i = c in let s = i in let k = safe _ _ s.requires.1 _ s.requires.0 _ _ s.requires.2 _ _ _ _ _ _ i.loop-next.invariant i.loop-next-test.true in omega (arith, k.below, k.is, s.requires.1.long)
 
 pub overflow_cast-base : goal.overflow_cast-base
-overflow_cast-base c = let i = c.before.before in omega (arith, c.shared_slice_known-in-loop-next-2-1.given (2 * length (start i.before).args.sizes.now + (i.loop-next.next - 1)))
+overflow_cast-base c = let i = c in omega (arith, c.shared_slice_known-in-loop-next-2-1.given (2 * length i.args.sizes.now + (i.loop-next.next - 1)))
 
 pub gather_face-requires : goal.gather_face-requires
-gather_face-requires c = let i = c.before.before.before.before in let s = start i.before in let k = safe _ _ s.requires.1 _ s.requires.0 _ _ s.requires.2 _ _ _ _ _ _ i.loop-next.invariant i.loop-next-test.true in (k.positions, k.normals, k.texture, k.faces, k.corners, omega (arith, s.requires.3, i.loop-next.invariant.numbers.size))
+gather_face-requires c = let i = c in let s = i in let k = safe _ _ s.requires.1 _ s.requires.0 _ _ s.requires.2 _ _ _ _ _ _ i.loop-next.invariant i.loop-next-test.true in (k.positions, k.normals, k.texture, k.faces, k.corners, omega (arith, s.requires.3, i.loop-next.invariant.numbers.size))
 
 pub overflow_add-k : goal.overflow_add-k
-overflow_add-k c = let i = c.before.before.before.before.before.before.before.before.before in let s = start i.before in let k = safe _ _ s.requires.1 _ s.requires.0 _ _ s.requires.2 _ _ _ _ _ _ i.loop-next.invariant i.loop-next-test.true in omega (arith, k.faces, i.loop-next.invariant.faces.size, i.loop-next.invariant.gathered.few, i.loop-next.invariant.within, s.requires.1.fits.few)
+overflow_add-k c = let i = c in let s = i in let k = safe _ _ s.requires.1 _ s.requires.0 _ _ s.requires.2 _ _ _ _ _ _ i.loop-next.invariant i.loop-next-test.true in omega (arith, k.faces, i.loop-next.invariant.faces.size, i.loop-next.invariant.gathered.few, i.loop-next.invariant.within, s.requires.1.fits.few)
 
 pub overflow_cast-c : goal.overflow_cast-c
-overflow_cast-c c = let i = c.before.before.before.before.before.before.before.before.before in let s = start i.before in let k = safe _ _ s.requires.1 _ s.requires.0 _ _ s.requires.2 _ _ _ _ _ _ i.loop-next.invariant i.loop-next-test.true in omega (arith, k.small)
+overflow_cast-c c = let i = c in let s = i in let k = safe _ _ s.requires.1 _ s.requires.0 _ _ s.requires.2 _ _ _ _ _ _ i.loop-next.invariant i.loop-next-test.true in omega (arith, k.small)
 
 pub overflow_add-c : goal.overflow_add-c
-overflow_add-c c = let i = c.before.before.before.before.before.before.before.before.before in let s = start i.before in let k = safe _ _ s.requires.1 _ s.requires.0 _ _ s.requires.2 _ _ _ _ _ _ i.loop-next.invariant i.loop-next-test.true in omega (arith, k.corners, s.requires.1.fits.few)
+overflow_add-c c = let i = c in let s = i in let k = safe _ _ s.requires.1 _ s.requires.0 _ _ s.requires.2 _ _ _ _ _ _ i.loop-next.invariant i.loop-next-test.true in omega (arith, k.corners, s.requires.1.fits.few)
 
 pub overflow_sub-next : goal.overflow_sub-next
-overflow_sub-next c = let i = c.before.before.before.before.before.before.before.before.before in let s = start i.before in let k = safe _ _ s.requires.1 _ s.requires.0 _ _ s.requires.2 _ _ _ _ _ _ i.loop-next.invariant i.loop-next-test.true in omega (arith, k.is)
+overflow_sub-next c = let i = c in let s = i in let k = safe _ _ s.requires.1 _ s.requires.0 _ _ s.requires.2 _ _ _ _ _ _ i.loop-next.invariant i.loop-next-test.true in omega (arith, k.is)
 
 pub offset_bounds-order-f : goal.offset_bounds-order-f
-offset_bounds-order-f c = let i = c.before.before.before.before.before.before.before.before.before in let s = start i.before in let k = safe _ _ s.requires.1 _ s.requires.0 _ _ s.requires.2 _ _ _ _ _ _ i.loop-next.invariant i.loop-next-test.true in omega (arith, k.is, k.below, s.requires.1.fits.few)
+offset_bounds-order-f c = let i = c in let s = i in let k = safe _ _ s.requires.1 _ s.requires.0 _ _ s.requires.2 _ _ _ _ _ _ i.loop-next.invariant i.loop-next-test.true in omega (arith, k.is, k.below, s.requires.1.fits.few)
 
 pub bounds-order-f : goal.bounds-order-f
-bounds-order-f c = let i = c.before.before.before.before.before.before.before.before.before.before in let s = start i.before in let k = safe _ _ s.requires.1 _ s.requires.0 _ _ s.requires.2 _ _ _ _ _ _ i.loop-next.invariant i.loop-next-test.true in omega (arith, k.below, k.is, s.requires.1.long)
+bounds-order-f c = let i = c in let s = i in let k = safe _ _ s.requires.1 _ s.requires.0 _ _ s.requires.2 _ _ _ _ _ _ i.loop-next.invariant i.loop-next-test.true in omega (arith, k.below, k.is, s.requires.1.long)
 
 pub loop-next-smaller : goal.loop-next-smaller
-loop-next-smaller c = let i = c.before.before.before.before.before.before.before.before.before.before in let s = start i.before in let k = safe _ _ s.requires.1 _ s.requires.0 _ _ s.requires.2 _ _ _ _ _ _ i.loop-next.invariant i.loop-next-test.true in omega (arith, k.further, k.below, k.is)
+loop-next-smaller c = let i = c in let s = i in let k = safe _ _ s.requires.1 _ s.requires.0 _ _ s.requires.2 _ _ _ _ _ _ i.loop-next.invariant i.loop-next-test.true in omega (arith, k.further, k.below, k.is)
 
 pub loop-next-preserved : goal.loop-next-preserved
 loop-next-preserved c =
-    let g = c.before.before.before.before.before in
-    let i = g.before.before.before.before.before in
-    let s = start i.before in
+    let g = c in
+    let i = g in
+    let s = i in
     going_more _ _ s.requires.1 _ s.requires.0 _ _ s.requires.2 _ _ _ _ _ _ i.loop-next.invariant i.loop-next-test.true _ _ g.gather_face.ensures.0 g.gather_face.ensures.1
 
 pub shape_of-own_sizes : goal.shape_of-own_sizes
@@ -89,6 +77,6 @@ shape_of-own_numbers c = c.loop-next.invariant.numbers.size
 
 pub returns : goal.returns
 returns c =
-    let s = start c.before in
+    let s = c in
     let g = c.loop-next.invariant in
     (gathered-all _ _ s.requires.1 _ s.requires.0 _ _ s.requires.2 _ _ _ _ _ _ g c.loop-next-test.false, g.faces, g.numbers)

@@ -5,8 +5,8 @@ use Rattle.apart.proofs.gather_face.Goals as goal
 
 pub returns : goal.returns
 returns c =
-    let x = c.before.before in
-    let y = x.before.before.before.before in
-    let w = y.before.before.before.before in
-    let s = w.before.before.before.before.before.before.before in
+    let x = c in
+    let y = x in
+    let w = y in
+    let s = w in
     (refl, laid-is _ _ _ _ _ _ _ _ _ _ _ s.requires.4 w.copy.ensures y.copy-2.ensures x.copy-3.ensures)

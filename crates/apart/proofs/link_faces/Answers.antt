@@ -11,36 +11,32 @@ use Rattle.apart.proofs.link_faces.Tie as tie
 use Rattle.apart.proofs.link_faces.Lts as lts
 use Rattle.apart.proofs.link_faces.Reads as reads
 
-abbrev At-Start : Type 0
-At-Start = lts.Start tie.the-claims reads.Pre reads.Post goal.the-invariant-loop-i goal.the-decreases-loop-i
+abbrev At-After-slice_known-2-1 : Type 0
+At-After-slice_known-2-1 = lts.After-slice_known2 tie.the-claims reads.Pre reads.Post goal.the-invariant-loop-i goal.the-decreases-loop-i
 
--- clearing leaves what is past the two parts
-abbrev start : goal.After-slice_known-2-1 → At-Start
-start c = c.before.before.before.before.before.before
-
-cleared : (c : goal.After-slice_known-2-1) → Past 0 (2 * (start c).args.count) (start c).args.order.now c.clear_first.new.words
-cleared c = subst (λ l. Past 0 (2 * (start c).args.count) (start c).args.order.now l) (sym c.clear_first.ensures) (cleared-past 0 0 (2 * (start c).args.count) (start c).args.order.now (start c).requires.1)
+cleared : (c : At-After-slice_known-2-1) → Past 0 (2 * c.args.count) c.args.order.now c.clear_first.new.words
+cleared c = subst (λ l. Past 0 (2 * c.args.count) c.args.order.now l) (sym c.clear_first.ensures) (cleared-past 0 0 (2 * c.args.count) c.args.order.now c.requires.1)
 
 pub loop-i-init : goal.loop-i-init
 loop-i-init c =
-    let f = c.before.before in
-    let s = f.before.before.before.before in
+    let f = c in
+    let s = f in
     (omega arith, linked-none _ _ _ (λ x h. subst (λ l. lib.ListN.get_or l x 0 ≡ 0) (sym f.clear_first.ensures) (cleared-low 0 0 (2 * s.args.count) s.args.order.now x h)), past-none 0 _ _)
 
 pub link_face-requires : goal.link_face-requires
 link_face-requires c =
-    let i = c.before in
+    let i = c in
     let l = i.loop-i in
-    let k = i.before.before in
-    let s = start k in
+    let k = i in
+    let s = k in
     let t = i.loop-i-test.true in
     let e : (l.i - 1) + 1 ≡ l.i = omega (arith, t) in
     (omega (arith, l.invariant.0, t), s.requires.0, omega (arith, s.requires.1, (cleared k).size, l.invariant.2.size), s.requires.2, subst (λ n. Linked s.args.count (label_at s.args.labels.now) n l.order) (sym e) l.invariant.1)
 
 pub loop-i-preserved : goal.loop-i-preserved
 loop-i-preserved c =
-    let f = c.before.before in
-    let i = f.before.before in
+    let f = c in
+    let i = f in
     let l = i.loop-i in
     (omega (arith, l.invariant.0, i.loop-i-test.true), f.link_face.ensures.0, past-trans 0 _ _ _ _ l.invariant.2 f.link_face.ensures.1)
 
@@ -50,7 +46,7 @@ shape_of-order c = c.loop-i.invariant.2.size ∙ (cleared c.before.before).size
 pub returns : goal.returns
 returns c =
     let l = c.loop-i in
-    let k = c.before.before in
-    let a = (start k).args in
+    let k = c in
+    let a = k.args in
     let e : l.i ≡ 0 = omega (arith, c.loop-i-test.false) in
     (subst (λ n. Linked a.count (label_at a.labels.now) n l.order) e l.invariant.1, past-trans 0 _ _ _ _ (cleared k) l.invariant.2)

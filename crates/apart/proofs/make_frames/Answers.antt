@@ -17,12 +17,6 @@ use Rattle.apart.proofs.make_frames.Reads as reads
 abbrev At-Start : Type 0
 At-Start = lts.Start tie.the-claims reads.Pre reads.Post
 
-abbrev At-After-prepare : Type 0
-At-After-prepare = lts.After-prepare tie.the-claims reads.Pre reads.Post
-
-abbrev At-After-all_islands : Type 0
-At-After-all_islands = lts.After-all_islands tie.the-claims reads.Pre reads.Post
-
 -- the lists of its own that are lent
 abbrev own : At-Start → Own
 own s = let a = s.args in lists a.labels.now a.order.now a.own-sizes.now a.own-numbers.now a.own-frames.now
@@ -36,39 +30,33 @@ fits s = known _ _ _ _ s.requires.0
 ends : (s : At-Start) → let a = s.args in Fine (shown (handed a.sizes.now a.positions.now a.normals.now a.texture.now) a.threshold (length a.answer.now) (length a.work.now))
 ends s = fine _ s.requires.0
 
-abbrev start : At-After-prepare → At-Start
-start c = c.before.before.before.before.before.before.before.before.before.before.before.before.before.before.before
-
-abbrev prepared : At-After-all_islands → At-After-prepare
-prepared c = c.before.before.before.before.before.before.before.before.before.before.before.before.before
-
 pub prepare-requires : goal.prepare-requires
-prepare-requires c = let s = c.before.before.before.before.before.before.before.before.before.before.before.before.before.before in ((fits s).0, (long s).labels, (long s).order, (ends s).work-fits)
+prepare-requires c = let s = c in ((fits s).0, (long s).labels, (long s).order, (ends s).work-fits)
 
 pub all_islands-requires : goal.all_islands-requires
 all_islands-requires c =
-    let p = c.before.before.before.before.before.before.before.before.before.before.before.before in
-    let s = start p in
+    let p = c in
+    let s = p in
     let e = p.prepare.ensures in
     (e.1, (fits s).1, room-first _ _ _ _ (own s) (ends s).answer-fits (ends s).work-fits e.3 (long s))
 
 pub clear_own-requires : goal.clear_own-requires
 clear_own-requires c =
-    let i = c.before.before.before.before.before.before.before.before.before.before.before.before.before.before in
-    let p = prepared i in
-    let s = start p in
+    let i = c in
+    let p = i in
+    let s = p in
     let k = i.all_islands.ensures.2 in
     ((fits s).0.few, p.prepare.ensures.1.long, omega (arith, k.sizes.size, (long s).sizes), omega (arith, k.numbers.size, (long s).numbers), omega (arith, k.frames.size, (long s).frames))
 
 pub shape_of-labels : goal.shape_of-labels
-shape_of-labels c = (prepared c.before.before.before.before.before.before.before.before.before.before.before.before.before.before.before.before.before.before.before.before.before.before.before.before).prepare.auto.order.1.1.1.0
+shape_of-labels c = c.prepare.auto.order.1.1.1.0
 
 pub returns : goal.returns
 returns c =
-    let o = c.before.before.before.before.before.before.before.before.before in
-    let i = o.before.before.before.before.before.before.before.before.before.before.before.before.before.before.before in
-    let p = prepared i in
-    let s = start p in
+    let o = c in
+    let i = o in
+    let p = i in
+    let s = p in
     let a = s.args in
     let e = p.prepare.ensures in
     let f = i.all_islands.ensures in

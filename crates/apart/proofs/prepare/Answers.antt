@@ -6,11 +6,11 @@ use Rattle.apart.proofs.prepare.Goals as goal
 
 pub returns : goal.returns
 returns c =
-    let k = c.before.before in
-    let f = k.before.before.before.before.before in
-    let w = f.before.before.before.before in
-    let l = w.before.before.before.before.before.before in
-    let s = l.before.before.before.before.before.before.before.before.before.before in
+    let k = c in
+    let f = k in
+    let w = f in
+    let l = w in
+    let s = l in
     let e = l.label.ensures in
     let b = f.start_faces.ensures in
     let d = k.link_faces.ensures in

@@ -25,8 +25,17 @@ use Rattle.appends.proofs.append_as.Reads as reads
 abbrev At-Else-not-writable : Type 0
 At-Else-not-writable = lts.Else1 tie.the-claims reads.Pre reads.Post
 
+abbrev At-After-records_of-count : Type 0
+At-After-records_of-count = lts.After-records_of tie.the-claims reads.Pre reads.Post
+
+abbrev At-After-blocks_for-made : Type 0
+At-After-blocks_for-made = lts.After-blocks_for tie.the-claims reads.Pre reads.Post
+
 abbrev At-Else-lent-made : Type 0
 At-Else-lent-made = lts.Else2 tie.the-claims reads.Pre reads.Post
+
+abbrev At-Else-overfull : Type 0
+At-Else-overfull = lts.Else3 tie.the-claims reads.Pre reads.Post
 
 abbrev At-After-are_next : Type 0
 At-After-are_next = lts.After-are_next tie.the-claims reads.Pre reads.Post
@@ -35,12 +44,12 @@ At-After-are_next = lts.After-are_next tie.the-claims reads.Pre reads.Post
 can : (c : At-Else-not-writable) → let a = c.args in writable a.kind a.records.now ≡ true
 can c = sym c.writable.ensures ∙ not-false _ c.if-not-writable.false
 
-few : (c : goal.After-records_of-count) → c.records_of-count.result < word_values
+few : (c : At-After-records_of-count) → c.records_of-count.result < word_values
 few c =
     let a = c.args in
     omega (arith, c.records_of-count.ensures, few-records a.kind a.records.now (can c.before))
 
-made-is : (c : goal.After-blocks_for-made) → let a = c.args in c.blocks_for-made.result ≡ blocks_for a.kind (records_of a.kind a.records.now)
+made-is : (c : At-After-blocks_for-made) → let a = c.args in c.blocks_for-made.result ≡ blocks_for a.kind (records_of a.kind a.records.now)
 made-is c =
     let a = c.args in
     c.blocks_for-made.ensures.0 ∙ ap (blocks_for a.kind) c.records_of-count.ensures
@@ -49,7 +58,7 @@ room : (c : At-Else-lent-made) → let a = c.args in card_bytes a.kind (records_
 unfolding card_bytes
 room c = omega (arith, c.if-lent-made.false, made-is c.before)
 
-within : (c : goal.Else-overfull) → let a = c.args in overfull a.kind a.total a.long ≡ false
+within : (c : At-Else-overfull) → let a = c.args in overfull a.kind a.total a.long ≡ false
 within c = sym c.overfull.ensures ∙ c.if-overfull.false
 
 next-by : (kind : Kind) (n m b k j : ℕ) (r : Bool) → r ≡ are_next kind n b k → n ≡ m → k ≡ j → r ≡ are_next kind m b j
@@ -58,14 +67,14 @@ next-by kind n m b k j r e g h = e ∙ (λ z. are_next kind (g z) b (h z))
 told : (c : At-After-are_next) → let a = c.args in c.are_next.result ≡ are_next a.kind a.total (first_torn a.long) (records_of a.kind a.records.now)
 unfolding first_torn
 told c =
-    let n = c.before.before.before.before.before in
+    let n = c in
     let a = n.args in
     next-by a.kind _ a.total (a.long / block_bytes) _ (records_of a.kind a.records.now) _ c.are_next.ensures (omega arith) n.records_of-count.ensures
 
 pub returns-then-not-writable : goal.returns-then-not-writable
 unfolding after_append not_added
 returns-then-not-writable c =
-    let t = c.before in
+    let t = c in
     let a = t.args in
     ap (λ (r : Appended). after_append r a.lent.now) c.refused.ensures
     ∙ sym (added-1 a.kind a.total a.long a.records.now a.lent.now (sym t.writable.ensures ∙ not-true _ t.if-not-writable.true))
@@ -79,8 +88,8 @@ overflow_mul-made c = omega (arith, c.blocks_for-made.ensures.1, few c.before)
 pub returns-then-lent-made : goal.returns-then-lent-made
 unfolding after_append not_added card_bytes
 returns-then-lent-made c =
-    let t = c.before in
-    let e = t.before.before.before in
+    let t = c in
+    let e = t in
     let a = e.args in
     ap (λ (r : Appended). after_append r a.lent.now) c.refused-then-lent-made.ensures
     ∙ sym (added-2 a.kind a.total a.long a.records.now a.lent.now (can e) (omega (arith, t.if-lent-made.true, made-is t.before)))
@@ -88,15 +97,15 @@ returns-then-lent-made c =
 pub returns-then-overfull : goal.returns-then-overfull
 unfolding after_append not_added
 returns-then-overfull c =
-    let t = c.before in
-    let e = t.before.before in
-    let i = e.before.before.before in
+    let t = c in
+    let e = t in
+    let i = e in
     let a = i.args in
     ap (λ (r : Appended). after_append r a.lent.now) c.refused-then-overfull.ensures
     ∙ sym (added-3 a.kind a.total a.long a.records.now a.lent.now (can i) (room e) (sym t.overfull.ensures ∙ t.if-overfull.true))
 
 -- the torn block's number is small
-first_fits : (c : goal.Else-overfull) → let a = c.args in a.long / block_bytes ≤ word_values
+first_fits : (c : At-Else-overfull) → let a = c.args in a.long / block_bytes ≤ word_values
 unfolding first_torn
 first_fits c =
     let a = c.args in
@@ -108,10 +117,10 @@ are_next-requires c = first_fits c
 pub returns-then-not-are_next : goal.returns-then-not-are_next
 unfolding after_append not_added
 returns-then-not-are_next c =
-    let t = c.before in
-    let e = t.before.before in
-    let r = e.before.before in
-    let i = r.before.before.before in
+    let t = c in
+    let e = t in
+    let r = e in
+    let i = r in
     let a = i.args in
     ap (λ (r : Appended). after_append r a.lent.now) c.refused-then-not-are_next.ensures
     ∙ sym (added-by a.kind a.total a.long a.records.now a.lent.now (can i) (room r) (within e) false (sym (told t.before) ∙ not-true _ t.if-not-are_next.true))
@@ -119,22 +128,22 @@ returns-then-not-are_next c =
 pub put_blocks-requires : goal.put_blocks-requires
 unfolding first_torn
 put_blocks-requires c =
-    let t = c.before in
-    let e = t.before.before in
-    let r = e.before.before in
-    let i = r.before.before.before in
+    let t = c in
+    let e = t in
+    let r = e in
+    let i = r in
     let a = i.args in
     (omega (arith, made-is r.before), sym (told t.before) ∙ not-false _ t.if-not-are_next.false, few-records a.kind a.records.now (can i), first_fits e, room r)
 
 pub returns : goal.returns
 unfolding after_append now_added first_torn place_of
 returns c =
-    let p = c.before.before in
-    let t = p.before.before in
-    let e = t.before.before in
-    let r = e.before.before in
-    let f = r.before in
-    let i = f.before.before in
+    let p = c in
+    let t = p in
+    let e = t in
+    let r = e in
+    let f = r in
+    let i = f in
     let a = i.args in
     (λ z. record { number = 0; blocks = made-is f z; at = block_bytes * (a.long / block_bytes); lent = p.put_blocks.ensures z })
     ∙ sym (added-by a.kind a.total a.long a.records.now a.lent.now (can i) (room r) (within e) true (sym (told t.before) ∙ not-false _ t.if-not-are_next.false))

@@ -19,6 +19,9 @@ use Rattle.appends.proofs.put_blocks.Reads as reads
 abbrev At-Start : Type 0
 At-Start = lts.Start tie.the-claims reads.Pre reads.Post goal.the-invariant-loop-i goal.the-decreases-loop-i
 
+abbrev At-After-put_block-arg-1 : Type 0
+At-After-put_block-arg-1 = lts.After-put_block-arg tie.the-claims reads.Pre reads.Post goal.the-invariant-loop-i goal.the-decreases-loop-i
+
 pub loop-i-init : goal.loop-i-init
 loop-i-init c =
     let a = c.args in
@@ -29,9 +32,9 @@ theirs : (s : At-Start) → let a = s.args in NextRecords a.kind a.total a.b (re
 theirs s = follows s.args.kind s.args.total s.args.b (records_of s.args.kind s.args.records.now) s.requires.1
 
 -- and few
-few : (c : goal.After-put_block-arg-1) → c.loop-i.i < word_values
+few : (c : At-After-put_block-arg-1) → c.loop-i.i < word_values
 few c =
-    let s = c.before.before.before.before.before in
+    let s = c in
     let a = s.args in
     omega (arith, s.requires.0, s.requires.2, blocks-le a.kind (records_of a.kind a.records.now), c.loop-i-test.true)
 
@@ -45,16 +48,16 @@ pub put_block-requires : goal.put_block-requires
 unfolding card_bytes
 put_block-requires c =
     let l = c.loop-i in
-    let s = c.before.before.before.before.before in
+    let s = c in
     let a = s.args in
     let h : l.i < blocks_for a.kind (records_of a.kind a.records.now) = omega (arith, s.requires.0, c.loop-i-test.true) in
     (omega (arith, h, s.requires.4, l.invariant.2), next-called a.kind a.total a.b (records_of a.kind a.records.now) l.i (theirs s) h, next-fit a.kind a.total a.b a.records.now (theirs s) l.i h)
 
 pub loop-i-preserved : goal.loop-i-preserved
 loop-i-preserved c =
-    let p = c.before.before in
+    let p = c in
     let l = p.loop-i in
-    let s = p.before.before.before.before.before.before in
+    let s = p in
     let a = s.args in (
       omega arith,
       p.put_block.ensures
@@ -67,7 +70,7 @@ pub returns : goal.returns
 unfolding card_bytes blocks_from
 returns c =
     let l = c.loop-i in
-    let s = c.before.before.before.before in
+    let s = c in
     let a = s.args in
     let k = blocks_for a.kind (records_of a.kind a.records.now) in
     joined-front a.lent.now l.lent (λ i. block_of a.kind a.total (a.b + i) (part (room_words * i) (used_words a.kind a.total (a.b + i)) a.records.now)) l.i k (block_bytes * k) l.invariant.1

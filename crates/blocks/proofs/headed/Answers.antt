@@ -11,12 +11,12 @@ use Rattle.blocks.proofs.headed.Goals as goal
 pub returns : goal.returns
 unfolding every_below
 returns c =
-    let g = c.before in
-    let f = g.before in
-    let e = f.before in
-    let d = e.before in
-    let b = d.before in
-    let a = b.before in
+    let g = c in
+    let f = g in
+    let e = f in
+    let d = e in
+    let b = d in
+    let a = b in
     let x = a.args in
     let h = x.t3 in
     let first = a.word_at.ensures ∙ ap (word_at x.card.now) (sym (add-zero x.p)) in

@@ -12,6 +12,12 @@ use Rattle.lists.proofs.Parts.{length-joined}
 use Rattle.words.proofs.Stores.{joined-none, joined-stored}
 use Rattle.blocks.specs.Judged as spec
 use Rattle.blocks.proofs.lose.Goals as goal
+use Rattle.blocks.proofs.lose.Tie as tie
+use Rattle.blocks.proofs.lose.Lts as lts
+use Rattle.blocks.proofs.lose.Reads as reads
+
+abbrev At-After-lose_one-arg-1 : Type 0
+At-After-lose_one-arg-1 = lts.After-lose_one-arg tie.the-claims reads.Pre reads.Post goal.the-invariant-loop-r goal.the-decreases-loop-r
 
 pub loop-r-init : goal.loop-r-init
 loop-r-init c =
@@ -19,9 +25,9 @@ loop-r-init c =
     (omega arith, joined-none a.answer.now a.p (λ _. spec.lost_words a.wide), refl)
 
 -- record r is among the words of the list
-inside : (c : goal.After-lose_one-arg-1) → let a = c.args in a.p + a.wide * c.loop-r.r + a.wide ≤ length a.answer.now
+inside : (c : At-After-lose_one-arg-1) → let a = c.args in a.p + a.wide * c.loop-r.r + a.wide ≤ length a.answer.now
 inside c =
-    let s = c.before.before.before.before in
+    let s = c in
     omega (arith, one_of s.args.wide c.loop-r.r s.args.count c.loop-r-test.true, s.requires.0)
 
 pub overflow_mul-wide : goal.overflow_mul-wide
@@ -35,7 +41,7 @@ lose_one-requires c = (omega (arith, inside c, c.loop-r.invariant.2), c.requires
 
 pub loop-r-preserved : goal.loop-r-preserved
 loop-r-preserved c =
-    let p = c.before.before in
+    let p = c in
     let l = p.loop-r in
     let a = p.args in (
       omega arith,

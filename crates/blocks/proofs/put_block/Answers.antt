@@ -8,7 +8,7 @@ use Rattle.blocks.proofs.put_block.Goals as goal
 
 pub put_words-second-requires : goal.put_words-second-requires
 put_words-second-requires c =
-    let u = c.before.before.before.before.before.before.before in
+    let u = c in
     (omega (arith, c.put_words-first.auto.bytes, u.used_words-count.ensures), omega (arith, u.used_words-count.ensures), omega (arith, u.used_words-count.ensures))
 
 pub overflow_add-first : goal.overflow_add-first
@@ -20,12 +20,12 @@ of-sum r s t e h = e ∙ ap complement h
 
 pub returns : goal.returns
 returns c =
-    let p = c.before.before in
-    let z = p.before.before.before.before.before in
-    let r = z.before.before.before.before in
-    let w = r.before.before.before.before in
-    let u = w.before.before.before.before in
-    let s = u.before.before.before in
+    let p = c in
+    let z = p in
+    let r = z in
+    let w = r in
+    let u = w in
+    let s = u in
     let a = s.args in
     let e = u.used_words-count.ensures.0 in
     block-stored a.kind a.card.now w.header-h.result a.records.now a.at a.total a.b a.from u.used_words-count.result w.header-h.ensures e

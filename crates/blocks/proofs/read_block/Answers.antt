@@ -26,23 +26,23 @@ product c =
 
 pub overflow_mul-wide : goal.overflow_mul-wide
 overflow_mul-wide c =
-    let w = c.before.before.before in
+    let w = c in
     let a = w.args in
     omega (arith, product w, used-words-le a.kind a.total a.b)
 
 pub get_words-requires : goal.get_words-requires
 get_words-requires c =
-    let g = c.before.before in
-    let w = g.before in
-    let s = w.before.before.before.before in
+    let g = c in
+    let w = g in
+    let s = w in
     let a = s.args in
     let there = good-there a.kind a.total a.b a.card.now (sym g.good2.ensures ∙ c.if-good.true) in
     (omega (arith, there, product w, used-words-le a.kind a.total a.b), omega (arith, product w, words-fit a.kind a.total a.b s.requires.0, s.requires.1))
 
 pub lose-requires : goal.lose-requires
 lose-requires c =
-    let w = c.before.before.before in
-    let s = w.before.before.before.before in
+    let w = c in
+    let s = w in
     let a = s.args in
     (omega (arith, product w, words-fit a.kind a.total a.b s.requires.0, s.requires.1), w.record_words-wide.ensures.1)
 
@@ -52,16 +52,16 @@ got-by l u p bs k m n e h = e ∙ ap (λ (j : ℕ). sets l p (words_at bs j n)) 
 
 pub returns-then-good : goal.returns-then-good
 returns-then-good c =
-    let g = c.before.before.before.before.before in
-    let w = g.before in
+    let g = c in
+    let w = g in
     let a = w.args in
     got-by _ _ _ _ _ (block_words * a.b + header_words) _ c.get_words.ensures (omega arith)
     ∙ ap (sets a.answer.now (room_words * a.b)) (ap (words_at a.card.now (block_words * a.b + header_words)) (product w) ∙ sym (read-good a.kind a.total a.b a.card.now (sym g.good2.ensures ∙ c.if-good.true)))
 
 pub returns-else-good : goal.returns-else-good
 returns-else-good c =
-    let g = c.before.before.before.before.before in
-    let w = g.before in
+    let g = c in
+    let w = g in
     let a = w.args in
     c.lose.ensures
     ∙ ap (sets a.answer.now (room_words * a.b))

@@ -11,6 +11,12 @@ use Rattle.words.specs.Words.{word_at}
 use Rattle.blocks.proofs.Counts.{one_of}
 use Rattle.lists.proofs.Parts.{every-none, every_more, every-fails}
 use Rattle.blocks.proofs.records_marked.Goals as goal
+use Rattle.blocks.proofs.records_marked.Tie as tie
+use Rattle.blocks.proofs.records_marked.Lts as lts
+use Rattle.blocks.proofs.records_marked.Reads as reads
+
+abbrev At-In-loop-r : Type 0
+At-In-loop-r = lts.In-loop tie.the-claims reads.Pre reads.Post goal.the-invariant-loop-r goal.the-decreases-loop-r
 
 pub loop-r-init : goal.loop-r-init
 loop-r-init c =
@@ -18,9 +24,9 @@ loop-r-init c =
     (omega arith, every-none (λ k. leb (word_at a.card.now (a.p + a.wide * k)) 1))
 
 -- record r is among the words of the card
-inside : (c : goal.In-loop-r) → let a = c.args in a.p + a.wide * c.loop-r.r < a.p + a.wide * a.count
+inside : (c : At-In-loop-r) → let a = c.args in a.p + a.wide * c.loop-r.r < a.p + a.wide * a.count
 inside c =
-    let s = c.before.before.before in
+    let s = c in
     omega (arith, one_of s.args.wide c.loop-r.r s.args.count c.loop-r-test.true, s.requires.1)
 
 pub overflow_mul-wide : goal.overflow_mul-wide

@@ -5,8 +5,14 @@ use mathlib.Core.Path.{◌≡◌, sym, ◌∙◌}
 use Rattle.blocks.specs.Format.{used_words}
 use Rattle.blocks.proofs.Counts.{words_are, used-words-le}
 use Rattle.blocks.proofs.used_words.Goals as goal
+use Rattle.blocks.proofs.used_words.Tie as tie
+use Rattle.blocks.proofs.used_words.Lts as lts
+use Rattle.blocks.proofs.used_words.Reads as reads
 
-product : (c : goal.After-records_used) → let a = c.args in c.record_words.result * c.records_used.result ≡ used_words a.kind a.total a.b
+abbrev At-After-records_used : Type 0
+At-After-records_used = lts.After-records_used tie.the-claims reads.Pre reads.Post
+
+product : (c : At-After-records_used) → let a = c.args in c.record_words.result * c.records_used.result ≡ used_words a.kind a.total a.b
 product c =
     let a = c.args in
     (λ z. c.record_words.ensures.0 z * c.records_used.ensures.0 z) ∙ sym (words_are a.kind a.total a.b)

@@ -11,14 +11,19 @@ use Rattle.blocks.proofs.Counts.{one_of}
 use Rattle.lists.specs.Parts.{every_below}
 use Rattle.lists.proofs.Parts.{every-none, every_more, every-fails}
 use Rattle.cards.proofs.all_marked.Goals as goal
+use Rattle.cards.proofs.all_marked.Lts as lts
+use Rattle.cards.proofs.all_marked.Reads as reads
+
+abbrev At-In-loop-r : Type 0
+At-In-loop-r = lts.In-loop reads.Pre reads.Post goal.the-invariant-loop-r goal.the-decreases-loop-r
 
 pub loop-r-init : goal.loop-r-init
 loop-r-init c = (omega arith, every-none (λ k. leb (get_or c.args.answer.now (c.args.wide * k) 0) 1))
 
 -- record r is among the words of the list
-inside : (c : goal.In-loop-r) → let a = c.args in a.wide * c.loop-r.r < length a.answer.now
+inside : (c : At-In-loop-r) → let a = c.args in a.wide * c.loop-r.r < length a.answer.now
 inside c =
-    let s = c.before.before in
+    let s = c in
     omega (arith, one_of s.args.wide c.loop-r.r s.args.count c.loop-r-test.true, s.requires)
 
 pub overflow_mul-wide : goal.overflow_mul-wide

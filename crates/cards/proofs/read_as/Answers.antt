@@ -19,7 +19,7 @@ At-Else-records_of-total = lts.Else1 tie.the-claims reads.Pre reads.Post
 pub returns-then-records_of-total : goal.returns-then-records_of-total
 unfolding after_read records_of
 returns-then-records_of-total c =
-    let n = c.before in
+    let n = c in
     let a = n.args in
     sym (got-2 a.kind a.total a.card.now a.answer.now (words-out a.kind (length a.answer.now) a.total (omega (arith, c.if-records_of-total.true, n.records_of.ensures))))
 
@@ -36,7 +36,7 @@ read_blocks-requires c = room c.before
 pub returns : goal.returns
 unfolding after_read
 returns c =
-    let r = c.before.before.before in
-    let e = r.before.before in
+    let r = c in
+    let e = r in
     let a = e.args in
     (λ z. record { number = 0; past = c.bytes_past.ensures z; answer = r.read_blocks.ensures z }) ∙ sym (got-0 a.kind a.total a.card.now a.answer.now (room e))

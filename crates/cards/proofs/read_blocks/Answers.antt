@@ -19,15 +19,15 @@ loop-b-init c =
 pub read_block-requires : goal.read_block-requires
 read_block-requires c =
     let l = c.loop-b in
-    let f = c.before.before.before in
-    let s = f.before.before.before in
+    let f = c in
+    let s = f in
     (called s.args.kind s.args.total l.b (omega (arith, f.blocks_for-b-end.ensures.0, c.loop-b-test.true)), omega (arith, s.requires, l.invariant.2))
 
 pub loop-b-preserved : goal.loop-b-preserved
 loop-b-preserved c =
-    let p = c.before.before in
+    let p = c in
     let l = p.loop-b in
-    let f = p.before.before.before.before in
+    let f = p in
     let a = f.args in (
       omega arith,
       p.read_block.ensures
@@ -40,7 +40,7 @@ pub returns : goal.returns
 unfolding readings
 returns c =
     let l = c.loop-b in
-    let f = c.before.before in
+    let f = c in
     let a = f.args in
     joined-front a.answer.now l.answer (λ b. records_read a.kind a.total b a.card.now) l.b (blocks_for a.kind a.total) (record_words a.kind * a.total) l.invariant.1
     (le_antisymm l.invariant.0 c.loop-b-test.false ∙ f.blocks_for-b-end.ensures.0) (length-readings a.kind a.total a.card.now) f.requires

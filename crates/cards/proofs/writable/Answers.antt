@@ -26,7 +26,7 @@ left c = ap (λ (w : ℕ). length c.args.answer.now % w) c.record_words-wide.ens
 
 pub returns-then-answer-wide-ne0 : goal.returns-then-answer-wide-ne0
 returns-then-answer-wide-ne0 c =
-    let w = c.before in
+    let w = c in
     let a = w.args in
     cannot-part a.kind a.answer.now (λ e. omega (arith, c.if-answer-wide-ne0.true, left w, e))
 
@@ -36,15 +36,15 @@ whole c = omega (arith, c.if-answer-wide-ne0.false, left c.before)
 
 pub returns-then-count-ge4294967296 : goal.returns-then-count-ge4294967296
 returns-then-count-ge4294967296 c =
-    let e = c.before.before in
+    let e = c in
     let a = e.args in
     cannot-many a.kind a.answer.now (whole e) (omega (arith, c.if-count-ge4294967296.true, c.records_of-count.ensures))
 
 pub all_marked-requires : goal.all_marked-requires
 unfolding records_of
 all_marked-requires c =
-    let n = c.before in
-    let w = n.before.before in
+    let n = c in
+    let w = n in
     let a = w.args in
     let inside = words-in a.kind (length a.answer.now) (records_of a.kind a.answer.now) (omega arith) in
     let product : w.record_words-wide.result * n.records_of-count.result ≡ record_words a.kind * records_of a.kind a.answer.now = λ z. w.record_words-wide.ensures.0 z * n.records_of-count.ensures z in
@@ -52,10 +52,10 @@ all_marked-requires c =
 
 pub returns : goal.returns
 returns c =
-    let e = c.before in
-    let n = e.before in
-    let i = n.before in
-    let w = i.before in
+    let e = c in
+    let n = e in
+    let i = n in
+    let w = i in
     let a = w.args in
     c.all_marked.ensures
     ∙ ((λ z. every_below (n.records_of-count.ensures z) (λ r. leb (get_or a.answer.now (w.record_words-wide.ensures.0 z * r) 0) 1))

@@ -20,6 +20,12 @@ use Rattle.cards.proofs.write_as.Reads as reads
 abbrev At-Else-not-writable : Type 0
 At-Else-not-writable = lts.Else1 tie.the-claims reads.Pre reads.Post
 
+abbrev At-After-records_of-total : Type 0
+At-After-records_of-total = lts.After-records_of tie.the-claims reads.Pre reads.Post
+
+abbrev At-After-blocks_for-bytes : Type 0
+At-After-blocks_for-bytes = lts.After-blocks_for tie.the-claims reads.Pre reads.Post
+
 -- past the first test the list can be written
 can : (c : At-Else-not-writable) → let a = c.args in writable a.kind a.answer.now ≡ true
 can c = sym c.writable.ensures ∙ not-false _ c.if-not-writable.false
@@ -31,7 +37,7 @@ returns-then-not-writable c =
     sym (wrote-1 a.kind a.answer.now a.card.now (sym c.writable.ensures ∙ not-true _ c.if-not-writable.true))
 
 -- how many records there are
-few : (c : goal.After-records_of-total) → c.records_of-total.result < word_values
+few : (c : At-After-records_of-total) → c.records_of-total.result < word_values
 few c =
     let a = c.args in
     omega (arith, c.records_of-total.ensures, few-records a.kind a.answer.now (can c.before))
@@ -43,7 +49,7 @@ pub overflow_mul-bytes : goal.overflow_mul-bytes
 overflow_mul-bytes c = omega (arith, c.blocks_for-bytes.ensures.1, few c.before)
 
 -- and the bytes of their blocks
-bytes-are : (c : goal.After-blocks_for-bytes) → let a = c.args in block_bytes * c.blocks_for-bytes.result ≡ card_bytes a.kind (records_of a.kind a.answer.now)
+bytes-are : (c : At-After-blocks_for-bytes) → let a = c.args in block_bytes * c.blocks_for-bytes.result ≡ card_bytes a.kind (records_of a.kind a.answer.now)
 unfolding card_bytes
 bytes-are c =
     let a = c.args in
@@ -52,27 +58,27 @@ bytes-are c =
 pub returns-then-card-bytes : goal.returns-then-card-bytes
 unfolding after_write not_written
 returns-then-card-bytes c =
-    let f = c.before in
-    let e = f.before.before in
+    let f = c in
+    let e = f in
     let a = e.args in
     sym (wrote-2 a.kind a.answer.now a.card.now (can e) (omega (arith, c.if-card-bytes.true, bytes-are f)))
 
 pub write_blocks-requires : goal.write_blocks-requires
 unfolding records_of
 write_blocks-requires c =
-    let e = c.before in
-    let f = e.before in
-    let n = f.before in
+    let e = c in
+    let f = e in
+    let n = f in
     let a = n.args in
     (words-in a.kind (length a.answer.now) n.records_of-total.result (omega (arith, n.records_of-total.ensures)), subst (λ (k : ℕ). card_bytes a.kind k ≤ length a.card.now) (sym n.records_of-total.ensures) (omega (arith, e.if-card-bytes.false, bytes-are f)))
 
 pub returns : goal.returns
 unfolding after_write card_written card_of
 returns c =
-    let w = c.before.before in
-    let e = w.before.before in
-    let f = e.before in
-    let n = f.before in
+    let w = c in
+    let e = w in
+    let f = e in
+    let n = f in
     let a = n.args in
     (λ z. record { number = 0; bytes = bytes-are f z; card = (w.write_blocks.ensures ∙ ap (λ (k : ℕ). blocks_of a.kind (blocks_for a.kind k) k a.answer.now ++ drop (card_bytes a.kind k) a.card.now) n.records_of-total.ensures) z })
     ∙ sym (wrote-0 a.kind a.answer.now a.card.now (can n.before) (omega (arith, e.if-card-bytes.false, bytes-are f)))

@@ -10,6 +10,12 @@ use Rattle.blocks.proofs.Counts.{called, words-fit}
 use Rattle.cards.specs.Writer.{card_bytes, blocks_of}
 use Rattle.cards.proofs.Lengths.{length-blocks}
 use Rattle.cards.proofs.write_blocks.Goals as goal
+use Rattle.cards.proofs.write_blocks.Tie as tie
+use Rattle.cards.proofs.write_blocks.Lts as lts
+use Rattle.cards.proofs.write_blocks.Reads as reads
+
+abbrev At-After-blocks_for-b-end : Type 0
+At-After-blocks_for-b-end = lts.After-blocks_for tie.the-claims reads.Pre reads.Post goal.the-invariant-loop-b goal.the-decreases-loop-b
 
 pub loop-b-init : goal.loop-b-init
 unfolding blocks_of
@@ -22,7 +28,7 @@ blocks-of : (kind : Kind) (r m n : ℕ) → r ≡ blocks_for kind m → m ≡ n 
 blocks-of kind r m n e h = e ∙ ap (blocks_for kind) h
 
 -- the loop ends at the last block that is called for
-blocks-are : (f : goal.After-blocks_for-b-end) → let a = f.args in f.blocks_for-b-end.result ≡ blocks_for a.kind a.total
+blocks-are : (f : At-After-blocks_for-b-end) → let a = f.args in f.blocks_for-b-end.result ≡ blocks_for a.kind a.total
 blocks-are f =
     let a = f.args in
     blocks-of a.kind _ _ a.total f.blocks_for-b-end.ensures.0 (omega arith)
@@ -31,7 +37,7 @@ pub put_block-requires : goal.put_block-requires
 unfolding card_bytes
 put_block-requires c =
     let l = c.loop-b in
-    let f = c.before.before.before in
+    let f = c in
     let a = f.args in
     let k = called a.kind a.total l.b (omega (arith, blocks-are f, c.loop-b-test.true)) in
     (omega (arith, blocks-are f, f.requires.1, l.invariant.2), k, omega (arith, words-fit a.kind a.total l.b k, f.requires.0))
@@ -39,10 +45,10 @@ put_block-requires c =
 pub loop-b-preserved : goal.loop-b-preserved
 unfolding blocks_of records_in
 loop-b-preserved c =
-    let p = c.before.before in
+    let p = c in
     let l = p.loop-b in
-    let f = p.before.before.before.before in
-    let s = f.before.before.before in
+    let f = p in
+    let s = f in
     let a = s.args in (
       omega arith,
       p.put_block.ensures
@@ -55,8 +61,8 @@ pub returns : goal.returns
 unfolding card_bytes blocks_of
 returns c =
     let l = c.loop-b in
-    let f = c.before.before in
-    let s = f.before.before.before in
+    let f = c in
+    let s = f in
     let kind = s.args.kind in
     let n = s.args.total in
     joined-front s.args.card.now l.card (λ b. block_of kind n b (records_in kind n b s.args.answer.now)) l.b (blocks_for kind n) (block_bytes * blocks_for kind n) l.invariant.1

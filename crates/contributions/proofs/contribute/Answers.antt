@@ -13,7 +13,7 @@ use Rattle.contributions.proofs.Laws.{stored-named}
 use Rattle.contributions.proofs.contribute.Goals as goal
 
 pub store-requires : goal.store-requires
-store-requires c = let s = c.before.before.before.before.before.before.before.before.before.before.before.before.before.before.before.before.before in (s.requires.2, s.requires.5)
+store-requires c = let s = c in (s.requires.2, s.requires.5)
 
 -- a vector that was read, by its number
 vector-by : (l : List Float) (k m : ℕ) (v : Vec3) → v ≡ vector_at l k → k ≡ m → v ≡ vector_at l m
@@ -21,14 +21,14 @@ vector-by l k m v e h = e ∙ ap (vector_at l) h
 
 pub returns : goal.returns
 returns c =
-    let o = c.before.before in
-    let p = o.before.before in
-    let e = p.before.before in
-    let f = e.before in
-    let v = f.before.before.before in
-    let k3 = v.before in
-    let k2 = k3.before.before in
-    let k1 = k2.before.before in
+    let o = c in
+    let p = o in
+    let e = p in
+    let f = e in
+    let v = f in
+    let k3 = v in
+    let k2 = k3 in
+    let k1 = k2 in
     let a = k1.args in
     let n = vector-by a.normals.now _ (cell a.rows a.k a.r a.work.now) _ v.vector_at-n.ensures (omega (arith, k1.number_at-corner.ensures)) in
     let at = f.vector_at-at.ensures ∙ ap (vector_at a.positions.now) k1.number_at-corner.ensures in

@@ -4,9 +4,14 @@ use native.Mathlib.Omega.{arith}
 use Rattle.table.specs.Columns.{columns}
 use Rattle.table.proofs.Laws.{column-ends}
 use Rattle.contributions.proofs.number_at.Goals as goal
+use Rattle.contributions.proofs.number_at.Lts as lts
+use Rattle.contributions.proofs.number_at.Reads as reads
+
+abbrev At-Start : Type 0
+At-Start = lts.Start reads.Pre reads.Post
 
 -- the column ends at or before the last one's end
-ends : (c : goal.Start) → let a = c.args in a.k * a.rows + a.rows ≤ columns * a.rows
+ends : (c : At-Start) → let a = c.args in a.k * a.rows + a.rows ≤ columns * a.rows
 ends c = column-ends c.args.k columns c.args.rows c.requires.0
 
 pub overflow_mul-result : goal.overflow_mul-result

@@ -26,9 +26,9 @@ shape_of-work c = simp length-set (omega arith)
 
 pub returns : goal.returns
 returns c =
-    let s = c.before.before.before.before.before.before.before.before.before.before in
-    let p = c.before.before.before.before.before.before.before in
-    let q = c.before.before.before in
+    let s = c in
+    let p = c in
+    let q = c in
     let a = s.args in
     let n = a.rows in
     let r = a.r in

@@ -13,14 +13,14 @@ loop-t-init c = let a = c.args in (up_to-none (missing_copied a.rows a.positions
 
 pub copy_missing-requires : goal.copy_missing-requires
 copy_missing-requires c =
-    let s = c.before.before.before.before.before.before in
+    let s = c in
     (omega (arith, s.requires.0, c.loop-t-test.true), s.requires.1)
 
 pub loop-t-preserved : goal.loop-t-preserved
 unfolding missings_copied
 loop-t-preserved c =
-    let t = c.before.before in
-    let i = t.before.before in
+    let t = c in
+    let i = t in
     let l = i.loop-t in
     let a = i.args in
     let turn = missing_copied a.rows a.positions.now a.work.now in

@@ -11,16 +11,16 @@ overflow_cast-first c = let a = c.args in omega (arith, c.shared_slice_known-2-1
 
 pub returns-then-first-sound : goal.returns-then-first-sound
 returns-then-first-sound c =
-    let k = c.before.before in
-    let b = k.before.before.before in
-    let l = b.before in
+    let k = c in
+    let b = k in
+    let l = b in
     let a = l.args in
     corner-copied a.rows a.sound a.work.now a.r a.answer.now _ _ refl l.slot_at-to.ensures _ _ (omega (arith, b.if-first-sound.true)) k.slot_at-from.ensures k.copy.ensures
 
 pub returns : goal.returns
 returns c =
-    let k = c.before.before in
-    let b = k.before.before in
-    let l = b.before in
+    let k = c in
+    let b = k in
+    let l = b in
     let a = l.args in
     corner-cleared a.rows a.sound a.work.now a.r a.answer.now _ _ refl l.slot_at-to.ensures _ (omega (arith, b.if-first-sound.false)) k.clear.ensures

@@ -7,17 +7,17 @@ use Rattle.copies.proofs.Words.{none-broken, one-broken}
 use Rattle.copies.proofs.copy_degenerate.Goals as goal
 
 pub loop-t-init : goal.loop-t-init
-loop-t-init c = let s = c.before.before in let a = s.args in (none-broken a.rows a.sound a.work.now a.answer.now, omega arith, s.requires.0, refl)
+loop-t-init c = let s = c in let a = s.args in (none-broken a.rows a.sound a.work.now a.answer.now, omega arith, s.requires.0, refl)
 
 pub copy_triangle-requires : goal.copy_triangle-requires
 copy_triangle-requires c =
-    let s = c.before.before.before.before.before in
+    let s = c in
     (omega (arith, s.requires.1, c.loop-t-test.true), omega (arith, s.requires.0, s.requires.1), s.requires.2)
 
 pub loop-t-preserved : goal.loop-t-preserved
 loop-t-preserved c =
-    let t = c.before.before in
-    let i = t.before.before in
+    let t = c in
+    let i = t in
     let l = i.loop-t in
     let a = i.args in
     (one-broken a.rows a.sound a.work.now l.t a.answer.now _ _ l.invariant.1 l.invariant.0 t.copy_triangle.ensures, omega (arith, l.invariant.1), omega (arith, i.loop-t-test.true), t.copy_triangle.auto.1.1.1.1.0 ∙ l.invariant.3)

@@ -6,17 +6,17 @@ use Rattle.copies.proofs.copy_missing.Goals as goal
 
 pub returns-then-not-is_marked : goal.returns-then-not-is_marked
 returns-then-not-is_marked c =
-    let m = c.before in
+    let m = c in
     let a = m.args in
     missing-unmarked a.rows a.positions.now a.work.now a.t a.answer.now _ m.is_marked.ensures (not-true m.is_marked.result c.if-not-is_marked.true)
 
 pub returns : goal.returns
 returns c =
-    let k = c.before.before in
-    let t = k.before.before in
-    let f = t.before.before in
+    let k = c in
+    let t = k in
+    let f = t in
     let gone = missed-same _ _ _ _ t.missed_of-gone.ensures.0 t.slot_at.ensures in
-    let i = f.before.before in
-    let m = i.before in
+    let i = f in
+    let m = i in
     let a = m.args in
     missing-copied a.rows a.positions.now a.work.now a.t a.answer.now _ m.is_marked.ensures _ _ _ _ (not-false m.is_marked.result i.if-not-is_marked.false) f.equal_at-row.ensures.0 k.copy.ensures (omega (arith, f.slot_at-kept.ensures)) (omega (arith, gone))

@@ -5,8 +5,8 @@ use Rattle.desk.proofs.finite_corner.Goals as goal
 pub returns-then-is_finite : goal.returns-then-is_finite
 unfolding finite_corner
 returns-then-is_finite c =
-    let b = c.before.before in
-    let a = b.before.before in
+    let b = c in
+    let a = b in
     rw (← a.finite_vector.ensures, a.if-finite_vector.true, ← a.finite_vector-then-finite_vector.ensures, b.if-finite_vector-2.true, ← b.is_finite.ensures, c.if-is_finite.true, ← c.is_finite-then-is_finite.ensures)
 
 pub returns-else-is_finite : goal.returns-else-is_finite

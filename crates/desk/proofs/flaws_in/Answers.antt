@@ -10,7 +10,7 @@ loop-left-init c = (refl, refl, refl)
 
 pub loop-left-preserved : goal.loop-left-preserved
 loop-left-preserved c =
-    let k = c.before in
+    let k = c in
     let l = k.loop-left in
     let h = k.loop-left-test.true in
     let s = c.flaws_with-flaws.ensures in

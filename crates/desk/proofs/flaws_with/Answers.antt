@@ -13,5 +13,5 @@ asked b x y i e = ap (λ (z : Bool). found (unless_found b (cond z none (some i)
 
 pub returns : goal.returns
 returns c =
-    let l = c.before.before in
+    let l = c in
     (l.lowest-bad.ensures ∙ asked _ _ _ _ l.finite_corner.ensures, c.lowest-bare.ensures ∙ asked _ _ _ _ c.has_normal.ensures)

@@ -50,7 +50,7 @@ not-many : (c : At-Else-sizes-gt-FACE_LIMIT) → IsMany (asked c.before) false
 not-many c = few (asked c.before) (omega (arith, c.if-sizes-gt-FACE_LIMIT.false))
 
 pub returns-then-sizes-gt-FACE_LIMIT : goal.returns-then-sizes-gt-FACE_LIMIT
-returns-then-sizes-gt-FACE_LIMIT c = let q = asked c.before.before in c.said.ensures ∙ row1 q (many q (omega (arith, c.if-sizes-gt-FACE_LIMIT.true)))
+returns-then-sizes-gt-FACE_LIMIT c = let q = asked c.before.before.before in c.said.ensures ∙ row1 q (many q (omega (arith, c.if-sizes-gt-FACE_LIMIT.true)))
 
 -- what the test of row 2 tells
 misfit-is : (c : At-After-unfit) → IsMisfit (asked c.before.before.before) c.unfit.result
@@ -62,9 +62,9 @@ not-misfit c = misfit-is c.before ∙ c.if-unfit.false
 
 pub returns-then-unfit : goal.returns-then-unfit
 returns-then-unfit c =
-    let t = c.before in
-    let e = t.before.before.before in
-    c.said-then-unfit.ensures ∙ row2 (asked e.before) (not-many e) (misfit-is t.before ∙ t.if-unfit.true)
+    let t = c in
+    let e = t in
+    c.said-then-unfit.ensures ∙ row2 (asked e.before.before.before.before.before.before) (not-many e.before.before.before.before.before) (misfit-is t.before.before.before ∙ t.if-unfit.true)
 
 -- ---- the tests of the other rows, all of them made
 
@@ -74,8 +74,8 @@ shown_to e = asked e.before.before.before.before.before.before.before.before
 third-is : (e : At-After-lent-lists) → e.unfit_threshold-third.result ≡ threshold_number (shown_to e).threshold
 third-is e = e.unfit_threshold-third.ensures
 
-fourth-is : (e : At-After-lent-lists) → e.Said-at.result ≡ said_at 4 (found (not_finite (shown_to e).mesh))
-fourth-is e = e.Said-at.ensures ∙ ap (said_at 4) e.look_over-seen.ensures.2
+fourth-is : (e : At-After-lent-lists) → e.said_at-fourth.result ≡ said_at 4 (found (not_finite (shown_to e).mesh))
+fourth-is e = e.said_at-fourth.ensures ∙ ap (said_at 4) e.look_over-seen.ensures.2
 
 seventh-is : (e : At-After-lent-lists) → e.said_at-seventh.result ≡ said_at 7 (found (no_normal (shown_to e).mesh))
 seventh-is e = e.said_at-seventh.ensures ∙ ap (said_at 7) e.look_over-seen.ensures.3
@@ -86,7 +86,7 @@ lists-is e =
     e.lent-lists.ensures ∙ ap (λ (k : ℕ). lent_number k (length q.mesh.sizes) q.answer q.work) e.look_over-seen.ensures.1
 
 -- what numbers they have
-four-small : (e : At-After-lent-lists) → e.Said-at.result.number ≤ 4
+four-small : (e : At-After-lent-lists) → e.said_at-fourth.result.number ≤ 4
 four-small e = corner-number 4 _ _ (fourth-is e)
 
 seven-small : (e : At-After-lent-lists) → e.said_at-seventh.result.number ≤ 7
@@ -109,41 +109,41 @@ all_fit e = not-misfit e.before.before.before.before
 
 -- row 3 does not
 finite-threshold : (c : At-Else-third-ne0) → IsFinite (shown_to c.before) true
-finite-threshold c = let e = c.before in not_third (shown_to e) e.unfit_threshold-third.result (third-is e) (omega (arith, c.if-third-ne0.false, four-small e))
+finite-threshold c = let e = c in not_third (shown_to e.before) e.unfit_threshold-third.result (third-is e.before) (omega (arith, c.if-third-ne0.false, four-small e.before))
 
 pub returns-then-third-ne0 : goal.returns-then-third-ne0
 returns-then-third-ne0 c =
-    let t = c.before in
-    let e = t.before in
-    c.said-then-third-ne0.ensures ∙ third (shown_to e) e.unfit_threshold-third.result (third-is e) (λ z. omega (arith, z, t.if-third-ne0.true)) (few-faces e) (all_fit e)
+    let t = c in
+    let e = t in
+    c.said-then-third-ne0.ensures ∙ third (shown_to e.before.before.before) e.unfit_threshold-third.result (third-is e.before.before.before) (λ z. omega (arith, z, t.if-third-ne0.true)) (few-faces e.before.before.before) (all_fit e.before.before.before)
 
 -- nor does row 4
 none-bad : (c : At-Else-four-ne0) → Lowest (shown_to c.before.before) none
-none-bad c = let e = c.before.before in no-corner 3 _ e.Said-at.result (fourth-is e) (omega (arith, c.if-four-ne0.false, seven-small e))
+none-bad c = let e = c in no-corner 3 _ e.said_at-fourth.result (fourth-is e.before.before) (omega (arith, c.if-four-ne0.false, seven-small e.before.before))
 
 pub returns-then-four-ne0 : goal.returns-then-four-ne0
 returns-then-four-ne0 c =
-    let d = c.before in
-    let e = d.before in
-    let r = at-corner 4 _ e.Said-at.result (fourth-is e) (λ z. omega (arith, z, c.if-four-ne0.true)) in
-    r.2 ∙ row4 (shown_to e) (few-faces e) (all_fit e) (finite-threshold d) r.0 r.1
+    let d = c in
+    let e = d in
+    let r = at-corner 4 _ e.said_at-fourth.result (fourth-is e.before.before.before) (λ z. omega (arith, z, c.if-four-ne0.true)) in
+    r.2 ∙ row4 (shown_to e.before.before.before) (few-faces e.before.before.before) (all_fit e.before.before.before) (finite-threshold d.before.before) r.0 r.1
 
 -- nor does row 7
 none_bare : (c : At-Else-seven-ne0) → Bare (shown_to c.before.before.before) none
-none_bare c = let e = c.before.before.before in no-corner 6 _ e.said_at-seventh.result (seventh-is e) (omega (arith, c.if-seven-ne0.false, seven-small e, seven-only e, lists-small e))
+none_bare c = let e = c in no-corner 6 _ e.said_at-seventh.result (seventh-is e.before.before.before) (omega (arith, c.if-seven-ne0.false, seven-small e.before.before.before, seven-only e.before.before.before, lists-small e.before.before.before))
 
 pub returns-then-seven-ne0 : goal.returns-then-seven-ne0
 returns-then-seven-ne0 c =
-    let b = c.before in
-    let d = b.before in
-    let e = d.before in
-    let r = at-corner 7 _ e.said_at-seventh.result (seventh-is e) (λ z. omega (arith, z, c.if-seven-ne0.true)) in
-    r.2 ∙ row7 (shown_to e) (few-faces e) (all_fit e) (finite-threshold d) (none-bad b) r.0 r.1
+    let b = c in
+    let d = b in
+    let e = d in
+    let r = at-corner 7 _ e.said_at-seventh.result (seventh-is e.before.before.before.before) (λ z. omega (arith, z, c.if-seven-ne0.true)) in
+    r.2 ∙ row7 (shown_to e.before.before.before.before) (few-faces e.before.before.before.before) (all_fit e.before.before.before.before) (finite-threshold d.before.before.before) (none-bad b.before.before) r.0 r.1
 
 pub returns : goal.returns
 returns c =
-    let l = c.before in
-    let b = l.before in
-    let d = b.before in
-    let e = d.before in
-    c.said-2.ensures ∙ ap (λ (n : ℕ). said n 0) (lists-is e) ∙ rows56 (shown_to e) (few-faces e) (all_fit e) (finite-threshold d) (none-bad b) (none_bare l)
+    let l = c in
+    let b = l in
+    let d = b in
+    let e = d in
+    c.said-2.ensures ∙ ap (λ (n : ℕ). said n 0) (lists-is e.before.before.before.before.before) ∙ rows56 (shown_to e.before.before.before.before.before) (few-faces e.before.before.before.before.before) (all_fit e.before.before.before.before.before) (finite-threshold d.before.before.before.before) (none-bad b.before.before.before) (none_bare l.before.before)

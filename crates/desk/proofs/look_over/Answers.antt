@@ -12,22 +12,22 @@ use Rattle.desk.proofs.look_over.Goals as goal
 
 pub loop-f-init : goal.loop-f-init
 loop-f-init c =
-    let a = c.before.before.before.before in
+    let a = c in
     (a.requires, omega arith, omega arith, omega arith, corners-none a.args.sizes.now, slots-none a.args.sizes.now, at_once _, at_once _)
 
 pub flaws_of_face-flaws-requires : goal.flaws_of_face-flaws-requires
 flaws_of_face-flaws-requires c = omega (arith, c.shared_slice_known-in-loop-f-1.given c.loop-f.f)
 
 pub overflow_cast-corners : goal.overflow_cast-corners
-overflow_cast-corners c = let b = c.before in omega (arith, b.shared_slice_known-in-loop-f-1.given b.loop-f.f)
+overflow_cast-corners c = let b = c in omega (arith, b.shared_slice_known-in-loop-f-1.given b.loop-f.f)
 
 pub overflow_add-corners : goal.overflow_add-corners
-overflow_add-corners c = let b = c.before in omega (arith, b.shared_slice_known-in-loop-f-1.given b.loop-f.f)
+overflow_add-corners c = let b = c in omega (arith, b.shared_slice_known-in-loop-f-1.given b.loop-f.f)
 
 pub loop-f-preserved : goal.loop-f-preserved
 loop-f-preserved c =
-    let b = c.before in
-    let k = b.before in
+    let b = c in
+    let k = b in
     let l = k.loop-f in
     let a = k.args in
     let sizes = a.sizes.now in

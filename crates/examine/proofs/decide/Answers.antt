@@ -27,37 +27,37 @@ room : (s : At-Start) → columns * rows_of (length s.args.sizes.now) ≤ length
 room s = omega (arith, (known s).work-fits)
 
 pub overflow_mul-rows : goal.overflow_mul-rows
-overflow_mul-rows c = let s = c.before.before.before.before.before.before.before.before in omega (arith, (known s).few)
+overflow_mul-rows c = let s = c in omega (arith, (known s).few)
 
 pub link_mesh-counts-requires : goal.link_mesh-counts-requires
-link_mesh-counts-requires c = let s = c.before.before.before.before.before.before.before.before.before in ((known s).few, room s)
+link_mesh-counts-requires c = let s = c in ((known s).few, room s)
 
 pub examine_all-o-requires : goal.examine_all-o-requires
 examine_all-o-requires c =
-    let m = c.before.before.before in
-    let s = m.before.before.before.before.before.before.before.before.before.before in
+    let m = c in
+    let s = m in
     let t = s.args in
     let K = m.link_mesh-counts.ensures in
     (linked-fit _ _ _ _ _ K, omega (arith, room s, K.only.size), omega (arith, (known s).few), sharp-left (handed t.sizes.now t.positions.now t.normals.now t.texture.now) (some-triangle (corner_at t.positions.now t.normals.now t.texture.now 0)) _ _ t.work.now _ K (known s).well_formed)
 
 pub overflow_mul-sizes : goal.overflow_mul-sizes
 overflow_mul-sizes c =
-    let s = c.before.before.before.before.before.before.before.before.before.before.before.before.before.before.before.before.before in
+    let s = c in
     omega (arith, (known s).few)
 
 pub clear_first-requires : goal.clear_first-requires
 clear_first-requires c =
-    let e = c.before.before.before in
-    let m = e.before.before.before.before in
-    let s = m.before.before.before.before.before.before.before.before.before.before in
+    let e = c in
+    let m = e in
+    let s = m in
     omega (arith, (known s).work-fits, m.link_mesh-counts.ensures.only.size, e.examine_all-o.ensures.1.size)
 
 pub returns : goal.returns
 returns c =
-    let y = c.before.before in
-    let e = y.before.before.before.before in
-    let m = e.before.before.before.before in
-    let s = m.before.before.before.before.before.before.before.before.before.before in
+    let y = c in
+    let e = y in
+    let m = e in
+    let s = m in
     let t = s.args in
     let K = m.link_mesh-counts.ensures in
     let r = e.examine_all-o.ensures in

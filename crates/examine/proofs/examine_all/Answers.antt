@@ -22,16 +22,16 @@ examine_links-b-requires c =
 
 pub returns-then-b-ne0 : goal.returns-then-b-ne0
 returns-then-b-ne0 c =
-    let k = c.before.before.before.before in
+    let k = c in
     let p = k.requires in
     let t = k.args in
     (stop-links t.rows t.tris t.work.now t.given.now t.groups.now t.ways.now _ _ k.examine_lengths-a.ensures k.if-a-ne0.false _ _ k.examine_links-b.ensures.0 c.if-b-ne0.true, only-more step_columns all_columns _ _ _ refl k.examine_links-b.ensures.1)
 
 pub examine_groups-requires : goal.examine_groups-requires
 examine_groups-requires c =
-    let k = c.before.before.before.before.before in
-    let i = k.before.before in
-    let e = i.before.before in
+    let k = c in
+    let i = k in
+    let e = i in
     let p = e.requires in
     let t = e.args in
     let l = long-lists t.rows t.tris t.work.now t.given.now t.groups.now t.ways.now _ _ e.examine_lengths-a.ensures i.if-a-ne0.false in
@@ -40,7 +40,7 @@ examine_groups-requires c =
 
 pub returns : goal.returns
 returns c =
-    let k = c.before.before.before.before.before.before.before.before in
+    let k = c in
     let p = k.requires in
     let t = k.args in
     let o = k.examine_links-b.ensures.1 in

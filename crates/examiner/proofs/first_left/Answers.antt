@@ -8,9 +8,9 @@ use Rattle.examiner.proofs.first_left.Goals as goal
 
 pub scan_all-requires : goal.scan_all-requires
 scan_all-requires c =
-    let b = c.before.before.before in
-    let k = b.before.before.before in
-    let s = k.before in
+    let b = c in
+    let k = b in
+    let s = k in
     let a = s.args in
     let p = s.requires in
     let words : (r : ℕ) → r < a.rows → cell a.rows vertex_column r a.work.now < 4294967296 = λ r h. omega (arith, k.slice_known-1.given (vertex_column * a.rows + r)) in
@@ -19,9 +19,9 @@ scan_all-requires c =
 
 pub returns : goal.returns
 returns c =
-    let b = c.before.before.before.before in
-    let k = b.before.before.before in
-    let s = k.before in
+    let b = c in
+    let k = b in
+    let s = k in
     let a = s.args in
     let p = s.requires in
     let words : (r : ℕ) → r < a.rows → cell a.rows vertex_column r a.work.now < 4294967296 = λ r h. omega (arith, k.slice_known-1.given (vertex_column * a.rows + r)) in (

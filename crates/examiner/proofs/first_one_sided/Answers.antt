@@ -9,7 +9,7 @@ loop-r-init c = (omega arith, none-zero _)
 
 pub one_sided-requires : goal.one_sided-requires
 one_sided-requires c =
-    let s = c.before.before.before in
+    let s = c in
     (c.loop-r-test.true, s.requires.0, s.requires.1, not-lt _ _ (s.requires.2 _ c.loop-r-test.true))
 
 pub returns-then-one_sided : goal.returns-then-one_sided

@@ -19,7 +19,7 @@ returns-then-word_at-ne0 c =
 
 pub returns-then-s-tris : goal.returns-then-s-tris
 returns-then-s-tris c =
-    let o = c.before.before.before.before in
+    let o = c in
     let a = o.args in
     let p = o.requires in
     ((omega (arith, o.order_at-r.ensures, p.6 a.a p.0), p.2), first-turn a.rows (3 * a.tris) a.work.now a.given.now a.a a.s.first a.s.best _ p.0 o.order_at-r.ensures _ c.word_at.ensures c.if-word_at-ne0.false c.if-s-tris.true)
@@ -31,8 +31,8 @@ same_ends-requires c =
 
 pub returns-then-not-same_ends : goal.returns-then-not-same_ends
 returns-then-not-same_ends c =
-    let t = c.before.before in
-    let o = t.before.before.before.before in
+    let t = c in
+    let o = t in
     let a = o.args in
     let p = o.requires in
     let k : o.order_at-r.result < 3 * a.tris = omega (arith, o.order_at-r.ensures, p.6 a.a p.0) in
@@ -40,8 +40,8 @@ returns-then-not-same_ends c =
 
 pub scan_run-requires : goal.scan_run-requires
 scan_run-requires c =
-    let t = c.before.before in
-    let o = t.before.before.before.before in
+    let t = c in
+    let o = t in
     let a = o.args in
     let p = o.requires in
     let k : o.order_at-r.result < 3 * a.tris = omega (arith, o.order_at-r.ensures, p.6 a.a p.0) in

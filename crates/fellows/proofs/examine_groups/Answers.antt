@@ -18,21 +18,21 @@ returns-then-a-ne0 c =
 
 pub examine_fellows-b-requires : goal.examine_fellows-b-requires
 examine_fellows-b-requires c =
-    let f = c.before.before.before in
+    let f = c in
     let p = f.requires in
     let t = f.args in
     (p.0, omega (arith, p.1, f.put_firsts.ensures.1.size), p.2, p.3, p.4, p.5, not_wide t.rows t.tris t.work.now t.given.now t.groups.now t.ways.now p.0 p.6, not-loose t.rows t.tris t.work.now t.given.now t.groups.now t.ways.now p.0 p.6 _ _ f.examine_words-a.ensures f.if-a-ne0.false first_columns _ refl refl refl f.put_firsts.ensures.1, f.put_firsts.ensures.0)
 
 pub returns-then-b-ne0 : goal.returns-then-b-ne0
 returns-then-b-ne0 c =
-    let f = c.before.before.before.before.before.before in
+    let f = c in
     let p = f.requires in
     let t = f.args in
     (stop-beside t.rows t.tris t.work.now t.given.now t.groups.now t.ways.now p.0 p.6 _ _ f.examine_words-a.ensures f.if-a-ne0.false first_columns _ refl refl refl f.put_firsts.ensures.1 _ _ c.examine_fellows-b.ensures c.if-b-ne0.true, only-more first_columns group_columns _ _ _ refl f.put_firsts.ensures.1)
 
 pub first_severed-c-requires : goal.first_severed-c-requires
 first_severed-c-requires c =
-    let f = c.before.before.before.before.before.before.before in
+    let f = c in
     let p = f.requires in
     let t = f.args in
     (p.0, p.2, omega (arith, p.1, f.put_firsts.ensures.1.size), p.3, p.4, not_wide t.rows t.tris t.work.now t.given.now t.groups.now t.ways.now p.0 p.6, walk-firsts _ _ _ _ f.put_firsts.ensures.0)
@@ -49,7 +49,7 @@ said-requires c =
 
 pub returns-then-c-tris : goal.returns-then-c-tris
 returns-then-c-tris c =
-    let f = c.before.before.before.before.before.before.before.before.before.before.before.before in
+    let f = c in
     let p = f.requires in
     let t = f.args in
     let v = c.first_severed-c.ensures in
@@ -58,7 +58,7 @@ returns-then-c-tris c =
 
 pub returns : goal.returns
 returns c =
-    let f = c.before.before.before.before.before.before.before.before.before.before.before.before in
+    let f = c in
     let p = f.requires in
     let t = f.args in
     let v = c.first_severed-c.ensures in

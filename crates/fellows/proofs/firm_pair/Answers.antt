@@ -14,7 +14,7 @@ returns-then-a-b c = told-not (λ f. c.if-a-b.true (c.word_at-a.ensures ∙ (f.s
 
 pub returns : goal.returns
 returns c =
-    let b = c.before in
-    let i = b.before.before in
-    let j = i.before.before in
+    let b = c in
+    let i = b in
+    let j = i in
     told (record { near = sym j.any_at.ensures ∙ j.if-any_at-ne0.false; far = sym i.any_at-2.ensures ∙ i.if-any_at-ne0-2.false; same = sym b.word_at-a.ensures ∙ (c.if-a-b.false ∙ b.word_at-b.ensures) })

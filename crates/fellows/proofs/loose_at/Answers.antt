@@ -11,5 +11,5 @@ returns-then-word_at-ne0 c = told-not (λ k. c.if-word_at-ne0.true (c.word_at.en
 
 pub returns : goal.returns
 returns c =
-    let e = c.before.before in
+    let e = c in
     told (record { firm = sym e.any_at.ensures ∙ e.if-any_at-ne0.false; free = sym c.word_at.ensures ∙ c.if-word_at-ne0.false })

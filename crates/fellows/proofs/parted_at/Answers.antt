@@ -11,15 +11,15 @@ returns-then-word-eq0 c = told-not (not-linked _ _ _ _ _ _ _ c.word_at-word.ensu
 
 pub returns-then-not-firm_pair : goal.returns-then-not-firm_pair
 returns-then-not-firm_pair c =
-    let f = c.before in
-    let i = f.before in
+    let f = c in
+    let i = f in
     told-not (not-firm _ _ _ _ _ _ _ i.word_at-word.ensures i.if-word-eq0.false (f.firm_pair.ensures.fails (not-true _ c.if-not-firm_pair.true)))
 
 pub ends_apart-requires : goal.ends_apart-requires
 ends_apart-requires c =
-    let f = c.before in
-    let i = f.before in
-    let s = i.before.before.before.before.before.before in
+    let f = c in
+    let i = f in
+    let s = i in
     let p = s.requires in
     let k = f.firm_pair.ensures.holds (not-false _ c.if-not-firm_pair.false) in
     let w = i.word_at-word.ensures in
@@ -28,9 +28,9 @@ ends_apart-requires c =
 
 pub returns : goal.returns
 returns c =
-    let e = c.before in
-    let f = e.before in
-    let i = f.before in
+    let e = c in
+    let f = e in
+    let i = f in
     let p = i.requires in
     let w = i.word_at-word.ensures in
     parted-tells _ _ _ _ _ _ _ w i.if-word-eq0.false _ (omega (arith, w, p.7)) (f.firm_pair.ensures.holds (not-false _ e.if-not-firm_pair.false)) c.ends_apart.ensures

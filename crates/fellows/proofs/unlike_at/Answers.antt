@@ -23,9 +23,9 @@ value_at-a-requires c =
 
 pub returns-then-a-b : goal.returns-then-a-b
 returns-then-a-b c =
-    let b = c.before in
-    let f = b.before.before in
-    let i = f.before in
+    let b = c in
+    let f = b in
+    let i = f in
     let a = i.args in
     told (record {
       some = λ z. i.if-word_at-eq0.false (i.word_at.ensures ∙ z);
@@ -34,7 +34,7 @@ returns-then-a-b c =
 
 pub returns : goal.returns
 returns c =
-    let b = c.before in
-    let f = b.before.before in
+    let b = c in
+    let f = b in
     let a = f.args in
     told-not (λ u. u.differs (ap (λ (x : ℕ). shared a.rows a.work.now a.ways.now a.corner (x - 1)) (sym f.first_at-f.ensures) ∙ (sym b.value_at-a.ensures ∙ (c.if-a-b.false ∙ b.value_at-b.ensures))))

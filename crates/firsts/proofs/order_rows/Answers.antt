@@ -4,10 +4,10 @@ use Rattle.firsts.proofs.order_rows.Goals as goal
 
 pub returns : goal.returns
 returns c =
-    let z = c.before.before in
-    let y = z.before.before.before.before in
-    let x = y.before.before.before.before in
-    let e = x.before.before.before.before in
-    let s = e.before.before.before.before in
+    let z = c in
+    let y = z in
+    let x = y in
+    let e = x in
+    let s = e in
     let p = s.requires in
     orders s.args.rows s.args.n s.args.groups.now s.args.work.now _ _ _ _ p.0 p.1 p.2 e.clear.ensures x.put_words.ensures y.put_rows.ensures z.sort.ensures

@@ -9,7 +9,7 @@ loop-a-init c = let p = c.requires in (omega arith, heading-none _ _ _ _ p.0 p.1
 
 pub head_turn-first-requires : goal.head_turn-first-requires
 head_turn-first-requires c =
-    let t = c.before in
+    let t = c in
     let l = t.loop-a in
     let p = t.requires in
     let k = p.4.below _ t.loop-a-test.true in
@@ -24,10 +24,10 @@ loop-a-smaller c = omega (arith, c.loop-a-test.true)
 
 pub loop-a-preserved : goal.loop-a-preserved
 loop-a-preserved c =
-    let h = c.before.before in
-    let t = h.before.before in
+    let h = c in
+    let t = h in
     let l = t.loop-a in
-    let s = t.before.before.before.before in
+    let s = t in
     let p = s.requires in
     let a = s.args in
     let n = t.loop-a-test.true in

@@ -4,18 +4,24 @@ use native.Mathlib.Omega.{arith}
 use Rattle.groups.proofs.Steps.{corner-below}
 use Rattle.flat.proofs.Crossing.{goes_back, goes_to}
 use Rattle.flat.proofs.go_to.Goals as goal
+use Rattle.flat.proofs.go_to.Tie as tie
+use Rattle.flat.proofs.go_to.Lts as lts
+use Rattle.flat.proofs.go_to.Reads as reads
+
+abbrev At-In-At : Type 0
+At-In-At = lts.After-known_told tie.the-claims reads.Pre reads.Post
 
 -- the corner entered is one of three
-below : (c : goal.In-At) → c.in-At.i < 3
+below : (c : At-In-At) → c.in-At.i < 3
 below c =
     let enter = c.enter_at in
-    let start = c.before.before.before.before.before.before.before.before in
+    let start = c in
     corner-below _ _ _ _ _ _ _ _ start.requires.0 start.requires.1 _ _ enter.ensures.0 enter.ensures.1 _ c.in-At.is
 
 pub returns-in_default : goal.returns-in_default
 returns-in_default c =
     let enter = c.enter_at in
-    let start = c.before.before.before.before.before.before.before.before.before in
+    let start = c in
     goes_back _ _ _ _ _ _ _ _ _ start.requires.0 start.requires.1 start.requires.2 _ _ enter.ensures.0 enter.ensures.1 _ c.in_default.is c.back.ensures
 
 pub overflow_add-work : goal.overflow_add-work
@@ -30,5 +36,5 @@ overflow_add-result c = omega (arith, below c)
 pub returns : goal.returns
 returns c =
     let enter = c.enter_at in
-    let start = c.before.before.before.before.before.before.before.before in
+    let start = c in
     goes_to _ _ _ _ _ _ _ _ _ start.requires.0 start.requires.1 start.requires.2 _ _ enter.ensures.0 enter.ensures.1 _ c.in-At.is _ _ _ _ (omega (arith, below c)) (omega arith) (omega arith) (omega (arith, below c))

@@ -12,17 +12,17 @@ use Rattle.flat.proofs.start_at.Goals as goal
 
 pub returns-then-work-rows-ne0 : goal.returns-then-work-rows-ne0
 returns-then-work-rows-ne0 c =
-    let start = c.before.before.before in
+    let start = c in
     (turned-any _ _ _ _ _ start.requires.0 start.requires.1 start.requires.2 c.if-work-rows-ne0.true, only_none _ _ _)
 
 pub returns-then-work-rows-ne0-2 : goal.returns-then-work-rows-ne0-2
 returns-then-work-rows-ne0-2 c =
-    let start = c.before.before.before.before.before in
+    let start = c in
     (turned-grouped _ _ _ _ _ start.requires.0 start.requires.1 start.requires.2 c.if-work-rows-ne0.false c.if-work-rows-ne0-2.true, only_none _ _ _)
 
 pub walk_from-n-requires : goal.walk_from-n-requires
 walk_from-n-requires c =
-    let start = c.before.before.before.before.before.before.before.before in
+    let start = c in
     (omega arith, ready-begun _ _ _ _ _ _ _ (omega (arith, start.requires.2.fits)) start.requires.2)
 
 pub shape_of-work : goal.shape_of-work
@@ -32,7 +32,7 @@ shape_of-work c =
 
 pub returns : goal.returns
 returns c =
-    let start = c.before.before.before.before.before.before.before.before.before.before.before in
+    let start = c in
     let a = start.args in
     let R = start.requires.2 in
     let step = c.walk_from-n in (

@@ -7,7 +7,7 @@ use Rattle.flat.proofs.walk_from.Goals as goal
 
 pub go_to-s-requires : goal.go_to-s-requires
 go_to-s-requires c =
-    let start = c.before.before in
+    let start = c in
     (start.requires.0, start.requires.1, none-stored start.args.rows start.args.tris start.args.work.now start.requires.1.long)
 
 pub loop-s-init : goal.loop-s-init
@@ -33,5 +33,5 @@ pub returns : goal.returns
 returns c =
     let I = c.loop-s.invariant in
     let G = c.go_to-s.ensures in
-    let start = c.before.before.before.before.before.before.before.before in
+    let start = c in
     (goes_end _ _ _ _ _ _ _ _ _ _ _ _ start.requires.0 start.requires.1 G I c.loop-s-test.false, only-trans _ _ _ _ _ G.only I.only)

@@ -21,6 +21,9 @@ At-Else-work-rows-ne0 = lts.Else2 reads.Pre reads.Post
 abbrev At-Else-work-rows-ne0-2 : Type 0
 At-Else-work-rows-ne0-2 = lts.Else3 reads.Pre reads.Post
 
+abbrev At-Else-work-rows-ne0-3 : Type 0
+At-Else-work-rows-ne0-3 = lts.Else4 reads.Pre reads.Post
+
 -- what each test tells, past it
 any-set : (c : At-Else-work-rows-eq0) → let a = c.args in eqb (cell a.rows any_column a.t a.work.now) 0 ≡ false
 any-set c = let a = c.args in ne_eqb (cell a.rows any_column a.t a.work.now) 0 (λ z. omega (arith, z, c.if-work-rows-eq0.false))
@@ -31,7 +34,7 @@ free-1 c = let a = c.args in eq-eqb (cell a.rows group_column (3 * a.t) a.work.n
 free-2 : (c : At-Else-work-rows-ne0-2) → let a = c.args in eqb (cell a.rows group_column (3 * a.t + 1) a.work.now) 0 ≡ true
 free-2 c = let a = c.args in eq-eqb (cell a.rows group_column (3 * a.t + 1) a.work.now) 0 (omega (arith, c.if-work-rows-ne0-2.false))
 
-free-3 : (c : goal.Else-work-rows-ne0-3) → let a = c.args in eqb (cell a.rows group_column (3 * a.t + 2) a.work.now) 0 ≡ true
+free-3 : (c : At-Else-work-rows-ne0-3) → let a = c.args in eqb (cell a.rows group_column (3 * a.t + 2) a.work.now) 0 ≡ true
 free-3 c = let a = c.args in eq-eqb (cell a.rows group_column (3 * a.t + 2) a.work.now) 0 (omega (arith, c.if-work-rows-ne0-3.false))
 
 pub returns-then-work-rows-eq0 : goal.returns-then-work-rows-eq0
@@ -47,21 +50,21 @@ returns-then-work-rows-ne0 c =
 pub returns-then-work-rows-ne0-2 : goal.returns-then-work-rows-ne0-2
 unfolding adopted untouched
 returns-then-work-rows-ne0-2 c =
-    let two = c.before.before in
+    let two = c in
     let a = two.args in
     simp (any-set two.before.before, free-1 two, ne_eqb (cell a.rows group_column (3 * a.t + 1) a.work.now) 0 (λ z. omega (arith, z, c.if-work-rows-ne0-2.true)))
 
 pub returns-then-work-rows-ne0-3 : goal.returns-then-work-rows-ne0-3
 unfolding adopted untouched
 returns-then-work-rows-ne0-3 c =
-    let three = c.before.before in
-    let two = three.before.before in
+    let three = c in
+    let two = three in
     let a = two.args in
     simp (any-set two.before.before, free-1 two, free-2 three, ne_eqb (cell a.rows group_column (3 * a.t + 2) a.work.now) 0 (λ z. omega (arith, z, c.if-work-rows-ne0-3.true)))
 
 pub returns : goal.returns
 unfolding adopted untouched
 returns c =
-    let three = c.before.before in
-    let two = three.before.before in
+    let three = c in
+    let two = three in
     simp (any-set two.before.before, free-1 two, free-2 three, free-3 c)

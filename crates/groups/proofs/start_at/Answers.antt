@@ -23,7 +23,7 @@ returns-then-work-rows-ne0-2 c =
 
 pub corner_step-n-requires : goal.corner_step-n-requires
 corner_step-n-requires c =
-    let start = c.before.before.before.before.before.before.before.before in
+    let start = c in
     (omega arith, ready-begun _ _ _ _ _ _ _ (omega (arith, start.requires.2.fits)) start.requires.2)
 
 pub shape_of-work : goal.shape_of-work
@@ -34,7 +34,7 @@ shape_of-work c =
 pub returns : goal.returns
 unfolding turn
 returns c =
-    let start = c.before.before.before.before.before.before.before.before.before.before.before in
+    let start = c in
     let a = start.args in
     let R = start.requires.2 in
     let step = c.corner_step-n in
@@ -42,6 +42,6 @@ returns c =
     record {
       is = simp (eq-eqb _ _ c.if-work-rows-ne0.false, eq-eqb (cell a.rows group_column a.k a.work.now) 0 (omega (arith, c.if-work-rows-ne0-2.false))) (ap (started (a.s.groups + 1)) (step.ensures.is (a.rows + 1) (omega (arith, R.room, begun))));
       few = omega arith;
-      ready = ready-next _ _ _ _ _ (ready-steps _ _ _ _ _ _ _ _ (ready-begun _ _ _ _ _ _ _ (omega (arith, R.fits)) R) step.ensures step.auto.0);
+      ready = ready-next _ _ _ _ _ (ready-steps _ _ _ _ _ _ _ _ (ready-begun _ _ _ _ _ _ _ (omega (arith, R.fits)) R) step.ensures step.auto.work);
       only = only-trans _ _ _ _ _ (only-begun a.rows a.s.members a.s.groups a.work.now (omega (arith, R.fits))) step.ensures.only;
     }

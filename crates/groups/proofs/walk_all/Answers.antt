@@ -11,7 +11,7 @@ use Rattle.groups.proofs.walk_all.Goals as goal
 
 pub loop-k-init : goal.loop-k-init
 loop-k-init c =
-    let start = c.before.before.before.before.before in
+    let start = c in
     let ready = ready-cleared start.args.rows start.args.tris start.args.work.now start.requires.0 start.requires.1 start.requires.2 start.requires.3 in
     (omega arith, omega arith, subst (Ready start.args.rows start.args.tris 1 0) (sym c.clear.ensures) ready, up_to-none _ _, only_none _ _ _)
 

@@ -19,11 +19,8 @@ use Rattle.islands.proofs.list_faces.Lts as lts
 use Rattle.islands.proofs.list_faces.Reads as reads
 use Rattle.islands.proofs.list_faces.Invariants.{Going}
 
-abbrev At-At-loop-f : Type 0
-At-At-loop-f = lts.At-loop tie.the-claims reads.Pre reads.Post goal.the-invariant-loop-f goal.the-decreases-loop-f
-
-abbrev At-Start : Type 0
-At-Start = lts.Start tie.the-claims reads.Pre reads.Post goal.the-invariant-loop-f goal.the-decreases-loop-f
+abbrev At-After-slice_known-in-loop-f-1 : Type 0
+At-After-slice_known-in-loop-f-1 = lts.After-slice_known2 tie.the-claims reads.Pre reads.Post goal.the-invariant-loop-f goal.the-decreases-loop-f
 
 -- one face more: listed where it is of 3 or 4, passed over else
 listed_next : (sizes w u v : List ℕ) (k k' base f size : ℕ) → 21 * (6 * length sizes) ≤ length w → f < length sizes → size ≡ get_or sizes f 0 → Going sizes w k base f u → (b : Bool) → used size ≡ b → k' ≡ cond b (k + 1) k → v ≡ cond b (added (6 * length sizes) k f base size u) u → FacesListed sizes (f + 1) k' (corner_row (6 * length sizes) v) (face_row (6 * length sizes) v) × Only list_columns (6 * length sizes) w v
@@ -47,12 +44,9 @@ going_more sizes w u v k k' base f size long h e small g b t p q =
     let r = listed_next sizes w u v k k' base f size long h e g b t p q in
     record { within = omega arith; sum = (λ i. g.sum i + e i) ∙ sym (corners-more sizes f h); few = omega (arith, g.few); listed = r.0; only = r.1 }
 
-abbrev start : At-At-loop-f → At-Start
-start c = c.before.before.before
-
 -- a size is a byte
-byte : (c : goal.After-slice_known-in-loop-f-1) → let i = c.before.before.before.before.before in get_or (start i.before).args.sizes.now i.loop-f.f 0 < 256
-byte c = let r = c.before.before.before.before in omega (arith, r.shared_slice_known-in-loop-f-1.given r.loop-f.f)
+byte : (c : At-After-slice_known-in-loop-f-1) → let i = c in get_or i.args.sizes.now i.loop-f.f 0 < 256
+byte c = let r = c in omega (arith, r.shared_slice_known-in-loop-f-1.given r.loop-f.f)
 
 pub loop-f-init : goal.loop-f-init
 loop-f-init c =
@@ -61,26 +55,26 @@ loop-f-init c =
     record { within = omega arith; sum = corners-none a.sizes.now; few = omega arith; listed = listed-none a.sizes.now (corner_row n a.work.now) (face_row n a.work.now); only = only_none list_columns n a.work.now }
 
 pub overflow_cast-f : goal.overflow_cast-f
-overflow_cast-f c = let i = c.before.before in omega (arith, i.loop-f-test.true, (start i.before).requires.0)
+overflow_cast-f c = let i = c in omega (arith, i.loop-f-test.true, i.requires.0)
 
 pub list_face-k-requires : goal.list_face-k-requires
 list_face-k-requires c =
-    let i = c.before.before in
+    let i = c in
     let g = i.loop-f.invariant in
-    let s = start i.before in
+    let s = i in
     (omega (arith, g.listed.few, i.loop-f-test.true), omega (arith, s.requires.1, g.only.size), omega (arith, g.few, i.loop-f-test.true, s.requires.0))
 
 pub overflow_cast-base : goal.overflow_cast-base
 overflow_cast-base c = omega (arith, byte c)
 
 pub overflow_add-base : goal.overflow_add-base
-overflow_add-base c = let i = c.before.before.before.before.before in omega (arith, byte c, i.loop-f.invariant.few, i.loop-f-test.true, (start i.before).requires.0)
+overflow_add-base c = let i = c in omega (arith, byte c, i.loop-f.invariant.few, i.loop-f-test.true, i.requires.0)
 
 pub loop-f-preserved : goal.loop-f-preserved
 loop-f-preserved c =
-    let a = c.before.before in
-    let i = a.before.before.before in
-    let s = start i.before in
+    let a = c in
+    let i = a in
+    let s = i in
     let l = i.loop-f in
     going_more _ _ _ _ _ _ _ _ _ s.requires.1 i.loop-f-test.true refl (byte c) l.invariant _ refl a.list_face-k.ensures.0 a.list_face-k.ensures.1
 
@@ -90,6 +84,6 @@ shape_of-work c = c.loop-f.invariant.only.size
 pub returns : goal.returns
 returns c =
     let l = c.loop-f in
-    let a = (start c.before).args in
+    let a = c.args in
     let n = length a.sizes.now in
     (subst (λ x. FacesListed a.sizes.now x l.k (corner_row (6 * n) l.work) (face_row (6 * n) l.work)) (le_antisymm l.invariant.within c.loop-f-test.false) l.invariant.listed, l.invariant.only)

@@ -19,9 +19,6 @@ use Rattle.labels.proofs.label_faces.Tie as tie
 use Rattle.labels.proofs.label_faces.Lts as lts
 use Rattle.labels.proofs.label_faces.Reads as reads
 
-abbrev At-After-struct_known-1 : Type 0
-At-After-struct_known-1 = lts.After-struct_known tie.the-claims reads.Pre reads.Post
-
 abbrev At-Start : Type 0
 At-Start = lts.Start tie.the-claims reads.Pre reads.Post
 
@@ -30,10 +27,6 @@ At-Else-v-ne0 = lts.Else1 tie.the-claims reads.Pre reads.Post
 
 abbrev At-Else-labels-sizes : Type 0
 At-Else-labels-sizes = lts.Else2 tie.the-claims reads.Pre reads.Post
-
--- the start, from the verdict
-abbrev start : At-After-struct_known-1 → At-Start
-start j = j.before.before.before.before.before.before.before.before
 
 -- what the call leaves of lists that are accepted
 abbrev taken : (s : At-Start) → Leaving
@@ -48,22 +41,22 @@ abbrev short : (s : At-Start) → Bool
 short s = ltb (length s.args.labels.now) (length s.args.sizes.now)
 
 -- past the first test the table has no row
-unrefused : (e : At-Else-v-ne0) → table (start e.before) ≡ none
+unrefused : (e : At-Else-v-ne0) → table e.before ≡ none
 unrefused e =
-    let j = e.before in
-    let a = (start j).args in
+    let j = e in
+    let a = j.args in
     no-refusal (shown (handed a.sizes.now a.positions.now a.normals.now a.texture.now) zeroᶠ longest_answer (length a.work.now)) (sym (ap (λ x. x.number) j.judge-v.ensures) ∙ e.if-v-ne0.false)
 
 -- past the second nothing is refused
-passing : (e : At-Else-labels-sizes) → let s = start e.before.before in let a = s.args in labels_verdict (handed a.sizes.now a.positions.now a.normals.now a.texture.now) (length a.labels.now) (length a.work.now) ≡ none
+passing : (e : At-Else-labels-sizes) → let s = e in let a = s.args in labels_verdict (handed a.sizes.now a.positions.now a.normals.now a.texture.now) (length a.labels.now) (length a.work.now) ≡ none
 unfolding labels_verdict
-passing e = let s = start e.before.before in passes (table s) (short s) (unrefused e.before) (le-ltb (length s.args.labels.now) (length s.args.sizes.now) (omega (arith, e.if-labels-sizes.false)))
+passing e = let s = e in passes (table s) (short s) (unrefused e.before) (le-ltb (length s.args.labels.now) (length s.args.sizes.now) (omega (arith, e.if-labels-sizes.false)))
 
 pub returns-then-v-ne0 : goal.returns-then-v-ne0
 unfolding labels_outcome labels_verdict
 returns-then-v-ne0 c =
-    let j = c.before.before in
-    let s = start j in
+    let j = c in
+    let s = j in
     let e = j.judge-v.ensures in
     ap (λ r. left r s.args.labels.now s.args.work.now) (c.said.ensures ∙ (λ i. record { number = (e i).number; place = (e i).place; islands = 0 }))
     ∙ refused (table s) (short s) (taken s) s.args.labels.now s.args.work.now (λ q. c.if-v-ne0.true (ap (λ x. x.number) e ∙ q))
@@ -71,18 +64,18 @@ returns-then-v-ne0 c =
 pub returns-then-labels-sizes : goal.returns-then-labels-sizes
 unfolding labels_outcome labels_verdict
 returns-then-labels-sizes c =
-    let e = c.before.before in
-    let s = start e.before in
+    let e = c in
+    let s = e in
     ap (λ r. left r s.args.labels.now s.args.work.now) c.said-then-labels-sizes.ensures
     ∙ too_short (table s) (short s) (taken s) s.args.labels.now s.args.work.now (unrefused e) (lt-ltb (length s.args.labels.now) (length s.args.sizes.now) (omega (arith, c.if-labels-sizes.true)))
 
 pub number_faces-islands-requires : goal.number_faces-islands-requires
-number_faces-islands-requires c = let e = c.before.before in passing e
+number_faces-islands-requires c = let e = c in passing e
 
 pub returns : goal.returns
 unfolding labels_outcome answered
 returns c =
-    let n = c.before.before.before.before.before in
-    let e = n.before.before.before in
-    let s = start e.before.before in
+    let n = c in
+    let e = n in
+    let s = e in
     left-same _ _ _ _ c.said-2.ensures ∙ (n.number_faces-islands.ensures ∙ ap (λ o. answered o (taken s) s.args.labels.now s.args.work.now) (sym (passing e)))

@@ -20,9 +20,6 @@ use Rattle.labels.proofs.number_faces.Reads as reads
 abbrev At-Start : Type 0
 At-Start = lts.Start tie.the-claims reads.Pre reads.Post
 
-abbrev At-After-label : Type 0
-At-After-label = lts.After-label tie.the-claims reads.Pre reads.Post
-
 -- so few faces, a label for each, and words for each in the work list
 known : (s : At-Start) → let a = s.args in let n = length a.sizes.now in (n ≤ face_limit) × (n ≤ length a.labels.now) × (work_words * n ≤ length a.work.now)
 known s =
@@ -31,31 +28,27 @@ known s =
     let f = fine (shown (handed a.sizes.now a.positions.now a.normals.now a.texture.now) zeroᶠ longest_answer (length a.work.now)) p.0 in
     (f.few, p.1, f.work-fits)
 
--- the start, from where the numbers are
-abbrev start : At-After-label → At-Start
-start c = c.before.before.before.before.before.before.before.before.before
-
 pub label-requires : goal.label-requires
 label-requires c = let k = known c.before.before.before.before.before.before.before.before in (k.0, k.1, omega (arith, k.2))
 
 pub overflow_mul-sizes : goal.overflow_mul-sizes
-overflow_mul-sizes c = let k = known (start c.before.before.before.before.before) in omega (arith, k.0)
+overflow_mul-sizes c = let k = known c.before.before.before.before.before in omega (arith, k.0)
 
 pub clear_first-requires : goal.clear_first-requires
-clear_first-requires c = let e = c.before.before.before.before.before in let k = known (start e) in omega (arith, k.2, e.label.ensures.1)
+clear_first-requires c = let e = c in let k = known e in omega (arith, k.2, e.label.ensures.1)
 
 pub count_islands-requires : goal.count_islands-requires
 count_islands-requires c =
-    let e = c.before.before.before.before.before.before.before.before.before in
-    let k = known (start e) in
+    let e = c in
+    let k = known e in
     (omega (arith, labels_length _ _ _ k.1 e.label.ensures.0), k.0)
 
 pub returns : goal.returns
 unfolding left accepted_labels
 returns c =
-    let f = c.before.before.before.before in
-    let e = f.before.before.before.before.before.before in
-    let a = (start e).args in
+    let f = c in
+    let e = f in
+    let a = e.args in
     let l = e.label.ensures in
     let n = counts-islands (handed a.sizes.now a.positions.now a.normals.now a.texture.now) a.labels.now _ _ l.0 c.count_islands.ensures in
     let w = cleared-past (length a.sizes.now) a.work.now _ _ l.2 f.clear_first.ensures in

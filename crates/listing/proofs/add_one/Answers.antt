@@ -11,16 +11,16 @@ use Rattle.listing.proofs.add_one.Goals as goal
 
 pub store-requires : goal.store-requires
 store-requires c =
-    let s = c.before.before.before.before in
+    let s = c in
     let a = s.args in
     let e : length (pick a.want (a.x ∷ [])) ≡ 1 = ap length (pick_yes a.want a.x c.if-x-want.true) in
     (omega arith, s.requires.1, s.requires.2, s.requires.3)
 
 pub returns-then-x-want : goal.returns-then-x-want
 returns-then-x-want c =
-    let call = c.before.before in
-    let test = call.before.before in
-    let s = test.before.before.before in
+    let call = c in
+    let test = call in
+    let s = test in
     let a = s.args in
     let e : length (pick a.want (a.x ∷ [])) ≡ 1 = ap length (pick_yes a.want a.x test.if-x-want.true) in
     let room : 3 * a.tris + 3 ≤ a.rows = omega (arith, s.requires.0) in
@@ -28,7 +28,7 @@ returns-then-x-want c =
 
 pub returns : goal.returns
 returns c =
-    let s = c.before.before.before in
+    let s = c in
     let a = s.args in
     let e : length (pick a.want (a.x ∷ [])) ≡ 0 = ap length (pick_no a.want a.x c.if-x-want.false) in
     (omega arith, λ mesh eb es F. add-no a.rows mesh a.want a.tris a.x _ c.if-x-want.false)

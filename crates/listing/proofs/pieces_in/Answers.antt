@@ -14,14 +14,14 @@ loop-f-init c = (pieces_none c.args.sizes.now, omega arith, omega arith)
 
 pub overflow_add-sum : goal.overflow_add-sum
 overflow_add-sum c =
-    let i = c.before.before in
+    let i = c in
     let l = i.loop-f in
-    let s = i.before.before.before in
+    let s = i in
     omega (arith, l.invariant.2, l.invariant.1, c.pieces_of-sum.ensures.1, s.requires)
 
 pub loop-f-preserved : goal.loop-f-preserved
 loop-f-preserved c =
-    let i = c.before.before in
+    let i = c in
     let l = i.loop-f in
     let sizes = i.args.sizes.now in
     let h : l.f < length sizes = i.loop-f-test.true in (

@@ -4,11 +4,11 @@ use Rattle.members.proofs.order_members.Goals as goal
 
 pub returns : goal.returns
 returns c =
-    let k = c.before.before in
-    let m = k.before.before.before.before in
-    let y = m.before.before.before.before in
-    let x = y.before.before.before.before in
-    let s = x.before.before.before in
+    let k = c in
+    let m = k in
+    let y = m in
+    let x = y in
+    let s = x in
     let a = s.args in (
       λ ss d ls B fits N all G. in_order a.rows a.s.groups a.s.members a.work.now _ _ _ _ s.requires.0 s.requires.1 s.requires.2 x.clear.ensures y.clear-2.ensures m.copy_members.ensures k.sort_groups.ensures ss d fits ls B N all G,
       all-only a.rows a.s.groups a.s.members a.work.now _ _ _ _ s.requires.0 s.requires.1 s.requires.2 x.clear.ensures y.clear-2.ensures m.copy_members.ensures k.sort_groups.ensures,

@@ -15,10 +15,10 @@ abbrev given : At-Start → Handed
 given s = let a = s.args in handed a.sizes.now a.positions.now a.normals.now a.texture.now
 
 pub returns-then-sizes-gt-FACE_LIMIT : goal.returns-then-sizes-gt-FACE_LIMIT
-returns-then-sizes-gt-FACE_LIMIT c = caught-many (given c.before.before.before.before.before) c.if-sizes-gt-FACE_LIMIT.true
+returns-then-sizes-gt-FACE_LIMIT c = caught-many (given c.before.before.before.before.before.before) c.if-sizes-gt-FACE_LIMIT.true
 
 pub returns : goal.returns
 returns c =
-    let b = c.before in
-    let s = b.before.before.before.before.before.before in
-    c.unfit.ensures ∙ caught-few (given s) b.corners_before-corners.result b.if-sizes-gt-FACE_LIMIT.false (b.corners_before-corners.ensures.0 ∙ all-taken s.args.sizes.now b.if-sizes-gt-FACE_LIMIT.false)
+    let b = c in
+    let s = b in
+    c.unfit.ensures ∙ caught-few (given s.before.before.before.before.before.before.before.before) b.corners_before-corners.result b.if-sizes-gt-FACE_LIMIT.false (b.corners_before-corners.ensures.0 ∙ all-taken s.args.sizes.now b.if-sizes-gt-FACE_LIMIT.false)

@@ -17,6 +17,9 @@ use Rattle.mesh.proofs.span_of.Reads as reads
 abbrev At-Start : Type 0
 At-Start = lts.Start tie.the-claims reads.Pre reads.Post
 
+abbrev At-After-shared_slice_known-5-1 : Type 0
+At-After-shared_slice_known-5-1 = lts.After-shared_slice_known5 tie.the-claims reads.Pre reads.Post
+
 module _ (mesh : Handed) (list f : ℕ) where
   -- the three ways out
   stopped : caught mesh ≡ true → nowhere ≡ span_of mesh list f
@@ -40,29 +43,29 @@ abbrev given : At-Start → Handed
 given s = let a = s.args in handed a.sizes.now a.positions.now a.normals.now a.texture.now
 
 -- a size is a byte
-byte : (c : goal.After-shared_slice_known-5-1) → get_or c.args.sizes.now c.args.face 0 ≤ 255
+byte : (c : At-After-shared_slice_known-5-1) → get_or c.args.sizes.now c.args.face 0 ≤ 255
 byte c = omega (arith, c.shared_slice_known-5-1.given c.args.face)
 
 pub returns-then-caught : goal.returns-then-caught
-returns-then-caught c = stopped (given c.before.before.before.before.before.before) _ _ (sym c.caught.ensures ∙ c.if-caught.true)
+returns-then-caught c = stopped (given c.before.before.before.before.before.before.before) _ _ (sym c.caught.ensures ∙ c.if-caught.true)
 
 pub returns-then-face-sizes : goal.returns-then-face-sizes
 returns-then-face-sizes c =
-    let e = c.before in
-    past (given e.before.before.before.before.before.before) _ _ (sym e.caught.ensures ∙ e.if-caught.false) (omega (arith, c.if-face-sizes.true))
+    let e = c in
+    past (given e.before.before.before.before.before.before.before.before) _ _ (sym e.caught.ensures ∙ e.if-caught.false) (omega (arith, c.if-face-sizes.true))
 
 pub overflow_mul-from : goal.overflow_mul-from
-overflow_mul-from c = omega (arith, mul-le-mul c.width_of_lem.ensures.1 c.corners_before.ensures.1)
+overflow_mul-from c = omega (arith, mul-le-mul c.width_of-width.ensures.1 c.corners_before.ensures.1)
 
 pub overflow_cast-result : goal.overflow_cast-result
-overflow_cast-result c = omega (arith, byte c)
+overflow_cast-result c = omega (arith, byte c.before)
 
 pub overflow_mul-result : goal.overflow_mul-result
-overflow_mul-result c = omega (arith, mul-le-mul c.width_of_lem.ensures.1 (byte c))
+overflow_mul-result c = omega (arith, mul-le-mul c.width_of-width.ensures.1 (byte c.before))
 
 pub returns : goal.returns
 returns c =
-    let w = c.before.before in
-    let p = w.before in
-    let e = p.before in
-    within (given e.before.before.before.before.before.before) _ _ (sym e.caught.ensures ∙ e.if-caught.false) (omega (arith, p.if-face-sizes.false)) _ _ w.width_of_lem.ensures.0 c.corners_before.ensures.0
+    let w = c in
+    let p = w in
+    let e = p in
+    within (given e.before.before.before.before.before.before.before.before.before.before.before) _ _ (sym e.caught.ensures ∙ e.if-caught.false) (omega (arith, p.if-face-sizes.false)) _ _ w.width_of-width.ensures.0 c.corners_before.ensures.0

@@ -27,8 +27,8 @@ called s =
 pub returns-then-v-ne0 : goal.returns-then-v-ne0
 unfolding outcome
 returns-then-v-ne0 c =
-    let j = c.before.before.before in
-    let s = j.before.before.before.before.before.before.before in
+    let j = c in
+    let s = j in
     let a = s.args in
     let v = verdict (at_desk (called s)) in
     let e = j.judge-v.ensures in
@@ -38,7 +38,7 @@ returns-then-v-ne0 c =
 -- past the test no row applies
 passed : (i : At-Else-v-ne0) → verdict (at_desk (called i.before.before.before.before.before.before.before.before.before)) ≡ none
 passed i =
-    let j = i.before.before in
+    let j = i in
     let x = at_desk (called j.before.before.before.before.before.before.before) in
     no-refusal x (omega (arith, ap (λ x. x.number) j.judge-v.ensures, number_small x, i.if-v-ne0.false))
 
@@ -48,10 +48,10 @@ make_frames-slots-requires c = passed c.before.before
 pub returns : goal.returns
 unfolding outcome answered
 returns c =
-    let m = c.before.before.before.before.before in
-    let i = m.before.before.before in
-    let j = i.before.before in
-    let s = j.before.before.before.before.before.before.before in
+    let m = c in
+    let i = m in
+    let j = i in
+    let s = j in
     let a = s.args in
     let z = accepted (called s) in
     left-same _ _ _ _ c.said-2.ensures ∙ (m.make_frames-slots.ensures ∙ ap (λ o. answered o z a.answer.now a.work.now) (sym (passed i)))

@@ -34,12 +34,12 @@ overflow_mul-rows c = omega (arith, (known c.before.before.before.before.before.
 
 pub clear_first-requires : goal.clear_first-requires
 clear_first-requires c =
-    let n = c.before in
-    let s = n.before.before.before.before.before.before.before in
+    let n = c in
+    let s = n in
     omega (arith, (known s).answer-fits, all_slots s.args.sizes.now _ (known s).few n.slots_before-slots.ensures.0)
 
 pub group_mesh-counts-requires : goal.group_mesh-counts-requires
-group_mesh-counts-requires c = let s = c.before.before.before.before.before.before.before.before.before.before.before.before in ((known s).few, room s)
+group_mesh-counts-requires c = let s = c in ((known s).few, room s)
 
 -- the mesh handed in
 abbrev mesh : At-Start → Handed
@@ -47,8 +47,8 @@ mesh s = let a = s.args in handed a.sizes.now a.positions.now a.normals.now a.te
 
 pub finish_frames-requires : goal.finish_frames-requires
 finish_frames-requires c =
-    let g = c.before.before.before.before in
-    let s = g.before.before.before.before.before.before.before.before.before.before.before.before.before in
+    let g = c in
+    let s = g in
     let L = g.group_mesh-counts.ensures in
     let R = counts-fit (mesh s) _ s.args.work.now _ L in
     (omega arith, refl, R.0, R.1, L.few, L.small, omega (arith, room s, L.only.size), all-ranged (mesh s) _ s.args.work.now _ L (known s).well_formed (room s))
@@ -58,8 +58,8 @@ overflow_mul-sizes c = omega (arith, (known c.before.before.before.before.before
 
 pub clear_first-requires-2 : goal.clear_first-requires-2
 clear_first-requires-2 c =
-    let f = c.before.before.before.before.before in
-    let g = f.before.before.before.before.before in
+    let f = c in
+    let g = f in
     omega (arith, (known g.before.before.before.before.before.before.before.before.before.before.before.before.before).work-fits, g.group_mesh-counts.ensures.only.size, f.finish_frames.ensures.only.size)
 
 -- a list that is cleared so far
@@ -70,12 +70,12 @@ cleared-to k m l u e h = e ∙ ap (λ (j : ℕ). replicate j 0 ++ drop j l) h
 pub returns : goal.returns
 unfolding left accepted
 returns c =
-    let y = c.before.before in
-    let f = y.before.before.before.before.before.before in
-    let g = f.before.before.before.before.before in
-    let q = g.before.before.before.before in
-    let n = q.before.before in
-    let s = n.before.before.before.before.before.before.before in
+    let y = c in
+    let f = y in
+    let g = f in
+    let q = g in
+    let n = q in
+    let s = n in
     let a = s.args in
     let L = g.group_mesh-counts.ensures in
     let slots = all_slots a.sizes.now _ (known s).few n.slots_before-slots.ensures.0 in

@@ -18,7 +18,7 @@ loop-c-smaller c =
 
 pub loop-c-preserved : goal.loop-c-preserved
 loop-c-preserved c =
-    let b = c.before.before in
+    let b = c in
     let s = b.step-c in
     let l = b.loop-c in
     (s.ensures.stands, s.ensures.turns _ l.invariant.1, only-trans _ _ _ _ _ l.invariant.2 s.ensures.only)

@@ -11,5 +11,5 @@ returns-then-word-eq0 c = (ap link_of (sym c.if-word-eq0.true ∙ c.wide-word.en
 
 pub returns : goal.returns
 returns c =
-    let start = c.before.before.before.before in
+    let start = c in
     (named _ c.if-word-eq0.false ∙ ap link_of c.wide-word.ensures, omega (arith, start.requires.3))

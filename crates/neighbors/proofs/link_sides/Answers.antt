@@ -11,18 +11,18 @@ use Rattle.neighbors.proofs.link_sides.Goals as goal
 
 pub link_all-requires : goal.link_all-requires
 link_all-requires c =
-    let q = c.before.before.before in
-    let p = q.before.before.before.before in
-    let s = p.before.before.before in
+    let q = c in
+    let p = q in
+    let s = p in
     ready-two s.args.rows s.args.tris s.args.work.now _ _ s.requires.0 s.requires.1 s.requires.2 p.put_sides.ensures q.sort.ensures
 
 pub returns : goal.returns
 returns c =
-    let l = c.before.before in
-    let q = l.before.before.before.before in
-    let p = q.before.before.before.before in
-    let k = p.before.before in
-    let s = k.before in
+    let l = c in
+    let q = l in
+    let p = q in
+    let k = p in
+    let s = k in
     let a = s.args in (
       λ ss d e N S W. subst (Linked a.rows ss d (links ss)) (sym l.link_all.ensures.0) (links-are a.rows a.tris a.work.now _ _ s.requires.0 s.requires.1 s.requires.2 p.put_sides.ensures q.sort.ensures (λ r h. omega (arith, k.slice_known-1.given (vertex_column * a.rows + r))) ss d e N S W),
       (λ r h. l.link_all.ensures.1.0.links r h, only-three a.rows vertex_column a.tris a.work.now _ _ refl s.requires.0 s.requires.1 p.put_sides.ensures q.sort.ensures.only _ l.link_all.ensures.1.1),

@@ -13,9 +13,9 @@ told f p q e h = sym (λ k. f (p k) (q k)) ∙ sym e ∙ h
 
 pub returns-then-not-same_ends : goal.returns-then-not-same_ends
 returns-then-not-same_ends c =
-    let b = c.before.before in
+    let b = c in
     let at = b.side_at-u in
-    let start = b.before.before.before.before.before in
+    let start = b in
     let a = start.args in
     let p = start.requires in
     parted a.rows a.n a.c.near a.c.far a.work.now p.0.2 p.1.2 p.0.0 p.0.1
@@ -23,10 +23,10 @@ returns-then-not-same_ends c =
 
 pub returns-then-not-suits : goal.returns-then-not-suits
 returns-then-not-suits c =
-    let d = c.before.before in
-    let b = d.before.before.before in
+    let d = c in
+    let b = d in
     let at = b.side_at-u in
-    let start = b.before.before.before.before.before in
+    let start = b in
     let a = start.args in
     let p = start.requires in
     unsuited a.rows a.n a.c.near a.c.far a.work.now p.0.2 p.1.2 p.0.0 p.0.1
@@ -35,11 +35,11 @@ returns-then-not-suits c =
 
 pub returns : goal.returns
 returns c =
-    let j = c.before.before.before.before in
-    let d = j.before.before.before in
-    let b = d.before.before.before in
+    let j = c in
+    let d = j in
+    let b = d in
     let at = b.side_at-u in
-    let start = b.before.before.before.before.before in
+    let start = b in
     let a = start.args in
     let p = start.requires in
     linked-as a.rows a.n a.c.near a.c.far a.work.now p.0.2 p.1.2 p.0.0 p.0.1

@@ -24,39 +24,39 @@ link_at-requires c =
 -- the side at `near` is unlinked
 free : (c : At-In-Nothing) → let a = c.args in cell a.rows link_column (side_at a.rows a.work.now a.c.near) a.work.now ≡ 0
 free c =
-    let k = c.before.before in
+    let k = c in
     let at = k.side_at-s in
     let a = k.args in
     unlinked _ (ap (λ (x : ℕ). link_of (cell a.rows link_column x a.work.now)) (sym at.ensures.0) ∙ sym k.link_at.ensures.0 ∙ c.in-Nothing.is)
 
 pub returns-in_default : goal.returns-in_default
 returns-in_default c =
-    let k = c.before.before.before in
+    let k = c in
     let at = k.side_at-s in
-    let start = k.before.before.before.before.before in
+    let start = k in
     let a = start.args in
     passed a.rows a.n a.c.near a.c.far a.work.now start.requires.1 _ start.requires.0
     (ap (λ (x : ℕ). link_of (cell a.rows link_column x a.work.now)) (sym at.ensures.0) ∙ sym k.link_at.ensures.0 ∙ c.in_default.is)
 
 pub returns-then-c : goal.returns-then-c
 returns-then-c c =
-    let e = c.before.before.before in
-    let start = e.before.before.before.before.before.before.before in
+    let e = c in
+    let start = e in
     let a = start.args in
     fetched a.rows a.n a.c.near a.c.far a.work.now start.requires.1 start.requires.0 c.if-c.true
 
 pub returns-then-c-n : goal.returns-then-c-n
 returns-then-c-n c =
-    let t = c.before.before.before in
-    let e = t.before.before in
-    let start = e.before.before.before.before.before.before.before in
+    let t = c in
+    let e = t in
+    let start = e in
     let a = start.args in
     ended a.rows a.n a.c.near a.c.far a.work.now start.requires.1 (free e) (omega arith) c.if-c-n.true
 
 pub look-requires : goal.look-requires
 look-requires c =
-    let t = c.before.before.before in
-    let e = t.before.before in
+    let t = c in
+    let e = t in
     let at = e.side_at-s in
-    let start = e.before.before.before.before.before.before.before in
+    let start = e in
     ((t.if-c.false, omega (arith, start.requires.1.second), start.requires.1), (at.ensures.0, at.ensures.1, free e))

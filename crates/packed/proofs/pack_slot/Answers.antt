@@ -12,6 +12,6 @@ returns-then-not-has_frame c = simp (sym c.has_frame.ensures ∙ not-true _ c.if
 pub returns : goal.returns
 unfolding packed_slot frame_packed frame list_of
 returns c =
-    let s = c.before.before.before.before.before.before.before in
-    let e = s.before.before.before.before.before.before.before in
+    let s = c in
+    let e = s in
     simp (sym e.has_frame.ensures ∙ not-false _ e.if-not-has_frame.false) (cc)

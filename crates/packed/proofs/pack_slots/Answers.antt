@@ -28,7 +28,7 @@ put_seven-requires c = omega (arith, c.loop-s.invariant.long)
 pub loop-s-preserved : goal.loop-s-preserved
 unfolding slot_at
 loop-s-preserved c =
-    let p = c.before.before in
+    let p = c in
     let l = p.loop-s in
     let a = p.args in
     let e = p.pack_slot.ensures ∙ ap packed_slot (cut-is slot_words l.s a.answer.now) in

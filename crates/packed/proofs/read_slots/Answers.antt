@@ -25,7 +25,7 @@ read_slot-requires c =
 pub loop-s-preserved : goal.loop-s-preserved
 unfolding seven_at
 loop-s-preserved c =
-    let p = c.before.before in
+    let p = c in
     let l = p.loop-s in
     let a = p.args in
     run_more read_words a.count (stored a.packed.now) (λ i. length-read (seven_at a.packed.now i)) a.answer.now l.answer _ l.s (omega arith) l.invariant

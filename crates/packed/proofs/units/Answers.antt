@@ -6,15 +6,21 @@ use Rattle.packed.specs.Component.{full_scale}
 use Rattle.packed.specs.Component as spec
 use Rattle.packed.proofs.Range.{units-none, units-le, units-high}
 use Rattle.packed.proofs.units.Goals as goal
+use Rattle.packed.proofs.units.Tie as tie
+use Rattle.packed.proofs.units.Lts as lts
+use Rattle.packed.proofs.units.Reads as reads
+
+abbrev At-After-nearest : Type 0
+At-After-nearest = lts.After-nearest tie.the-claims reads.Pre reads.Post
 
 pub returns-then-m-lt-LEAST : goal.returns-then-m-lt-LEAST
 returns-then-m-lt-LEAST c = (units-none c.args.m c.if-m-lt-LEAST.true, omega arith)
 
 -- what comes back from `nearest`
-nearest-is : (c : goal.After-nearest) → c.nearest.result ≡ spec.units c.args.m
+nearest-is : (c : At-After-nearest) → c.nearest.result ≡ spec.units c.args.m
 nearest-is c = c.nearest.ensures ∙ units-high c.args.m (omega arith)
 
-nearest-le : (c : goal.After-nearest) → c.nearest.result ≤ full_scale
+nearest-le : (c : At-After-nearest) → c.nearest.result ≤ full_scale
 nearest-le c = subst (λ (q : ℕ). q ≤ full_scale) (sym (nearest-is c)) (units-le c.args.m c.requires)
 
 pub overflow_cast-result : goal.overflow_cast-result

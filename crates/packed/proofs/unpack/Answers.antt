@@ -21,8 +21,8 @@ returns-then-answer-count c =
 pub returns-then-place-count : goal.returns-then-place-count
 unfolding after_unpack not_read sevens_in first_refused
 returns-then-place-count c =
-    let f = c.before in
-    let t = f.before in
+    let f = c in
+    let t = f in
     let a = t.args in
     (λ i. record { number = 3; place = f.first_refused-place.ensures i; answer = a.answer.now })
     ∙ read_refused a.packed.now a.answer.now t.if-packed-ne0.false (omega arith) (λ e. c.if-place-count.true (f.first_refused-place.ensures ∙ e))
@@ -30,10 +30,10 @@ returns-then-place-count c =
 pub returns : goal.returns
 unfolding after_unpack whole_read sevens_in first_refused
 returns c =
-    let p = c.before.before in
-    let e = p.before.before in
-    let f = e.before in
-    let t = f.before in
+    let p = c in
+    let e = p in
+    let f = e in
+    let t = f in
     let a = t.args in
     (λ i. record { number = 0; place = 0; answer = p.read_slots.ensures i })
     ∙ read_done a.packed.now a.answer.now t.if-packed-ne0.false (omega arith) (sym f.first_refused-place.ensures ∙ e.if-place-count.false)

@@ -19,9 +19,6 @@ use Rattle.reasons.proofs.explain.Tie as tie
 use Rattle.reasons.proofs.explain.Lts as lts
 use Rattle.reasons.proofs.explain.Reads as reads
 
-abbrev At-After-struct_known-1 : Type 0
-At-After-struct_known-1 = lts.After-struct_known tie.the-claims reads.Pre reads.Post
-
 abbrev At-Start : Type 0
 At-Start = lts.Start tie.the-claims reads.Pre reads.Post
 
@@ -33,10 +30,6 @@ At-After-slots_before-slots = lts.After-slots_before tie.the-claims reads.Pre re
 
 abbrev At-Else-reasons-slots : Type 0
 At-Else-reasons-slots = lts.Else2 tie.the-claims reads.Pre reads.Post
-
--- the start, from the verdict
-abbrev start : At-After-struct_known-1 → At-Start
-start j = j.before.before.before.before.before.before.before.before.before
 
 -- the call
 abbrev handed-in : (s : At-Start) → Call
@@ -55,26 +48,26 @@ abbrev short : (s : At-Start) → Bool
 short s = ltb (length s.args.reasons.now) (slot_count s.args.sizes.now)
 
 -- past the first test the table has no row
-unrefused : (e : At-Else-v-ne0) → table (start e.before) ≡ none
-unrefused e = let j = e.before in no-refusal (at_desk (handed-in (start j))) (sym (ap (λ x. x.number) j.judge-v.ensures) ∙ e.if-v-ne0.false)
+unrefused : (e : At-Else-v-ne0) → table e.before ≡ none
+unrefused e = let j = e in no-refusal (at_desk (handed-in j)) (sym (ap (λ x. x.number) j.judge-v.ensures) ∙ e.if-v-ne0.false)
 
 -- then all slots are counted
-counted : (n : At-After-slots_before-slots) → n.slots_before-slots.result ≡ slot_count (start n.before.before).args.sizes.now
-counted n = let s = start n.before.before in all_slots s.args.sizes.now _ (fine (at_desk (handed-in s)) (unrefused n.before)).few n.slots_before-slots.ensures.0
+counted : (n : At-After-slots_before-slots) → n.slots_before-slots.result ≡ slot_count n.args.sizes.now
+counted n = let s = n in all_slots s.args.sizes.now _ (fine (at_desk (handed-in s)) (unrefused n.before)).few n.slots_before-slots.ensures.0
 
 -- past the second nothing is refused
-passing : (e : At-Else-reasons-slots) → let s = start e.before.before.before in reasons_verdict (handed-in s) (length s.args.reasons.now) ≡ none
+passing : (e : At-Else-reasons-slots) → let s = e in reasons_verdict (handed-in s) (length s.args.reasons.now) ≡ none
 unfolding reasons_verdict
 passing e =
-    let n = e.before in
-    let s = start n.before.before in
+    let n = e in
+    let s = n in
     passes (table s) (short s) (unrefused n.before) (le-ltb (length s.args.reasons.now) (slot_count s.args.sizes.now) (omega (arith, e.if-reasons-slots.false, counted n)))
 
 pub returns-then-v-ne0 : goal.returns-then-v-ne0
 unfolding reasons_outcome reasons_verdict
 returns-then-v-ne0 c =
-    let j = c.before.before in
-    let s = start j in
+    let j = c in
+    let s = j in
     let e = j.judge-v.ensures in
     left-same _ _ _ _ _ (c.said.ensures ∙ (λ i. record { number = (e i).number; place = (e i).place; slots = 0 }))
     ∙ refused (table s) (short s) (taken s) s.args.answer.now s.args.work.now s.args.reasons.now (λ q. c.if-v-ne0.true (ap (λ x. x.number) e ∙ q))
@@ -82,59 +75,59 @@ returns-then-v-ne0 c =
 pub returns-then-reasons-slots : goal.returns-then-reasons-slots
 unfolding reasons_outcome reasons_verdict
 returns-then-reasons-slots c =
-    let n = c.before.before in
-    let s = start n.before.before in
+    let n = c in
+    let s = n in
     left-same _ _ _ _ _ c.said-then-reasons-slots.ensures
     ∙ too_short (table s) (short s) (taken s) s.args.answer.now s.args.work.now s.args.reasons.now (unrefused n.before) (lt-ltb (length s.args.reasons.now) (slot_count s.args.sizes.now) (omega (arith, c.if-reasons-slots.true, counted n)))
 
 -- what holds of the lists
-known : (n : At-After-slots_before-slots) → Fine (at_desk (handed-in (start n.before.before)))
-known n = fine (at_desk (handed-in (start n.before.before))) (unrefused n.before)
+known : (n : At-After-slots_before-slots) → Fine (at_desk (handed-in n.before.before))
+known n = fine (at_desk (handed-in n.before.before)) (unrefused n.before)
 
 -- and there is a byte a slot
-byte-each : (e : At-Else-reasons-slots) → slot_count (start e.before.before.before).args.sizes.now ≤ length (start e.before.before.before).args.reasons.now
+byte-each : (e : At-Else-reasons-slots) → slot_count e.args.sizes.now ≤ length e.args.reasons.now
 byte-each e = omega (arith, e.if-reasons-slots.false, counted e.before)
 
 pub try_copies-requires : goal.try_copies-requires
 try_copies-requires c =
-    let n = c.before.before.before in
+    let n = c in
     let k = known n in
     (k.few, omega (arith, k.work-fits), k.answer-fits, counted n, k.good)
 
 pub note_reasons-requires : goal.note_reasons-requires
 note_reasons-requires c =
-    let t = c.before.before.before.before.before.before in
-    let e = t.before.before.before in
-    let n = e.before in
+    let t = c in
+    let e = t in
+    let n = e in
     (omega (arith, (known n).answer-fits, counted n, t.try_copies.auto.answer.1.1.1.1.0), omega (arith, byte-each e, counted n))
 
 pub make_frames-made-requires : goal.make_frames-made-requires
 make_frames-made-requires c =
-    let t = c.before.before.before.before.before.before.before.before.before.before.before in
-    let n = t.before.before.before.before in
-    let s = start n.before.before in
+    let t = c in
+    let n = t in
+    let s = n in
     let a = s.args in
     (λ z. verdict (shown (handed a.sizes.now a.positions.now a.normals.now a.texture.now) a.threshold (t.try_copies.auto.answer.1.1.1.1.0 z) (t.try_copies.auto.answer.1.1.1.0 z))) ∙ unrefused n.before
 
 pub strike-requires : goal.strike-requires
 strike-requires c =
-    let m = c.before.before.before.before.before.before in
-    let r = m.before.before.before.before.before in
-    let t = r.before.before.before.before.before.before.before in
-    let e = t.before.before.before in
-    let n = e.before in
+    let m = c in
+    let r = m in
+    let t = r in
+    let e = t in
+    let n = e in
     (omega (arith, (known n).answer-fits, counted n, t.try_copies.auto.answer.1.1.1.1.0, m.make_frames-made.auto.answer.1.1.1.1.0), omega (arith, byte-each e, counted n, r.note_reasons.auto.1.0))
 
 pub returns : goal.returns
 unfolding reasons_outcome answered
 returns c =
-    let k = c.before.before.before in
-    let m = k.before.before.before.before.before.before.before in
-    let r = m.before.before.before.before.before in
-    let t = r.before.before.before.before.before.before.before in
-    let e = t.before.before.before in
-    let n = e.before in
-    let s = start n.before.before in
+    let k = c in
+    let m = k in
+    let r = m in
+    let t = r in
+    let e = t in
+    let n = e in
+    let s = n in
     let a = s.args in
     left-same _ _ _ _ _ c.said-2.ensures
     ∙ (whole (handed a.sizes.now a.positions.now a.normals.now a.texture.now) a.threshold a.answer.now a.work.now a.reasons.now _ _ _ _ _ _ _ _ (counted n) (known n).answer-fits t.try_copies.auto.answer.1.1.1.1.0

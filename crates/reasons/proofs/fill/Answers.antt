@@ -28,7 +28,7 @@ put-requires c = let l = c.loop-s in omega (arith, l.invariant.long)
 
 pub loop-s-preserved : goal.loop-s-preserved
 loop-s-preserved c =
-    let p = c.before.before in
+    let p = c in
     let l = p.loop-s in
     let a = p.args in
     run_more slot_words a.count stored each a.answer.now l.answer _ l.s (omega arith) l.invariant (p.put.ensures ∙ ap (sets l.answer (slot_words * l.s)) tried-words) p.put.auto.answer

@@ -13,8 +13,8 @@ use Rattle.reasons.proofs.try_copies.Goals as goal
 
 pub copy_frames-requires : goal.copy_frames-requires
 copy_frames-requires c =
-    let l = c.before.before.before.before in
-    let s = l.before.before.before.before.before.before.before.before.before.before.before.before in
+    let l = c in
+    let s = l in
     let a = s.args in
     let L = l.link_mesh-counts.ensures in
     let R = counts-fit (handed a.sizes.now a.positions.now a.normals.now a.texture.now) _ _ a.work.now _ L in
@@ -26,9 +26,9 @@ filled-to n m a b e h = e ∙ ap (λ (k : ℕ). joined k (λ s. tried_words) ++ 
 
 pub returns : goal.returns
 returns c =
-    let f = c.before.before in
-    let l = f.before.before.before.before.before in
-    let s = l.before.before.before.before.before.before.before.before.before.before.before.before in
+    let f = c in
+    let l = f in
+    let s = l in
     let a = s.args in
     let L = l.link_mesh-counts.ensures in
     (tried-out (handed a.sizes.now a.positions.now a.normals.now a.texture.now) _ _ a.work.now _ L s.requires.4 a.answer.now _ _ (filled-to _ (slot_count a.sizes.now) a.answer.now _ l.fill.ensures s.requires.3) f.copy_frames.ensures, L.only.rest)

@@ -14,4 +14,4 @@ held : (c : At-Start) → Fits c.args.g.s_magnitude × Fits c.args.g.t_magnitude
 held c = (search rules, search rules)
 
 pub returns : goal.returns
-returns c = (cc, (held c.before.before.before.before.before.before.before.before).0, (held c.before.before.before.before.before.before.before.before).1)
+returns c = (cc, (held c.before.before.before.before.before.before.before.before.before).0, (held c.before.before.before.before.before.before.before.before.before).1)

@@ -14,4 +14,4 @@ held : (c : At-Start) → HeldVec c.args.v
 held c = record { x_held = search rules; y_held = search rules; z_held = search rules }
 
 pub returns : goal.returns
-returns c = (cc, held c.before.before.before.before.before.before.before.before)
+returns c = (cc, held c.before.before.before.before.before.before.before.before.before)

@@ -26,28 +26,28 @@ mark-requires c =
 
 pub next_on-x-requires : goal.next_on-x-requires
 next_on-x-requires c =
-    let m = c.before.before.before in
-    let t = m.before.before in
+    let m = c in
+    let t = m in
     let l = t.loop-x in
     let p = t.requires in
     (t.loop-x-test.true, p.1, p.2, omega (arith, p.3, l.invariant.3.size, m.mark.auto.work), p.4, p.5, p.6, l.invariant.1 t.loop-x-test.true)
 
 pub loop-x-smaller : goal.loop-x-smaller
 loop-x-smaller c =
-    let m = c.before.before.before.before in
-    let t = m.before.before in
+    let m = c in
+    let t = m in
     let l = t.loop-x in
-    let s = t.before.before.before.before.before in
+    let s = t in
     let p = s.requires in
     let f = fewer s.args.rows l.x l.work (omega (arith, t.loop-x-test.true, p.1)) (omega (arith, p.3, l.invariant.3.size)) (l.invariant.2 t.loop-x-test.true) in
     subst (λ v. unmarked s.args.rows v < unmarked s.args.rows l.work) (sym m.mark.ensures) f
 
 pub loop-x-preserved : goal.loop-x-preserved
 loop-x-preserved c =
-    let m = c.before.before.before.before in
-    let t = m.before.before in
+    let m = c in
+    let t = m in
     let l = t.loop-x in
-    let s = t.before.before.before.before.before in
+    let s = t in
     let p = s.requires in
     let a = s.args in
     let n = c.next_on-x.ensures in

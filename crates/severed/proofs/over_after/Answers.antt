@@ -13,16 +13,16 @@ returns-then-word-eq0 c = way-after-none _ _ _ _ _ refl c.word_at-word.ensures c
 
 pub end_of-requires : goal.end_of-requires
 end_of-requires c =
-    let s = c.before.before.before in
+    let s = c in
     let a = s.args in
     let w : get_or a.given.now a.x 0 ≤ 3 * a.tris = not-lt _ _ (s.requires.3 a.x s.requires.0) in
     omega (arith, w, c.word_at-word.ensures, s.requires.1)
 
 pub returns : goal.returns
 returns c =
-    let e = c.before in
-    let s = e.before.before.before in
+    let e = c in
+    let s = e in
     let a = s.args in
     let w : get_or a.given.now a.x 0 ≤ 3 * a.tris = not-lt _ _ (s.requires.3 a.x s.requires.0) in
     let v : e.word_at-word.result - 1 < 3 * a.tris = omega (arith, w, e.word_at-word.ensures, e.if-word-eq0.false) in
-    way-after-to _ _ _ _ _ _ refl e.word_at-word.ensures e.if-word-eq0.false c.end_of_lem.ensures (omega (arith, end_lt (e.word_at-word.result - 1) a.tris v, c.end_of_lem.ensures))
+    way-after-to _ _ _ _ _ _ refl e.word_at-word.ensures e.if-word-eq0.false c.end_of.ensures (omega (arith, end_lt (e.word_at-word.result - 1) a.tris v, c.end_of.ensures))

@@ -10,7 +10,7 @@ use Rattle.severed.proofs.over_before.Goals as goal
 
 pub word_at-word-requires : goal.word_at-word-requires
 word_at-word-requires c =
-    let s = c.before.before in
+    let s = c in
     let b = end_below c.Before-of.result s.args.tris (subst (λ z. z < 3 * s.args.tris) (sym c.Before-of.ensures) s.requires.0) in
     omega (arith, b, s.requires.2)
 
@@ -19,9 +19,9 @@ returns-then-word-eq0 c = way-before-none _ _ _ _ _ _ refl c.Before-of.ensures c
 
 pub returns : goal.returns
 returns c =
-    let d = c.before in
-    let b = d.before in
-    let s = b.before.before in
+    let d = c in
+    let b = d in
+    let s = b in
     let a = s.args in
     let l = end_below b.Before-of.result a.tris (subst (λ z. z < 3 * a.tris) (sym b.Before-of.ensures) s.requires.0) in
     let w : get_or a.given.now b.Before-of.result 0 ≤ 3 * a.tris = not-lt _ _ (s.requires.3 b.Before-of.result l) in

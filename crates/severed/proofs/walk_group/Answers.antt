@@ -12,31 +12,31 @@ use Rattle.severed.proofs.walk_group.Goals as goal
 
 pub go_on-requires : goal.go_on-requires
 go_on-requires c =
-    let n = c.before in
-    let m = n.before.before.before.before in
-    let s = m.before.before.before.before.before in
+    let n = c in
+    let m = n in
+    let s = m in
     let p = s.requires in
     let e = n.next_on-x.ensures in
     (e.low, p.1, p.2, omega (arith, p.3, m.mark.auto.work), p.4, p.5, p.6, (λ h z. (e.together h).some ((e.together h).same ∙ z)), (λ h. same-unless _ _ (e.fresh h)))
 
 pub go_on-requires-2 : goal.go_on-requires-2
 go_on-requires-2 c =
-    let n = c.before in
-    let g = n.before.before.before.before in
-    let m = g.before.before.before.before.before.before in
-    let s = m.before.before.before.before.before in
+    let n = c in
+    let g = n in
+    let m = g in
+    let s = m in
     let p = s.requires in
     let e = n.next_on-y.ensures in
     (e.low, p.1, p.2, omega (arith, p.3, m.mark.auto.work, g.go_on.ensures.1.size), p.4, p.5, p.6, (λ h z. (e.together h).some ((e.together h).same ∙ z)), (λ h. same-unless _ _ (e.fresh h)))
 
 pub returns : goal.returns
 returns c =
-    let h = c.before.before in
-    let n = h.before.before in
-    let g = n.before.before.before.before in
-    let x = g.before.before in
-    let m = x.before.before.before.before in
-    let s = m.before.before.before.before.before in
+    let h = c in
+    let n = h in
+    let g = n in
+    let x = g in
+    let m = x in
+    let s = m in
     let p = s.requires in
     let a = s.args in
     let k : a.f < a.rows = omega (arith, p.0, p.1) in (

@@ -19,8 +19,8 @@ returns-then-answer-slot c =
 pub returns : goal.returns
 unfolding reached_at
 returns c =
-    let w = c.before.before.before.before in
-    let e = w.before.before.before.before.before in
+    let w = c in
+    let e = w in
     let a = e.args in
     let l = a.answer.now in
     let before = w.reading_of-before.ensures ∙ ap reading_of w.words_at.ensures in

@@ -17,7 +17,7 @@ use Rattle.spaces.proofs.reach_each.Goals as goal
 pub loop-j-init : goal.loop-j-init
 unfolding up_to
 loop-j-init c =
-    let s = c.before.before.before.before in
+    let s = c in
     let a = s.args in
     let z : 0 ≡ a.from - a.from = omega arith in
     (ap (λ n. up_to n (λ k. reach_row a.rows a.threshold a.from (a.to - a.from) a.work.now (cell a.rows met_column (a.from + k) a.work.now)) a.answer.now) z, c.evaluate_tangent_space-sum.ensures, only_none (joined_column ∷ []) a.rows a.work.now, omega arith, s.requires.0, refl, s.requires.2)
@@ -27,19 +27,19 @@ overflow_cast-r c = let l = c.loop-j in omega (arith, c.slice_known-in-loop-j-1.
 
 pub reach_member-sum-requires : goal.reach_member-sum-requires
 reach_member-sum-requires c =
-    let i = c.before.before.before in
+    let i = c in
     let l = i.loop-j in
-    let s = i.before.before.before.before.before.before in
+    let s = i in
     let a = s.args in
     let b = i.loop-j-test.true in
     (subst (λ x. x < a.rows) (sym (cell-kept (joined_column ∷ []) a.rows a.work.now _ l.invariant.2 met_column l.j refl (omega (arith, b, s.requires.1)))) (s.requires.3.met l.j b), s.requires.0, s.requires.1, l.invariant.6, ranged-kept a.rows a.work.now _ l.invariant.2 a.to s.requires.1 s.requires.3, l.invariant.1)
 
 pub loop-j-preserved : goal.loop-j-preserved
 loop-j-preserved c =
-    let m = c.before.before.before.before in
-    let i = m.before.before.before.before in
+    let m = c in
+    let i = m in
     let l = i.loop-j in
-    let s = i.before.before.before.before.before.before in
+    let s = i in
     let a = s.args in
     let b = i.loop-j-test.true in
     let e = m.reach_member-sum.ensures in
@@ -52,7 +52,7 @@ pub returns : goal.returns
 unfolding reach_group
 returns c =
     let l = c.loop-j in
-    let s = c.before.before.before.before.before.before in
+    let s = c in
     let a = s.args in
     let f : ℕ → List ℕ → List ℕ = λ k. reach_row a.rows a.threshold a.from (a.to - a.from) a.work.now (cell a.rows met_column (a.from + k) a.work.now) in
     (l.invariant.0 ∙ ap (λ q. up_to (q - a.from) f a.answer.now) (le_antisymm l.invariant.4 c.loop-j-test.false), l.invariant.2)

@@ -14,31 +14,31 @@ use Rattle.spaces.proofs.reach_whole.Goals as goal
 pub loop-j-init : goal.loop-j-init
 unfolding up_to
 loop-j-init c =
-    let s = c.before.before.before in
+    let s = c in
     let a = s.args in
     let z : 0 ≡ a.from - a.from = omega arith in
     (ap (λ n. up_to n (λ k. reach_with a.rows a.work.now c.sum_of_all-g.result (cell a.rows met_column (a.from + k) a.work.now)) a.answer.now) z, omega arith, s.requires.0, refl)
 
 pub overflow_cast-work : goal.overflow_cast-work
 overflow_cast-work c =
-    let i = c.before.before in
+    let i = c in
     let l = i.loop-j in
-    let s = i.before.before.before.before.before in
+    let s = i in
     omega (arith, c.shared_slice_known-in-loop-j-1.given (met_column * s.args.rows + l.j))
 
 pub reach_one-requires : goal.reach_one-requires
 reach_one-requires c =
-    let i = c.before.before in
+    let i = c in
     let l = i.loop-j in
-    let s = i.before.before.before.before.before in
+    let s = i in
     (s.requires.3.met l.j i.loop-j-test.true, s.requires.2)
 
 pub loop-j-preserved : goal.loop-j-preserved
 loop-j-preserved c =
-    let m = c.before.before in
-    let i = m.before.before.before in
+    let m = c in
+    let i = m in
     let l = i.loop-j in
-    let s = i.before.before.before.before.before in
+    let s = i in
     let a = s.args in
     let b = i.loop-j-test.true in
     let g = i.sum_of_all-g.result in
@@ -51,6 +51,6 @@ pub returns : goal.returns
 unfolding reach_whole
 returns c =
     let l = c.loop-j in
-    let s = c.before.before.before.before.before in
+    let s = c in
     let a = s.args in
     l.invariant.0 ∙ ((λ z. up_to (le_antisymm l.invariant.2 c.loop-j-test.false z - a.from) (λ k. reach_with a.rows a.work.now (c.sum_of_all-g.ensures z) (cell a.rows met_column (a.from + k) a.work.now)) a.answer.now))

@@ -19,7 +19,7 @@ returns-then-is_any c =
 pub returns : goal.returns
 unfolding absorbed
 returns c =
-    let e = c.before.before.before.before.before.before in
+    let e = c in
     let a = e.args in
     let h : eqb (cell a.rows any_column (a.r / 3) a.work.now) 1 ≡ false = sym e.is_any.ensures ∙ e.if-is_any.false in
     simp h

@@ -12,7 +12,7 @@ use Rattle.subgroups.proofs.add_row.Goals as goal
 pub returns-then-is_any : goal.returns-then-is_any
 unfolding add_row
 returns-then-is_any c =
-    let e = c.before in
+    let e = c in
     let a = e.args in
     let h : eqb (cell a.rows any_column (a.r / 3) a.work.now) 1 ≡ true = sym e.is_any.ensures ∙ e.if-is_any.true in
     simp h c.none_added.ensures
@@ -20,9 +20,9 @@ returns-then-is_any c =
 pub returns : goal.returns
 unfolding add_row space_at
 returns c =
-    let m = c.before.before.before in
-    let t = m.before.before in
-    let e = t.before.before in
+    let m = c in
+    let t = m in
+    let e = t in
     let a = e.args in
     let h : eqb (cell a.rows any_column (a.r / 3) a.work.now) 1 ≡ false = sym e.is_any.ensures ∙ e.if-is_any.false in
     simp h

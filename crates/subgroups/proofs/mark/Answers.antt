@@ -12,7 +12,7 @@ use Rattle.subgroups.proofs.mark.Goals as goal
 pub returns-then-work-rows : goal.returns-then-work-rows
 unfolding mark_of joins_at
 returns-then-work-rows c =
-    let f = c.before.before in
+    let f = c in
     let a = f.args in
     let q = joined_column * a.rows + a.p in
     let m = f.flag-b.ensures ∙ ap flag f.joins.ensures in
@@ -21,6 +21,6 @@ returns-then-work-rows c =
 pub returns : goal.returns
 unfolding mark_of joins_at
 returns c =
-    let f = c.before.before in
+    let f = c in
     let a = f.args in
     (ap (set a.work.now (joined_column * a.rows + a.p)) (f.flag-b.ensures ∙ ap flag f.joins.ensures), λ e. absurd (false≢true e))

@@ -20,17 +20,17 @@ loop-p-init c =
 pub mark-same-requires : goal.mark-same-requires
 mark-same-requires c =
     let l = c.loop-p in
-    let s = c.before.before.before.before in
+    let s = c in
     let p = c.loop-p-test.true in
     let b : l.p < s.args.rows = omega (arith, p, s.requires.1) in
     (b, subst (λ x. x < s.args.rows) (sym (order-kept s.args.rows s.args.work.now _ l.invariant.4 l.p b)) (s.requires.3.order l.p p), omega (arith, s.requires.2, l.invariant.4.size))
 
 pub loop-p-preserved : goal.loop-p-preserved
 loop-p-preserved c =
-    let k = c.before.before in
-    let i = k.before.before in
+    let k = c in
+    let i = k in
     let l = i.loop-p in
-    let s = i.before.before.before in
+    let s = i in
     let a = s.args in
     let p = i.loop-p-test.true in
     let b : l.p < a.rows = omega (arith, p, s.requires.1) in
@@ -46,6 +46,6 @@ shape_of-work c = c.loop-p.invariant.4.size
 pub returns : goal.returns
 returns c =
     let l = c.loop-p in
-    let s = c.before.before.before in
+    let s = c in
     let a = s.args in
     (marked-as a.rows a.threshold a.m a.from a.work.now s.requires.2 _ _ _ (ap (λ q. q - a.from) (le_antisymm l.invariant.3 c.loop-p-test.false)) l.invariant.0, l.invariant.1)

@@ -19,15 +19,15 @@ loop-p-init c =
 
 pub add_taken-z-requires : goal.add_taken-z-requires
 add_taken-z-requires c =
-    let s = c.before.before.before.before in
+    let s = c in
     let p = c.loop-p-test.true in
     (omega (arith, p, s.requires.1), s.requires.3.order c.loop-p.p p, s.requires.2)
 
 pub loop-p-preserved : goal.loop-p-preserved
 loop-p-preserved c =
-    let i = c.before in
+    let i = c in
     let l = i.loop-p in
-    let s = i.before.before.before.before in
+    let s = i in
     let a = s.args in
     let at : l.p ≡ a.from + (l.p - a.from) = omega (arith, l.invariant.1) in
     let e : (l.p - a.from) + 1 ≡ l.p + 1 - a.from = omega (arith, l.invariant.1) in
@@ -38,6 +38,6 @@ pub returns : goal.returns
 unfolding taken_sum
 returns c =
     let l = c.loop-p in
-    let s = c.before.before.before.before.before in
+    let s = c in
     let a = s.args in
     c.finish.ensures ∙ ap finish (l.invariant.0 ∙ ap (λ q. up_to (q - a.from) (λ k. add_taken a.rows a.all a.work.now (a.from + k)) empty_sum) (le_antisymm l.invariant.2 c.loop-p-test.false))

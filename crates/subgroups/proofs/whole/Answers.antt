@@ -8,7 +8,7 @@ use Rattle.subgroups.proofs.whole.Goals as goal
 
 pub returns : goal.returns
 returns c =
-    let p = c.before.before.before.before in
+    let p = c in
     let a = p.args in
     λ q. whole-law a.rows a.work.now a.threshold a.from (a.to - a.from)
     (sym (c.above.ensures ∙ ap (λ x. above x.s a.threshold) p.Span-of.ensures) ∙ and_left _ _ q)

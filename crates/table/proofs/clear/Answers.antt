@@ -7,10 +7,15 @@ use lib.ListN.{length-set}
 use Rattle.table.specs.Columns.{columns}
 use Rattle.table.proofs.Laws.{set-by, column-ends, fill_none, fill_more}
 use Rattle.table.proofs.clear.Goals as goal
+use Rattle.table.proofs.clear.Lts as lts
+use Rattle.table.proofs.clear.Reads as reads
+
+abbrev At-In-loop-r : Type 0
+At-In-loop-r = lts.In-loop reads.Pre reads.Post goal.the-invariant-loop-r goal.the-decreases-loop-r
 
 -- the column ends at or before the last one's end
-ends : (c : goal.In-loop-r) → let a = c.args in a.column * a.rows + a.rows ≤ columns * a.rows
-ends c = let s = c.before.before in column-ends s.args.column columns s.args.rows s.requires.0
+ends : (c : At-In-loop-r) → let a = c.args in a.column * a.rows + a.rows ≤ columns * a.rows
+ends c = let s = c in column-ends s.args.column columns s.args.rows s.requires.0
 
 pub loop-r-init : goal.loop-r-init
 loop-r-init c = (omega arith, fill_none c.args.rows c.args.column (λ _. 0) c.args.work.now, refl)

@@ -8,15 +8,8 @@ use Rattle.unions.proofs.root.Goals as goal
 use Rattle.unions.proofs.root.Lts as lts
 use Rattle.unions.proofs.root.Reads as reads
 
-abbrev At-At-loop-up : Type 0
-At-At-loop-up = lts.At-loop reads.Pre reads.Post goal.the-invariant-loop-up goal.the-decreases-loop-up
-
-abbrev At-Start : Type 0
-At-Start = lts.Start reads.Pre reads.Post goal.the-invariant-loop-up goal.the-decreases-loop-up
-
--- the start, from the loop
-abbrev start : At-At-loop-up → At-Start
-start c = c.before.before
+abbrev At-In-loop-up : Type 0
+At-In-loop-up = lts.In-loop reads.Pre reads.Post goal.the-invariant-loop-up goal.the-decreases-loop-up
 
 -- the bounds in the loop
 record Bounds (n f x up over size long : ℕ) : Type 0 where
@@ -27,12 +20,12 @@ record Bounds (n f x up over size long : ℕ) : Type 0 where
   fifth : n ≤ long
   sixth : size ≡ long
 
-bounds : (c : goal.In-loop-up) →
-    let s = start c.before in
+bounds : (c : At-In-loop-up) →
+    let s = c in
     let l = c.loop-up in
     Bounds s.args.count s.args.from l.x l.up (get_or l.parents l.up 0) (length l.parents) (length s.args.parents.now)
 bounds c =
-    let s = start c.before in
+    let s = c in
     let l = c.loop-up in
     let g = l.invariant in
     record {
@@ -54,7 +47,7 @@ pub offset_bounds-parents-up : goal.offset_bounds-parents-up
 offset_bounds-parents-up c = let b = bounds c in omega (arith, b.second, b.third)
 
 pub bounds-parents-up : goal.bounds-parents-up
-bounds-parents-up c = let b = bounds c.before in omega (arith, b.second, b.third, b.fourth, b.fifth, b.sixth)
+bounds-parents-up c = let b = bounds c.before.before in omega (arith, b.second, b.third, b.fourth, b.fifth, b.sixth)
 
 pub bounds-parents-x-in-loop-up : goal.bounds-parents-x-in-loop-up
 bounds-parents-x-in-loop-up c = let b = bounds c.before in omega (arith, b.third, b.fourth, b.fifth, b.sixth)
@@ -66,19 +59,19 @@ pub offset_bounds-parents-x-in-loop-up-2 : goal.offset_bounds-parents-x-in-loop-
 offset_bounds-parents-x-in-loop-up-2 c = let b = bounds c.before in omega (arith, b.first, b.second, b.third)
 
 pub bounds-parents-x-in-loop-up-2 : goal.bounds-parents-x-in-loop-up-2
-bounds-parents-x-in-loop-up-2 c = let b = bounds c.before.before in simp length-set (omega (arith, b.first, b.second, b.third, b.fourth, b.fifth, b.sixth))
+bounds-parents-x-in-loop-up-2 c = let b = bounds c.before.before.before in simp length-set (omega (arith, b.first, b.second, b.third, b.fourth, b.fifth, b.sixth))
 
 pub loop-up-smaller : goal.loop-up-smaller
-loop-up-smaller c = let b = bounds c.before.before in let t = c.loop-up-test.true in omega (arith, b.first, b.second, t)
+loop-up-smaller c = let b = bounds c.before.before.before in let t = c.loop-up-test.true in omega (arith, b.first, b.second, t)
 
 pub loop-up-preserved : goal.loop-up-preserved
 loop-up-preserved c =
-    let i = c.before.before in
-    let s = start i.before in
+    let i = c in
+    let s = i in
     going_more _ _ _ _ _ _ s.requires.0 s.requires.1 i.loop-up.invariant _ _ refl refl
 
 pub shape_of-parents : goal.shape_of-parents
 shape_of-parents c = c.loop-up.invariant.same.beyond.size
 
 pub returns : goal.returns
-returns c = let s = start c.before in climbed _ _ _ _ _ _ s.requires.0 s.requires.1 c.loop-up.invariant c.loop-up-test.false
+returns c = let s = c in climbed _ _ _ _ _ _ s.requires.0 s.requires.1 c.loop-up.invariant c.loop-up-test.false

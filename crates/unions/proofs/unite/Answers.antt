@@ -14,59 +14,46 @@ use Rattle.unions.proofs.unite.Reads as reads
 abbrev At-After-slice_known-3-1 : Type 0
 At-After-slice_known-3-1 = lts.After-slice_known3 tie.the-claims reads.Pre reads.Post
 
-abbrev At-After-root-x : Type 0
-At-After-root-x = lts.After-root tie.the-claims reads.Pre reads.Post
-
-abbrev At-Start : Type 0
-At-Start = lts.Start tie.the-claims reads.Pre reads.Post
-
--- the start, from where both ends are known
-abbrev first : At-After-slice_known-3-1 → At-After-root-x
-first c = c.before.before.before.before.before.before
-
-abbrev start : At-After-slice_known-3-1 → At-Start
-start c = (first c).before.before.before
-
 -- both ends
-climbs : (c : At-After-slice_known-3-1) → let s = start c in let a = (first c).root-x in let b = c.root-y in
-    Climbed s.args.count s.args.parents.now a.last.0 s.args.a a.result × Climbed s.args.count a.last.0 b.new.0 s.args.b b.result
-climbs c = ((first c).root-x.ensures, c.root-y.ensures)
+climbs : (c : At-After-slice_known-3-1) → let s = c in let a = c.root-x in let b = c.root-y in
+    Climbed s.args.count s.args.parents.now a.new.parents s.args.a a.result × Climbed s.args.count a.new.parents b.new.parents s.args.b b.result
+climbs c = (c.root-x.ensures, c.root-y.ensures)
 
 -- the length is the one at the start
-long : (c : At-After-slice_known-3-1) → length c.root-y.new.parents ≡ length (start c).args.parents.now
+long : (c : At-After-slice_known-3-1) → length c.root-y.new.parents ≡ length c.args.parents.now
 long c = (climbs c).1.same.beyond.size ∙ (climbs c).0.same.beyond.size
 
 -- the higher end gets the lower
 module _ (c : At-After-slice_known-3-1) where
   abbrev n : ℕ
-  n = (start c).args.count
+  n = c.args.count
 
   abbrev after : List ℕ
-  after = c.before.before.root2.new.0
+  after = c.root-y.new.parents
 
   abbrev x : ℕ
-  x = (first c).root.result
+  x = c.root-x.result
 
   abbrev y : ℕ
-  y = c.before.before.root2.result
+  y = c.root-y.result
 
   enough : n ≤ length after
-  enough = omega (arith, long c, (start c).requires.0)
+  enough = omega (arith, long c, c.requires.0)
 
   x_below : x < n
-  x_below = omega (arith, (climbs c).0.low, (start c).requires.1)
+  x_below = omega (arith, (climbs c).0.low, c.requires.1)
 
   y-below : y < n
-  y-below = omega (arith, (climbs c).1.low, (start c).requires.2)
+  y-below = omega (arith, (climbs c).1.low, c.requires.2)
 
-  higher-y : x < y → United n (start c).args.parents.now (set after y x) (start c).args.a (start c).args.b
+  higher-y : x < y → United n c.args.parents.now (set after y x) c.args.a c.args.b
   higher-y h = united _ _ _ _ _ _ _ _ _ (climbs c).0 (climbs c).1 (join n after x y enough y-below (omega arith) (climbs c).1.same.down (climbs c).1.top)
 
-  higher-x : y ≤ x → United n (start c).args.parents.now (set after x y) (start c).args.a (start c).args.b
+  higher-x : y ≤ x → United n c.args.parents.now (set after x y) c.args.a c.args.b
   higher-x h = united _ _ _ _ _ _ _ _ _ (climbs c).0 (climbs c).1 (united-sym _ _ _ _ _ (join n after y x enough x_below h (climbs c).1.same.down ((climbs c).1.same.tops x x_below (climbs c).0.top)))
 
 pub root-y-requires : goal.root-y-requires
-root-y-requires c = let r = c.root-x.ensures in let s = c.before.before.before.before.before.before in (omega (arith, s.requires.0, r.same.beyond.size), s.requires.2, r.same.down)
+root-y-requires c = let r = c.root-x.ensures in let s = c in (omega (arith, s.requires.0, r.same.beyond.size), s.requires.2, r.same.down)
 
 pub bounds-parents-y : goal.bounds-parents-y
 bounds-parents-y c = omega (arith, enough c.before, y-below c.before)

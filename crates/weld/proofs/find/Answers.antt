@@ -25,21 +25,21 @@ next : (c : At-In-loop-p) → let a = c.args in let r = c.loop-p.p - 1 in get_or
 next c = let a = c.args in get_or-column a.rows a.work.now next_column (c.loop-p.p - 1) (omega (arith, c.loop-p.invariant.small))
 
 pub loop-p-init : goal.loop-p-init
-loop-p-init c = let s = c.before.before.before.before in walking_start _ _ _ _ s.requires.1 s.requires.2
+loop-p-init c = let s = c in walking_start _ _ _ _ s.requires.1 s.requires.2
 
 pub returns-then-same_corner : goal.returns-then-same_corner
 returns-then-same_corner c =
-    let t = c.before in
-    let i = t.before.before in
+    let t = c in
+    let i = t in
     walking_here _ _ _ _ _ _ (word-of-row i) (sym (t.same_corner.ensures ∙ ap (welded _) t.corner_of-d.ensures) ∙ c.if-same_corner.true) i.loop-p.invariant
 
 pub loop-p-smaller : goal.loop-p-smaller
-loop-p-smaller c = let i = c.before.before.before.before in walking-falls _ _ _ _ _ _ _ (word-of-row i) (next i) i.loop-p.invariant
+loop-p-smaller c = let i = c in walking-falls _ _ _ _ _ _ _ (word-of-row i) (next i) i.loop-p.invariant
 
 pub loop-p-preserved : goal.loop-p-preserved
 loop-p-preserved c =
-    let t = c.before.before in
-    let i = t.before.before in
+    let t = c in
+    let i = t in
     walking-next _ _ _ _ _ _ _ (word-of-row i) (sym (t.same_corner.ensures ∙ ap (welded _) t.corner_of-d.ensures) ∙ c.if-same_corner.false) (next i) i.loop-p.invariant
 
 pub returns : goal.returns

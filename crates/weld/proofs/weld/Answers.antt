@@ -12,41 +12,40 @@ use Rattle.weld.proofs.weld.Tie as tie
 use Rattle.weld.proofs.weld.Lts as lts
 use Rattle.weld.proofs.weld.Reads as reads
 
-abbrev At-Start : Type 0
-At-Start = lts.Start tie.the-claims reads.Pre reads.Post goal.the-invariant-loop-r goal.the-decreases-loop-r
+abbrev At-After-slice_known-2-1 : Type 0
+At-After-slice_known-2-1 = lts.After-slice_known2 tie.the-claims reads.Pre reads.Post goal.the-invariant-loop-r goal.the-decreases-loop-r
 
--- the start, from where the loop starts
-abbrev start : goal.After-slice_known-2-1 → At-Start
-start c = c.before.before.before.before.before.before.before.before
+abbrev At-After-loop-r : Type 0
+At-After-loop-r = lts.After-loop tie.the-claims reads.Pre reads.Post goal.the-invariant-loop-r goal.the-decreases-loop-r
 
 -- clearing leaves the other columns
-cleared : (c : goal.After-slice_known-2-1) → let a = (start c).args in Only weld_columns a.rows a.work.now c.clear.new.work
-cleared c = only-cleared _ _ _ (start c).requires.1 c.clear.ensures
+cleared : (c : At-After-slice_known-2-1) → let a = c.args in Only weld_columns a.rows a.work.now c.clear.new.work
+cleared c = only-cleared _ _ _ c.requires.1 c.clear.ensures
 
 pub loop-r-init : goal.loop-r-init
-loop-r-init c = (going-none _ _ _ (start c).requires.1 c.clear.ensures _ _ _, only_none _ _ _, omega arith)
+loop-r-init c = (going-none _ _ _ c.requires.1 c.clear.ensures _ _ _, only_none _ _ _, omega arith)
 
 pub overflow_cast-r : goal.overflow_cast-r
 overflow_cast-r c =
-    let i = c.before in
-    let s = start i.before.before in
+    let i = c in
+    let s = i in
     omega (arith, s.requires.0, s.requires.2, i.loop-r-test.true)
 
 pub turn-requires : goal.turn-requires
 turn-requires c =
-    let i = c.before in
+    let i = c in
     let l = i.loop-r in
-    let s = start i.before.before in
+    let s = i in
     (omega (arith, s.requires.1, (cleared i.before.before).size, l.invariant.1.size), omega (arith, s.requires.0, i.loop-r-test.true), s.requires.2, l.invariant.0)
 
 pub loop-r-preserved : goal.loop-r-preserved
 loop-r-preserved c =
-    let t = c.before.before in
+    let t = c in
     let l = t.loop-r in
     (t.turn.ensures.0, only-trans _ _ _ _ _ l.invariant.1 t.turn.ensures.1, omega (arith, t.loop-r-test.true))
 
 -- all but three columns is as it was
-whole : (c : goal.After-loop-r) → let a = (start c.before.before).args in Only weld_columns a.rows a.work.now c.loop-r.work
+whole : (c : At-After-loop-r) → let a = c.args in Only weld_columns a.rows a.work.now c.loop-r.work
 whole c = only-trans _ _ _ _ _ (cleared c.before.before) c.loop-r.invariant.1
 
 pub shape_of-work : goal.shape_of-work
@@ -55,7 +54,7 @@ shape_of-work c = (whole c).size
 pub returns : goal.returns
 returns c =
     let l = c.loop-r in
-    let s = start c.before.before in
+    let s = c in
     let a = s.args in
     let all = welded-all a.rows a.n a.positions.now a.normals.now a.texture.now a.work.now l.work s.requires.0 (subst (λ (m : ℕ). GoingIn a.rows m a.positions.now a.normals.now a.texture.now l.work) (le_antisymm l.invariant.2 c.loop-r-test.false) l.invariant.0) (whole c) in
     (all, vertices-are _ _ _ _ _ _ _ all s.requires.0)

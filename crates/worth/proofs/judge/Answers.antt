@@ -16,7 +16,7 @@ At-Else-number-ne0 = lts.Else1 tie.the-claims reads.Pre reads.Post
 pub returns-then-number-ne0 : goal.returns-then-number-ne0
 unfolding after_judge not_judged
 returns-then-number-ne0 c =
-    let f = c.before in
+    let f = c in
     let a = f.args in
     (λ i. record { number = f.refusal-number.ensures i; good = 0; first = 0; verdicts = a.verdicts.now })
     ∙ judge-refused a.answer.now a.verdicts.now (λ e. c.if-number-ne0.true (f.refusal-number.ensures ∙ e))
@@ -33,22 +33,22 @@ judge_slots-requires c = (omega arith, omega (arith, (fit c.before).room_for))
 
 pub good_among-good-requires : goal.good_among-good-requires
 good_among-good-requires c =
-    let j = c.before.before.before in
-    let e = j.before.before in
+    let j = c in
+    let e = j in
     (omega (arith, (fit e).room_for, j.judge_slots.auto.1.0), omega (arith, (fit e).few))
 
 pub first_other-first-requires : goal.first_other-first-requires
 first_other-first-requires c =
-    let j = c.before.before.before.before.before in
-    let e = j.before.before in
+    let j = c in
+    let e = j in
     omega (arith, (fit e).room_for, j.judge_slots.auto.1.0)
 
 pub returns : goal.returns
 unfolding after_judge all_judged slots_in
 returns c =
-    let g = c.before.before in
-    let j = g.before.before.before.before in
-    let e = j.before.before in
+    let g = c in
+    let j = g in
+    let e = j in
     let a = e.args in
     let l = a.answer.now in
     let v = a.verdicts.now in

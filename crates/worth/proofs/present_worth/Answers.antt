@@ -11,19 +11,19 @@ returns-then-not-directed c = simp (sym c.directed.ensures ∙ not-true _ c.if-n
 pub returns-then-not-all_near : goal.returns-then-not-all_near
 unfolding present_worth
 returns-then-not-all_near c =
-    let d = c.before.before in
+    let d = c in
     simp (sym d.directed.ensures ∙ not-false _ d.if-not-directed.false, sym c.all_near.ensures ∙ not-true _ c.if-not-all_near.true)
 
 pub returns-then-not-both_shown : goal.returns-then-not-both_shown
 unfolding present_worth
 returns-then-not-both_shown c =
-    let n = c.before.before in
-    let d = n.before.before in
+    let n = c in
+    let d = n in
     simp (sym d.directed.ensures ∙ not-false _ d.if-not-directed.false, sym n.all_near.ensures ∙ not-false _ n.if-not-all_near.false, sym c.both_shown.ensures ∙ not-true _ c.if-not-both_shown.true)
 
 pub returns : goal.returns
 unfolding present_worth
 returns c =
-    let n = c.before.before in
-    let d = n.before.before in
+    let n = c in
+    let d = n in
     simp (sym d.directed.ensures ∙ not-false _ d.if-not-directed.false, sym n.all_near.ensures ∙ not-false _ n.if-not-all_near.false, sym c.both_shown.ensures ∙ not-false _ c.if-not-both_shown.false)
