@@ -156,7 +156,7 @@ fn headed(card: &[u8], p: usize, h: [u32; HEADER_WORDS]) -> bool
 // Whether each of `count` records of `wide` words from word p on has 0 or 1 in its word 0.
 fn records_marked(card: &[u8], p: usize, wide: usize, count: usize) -> bool
     requires { (4 * (p + wide * count) ≤ length card.now) × (0 < wide) }
-    ensures* { λ r. ⌜ r ≡ every_below count (λ r. leb (word_at card.now (p + wide * r)) 1) ⌝ }
+    ensures { result ≡ every_below count (λ r. leb (word_at card.now (p + wide * r)) 1) }
 {
     for r in 0..count {
         if 1 < words::word_at(card, p + wide * r) {
@@ -169,7 +169,7 @@ fn records_marked(card: &[u8], p: usize, wide: usize, count: usize) -> bool
 // Whether each record of block b has 0 or 1 in its word 0; they stand from word p on.
 fn block_marked(card: &[u8], p: usize, kind: Kind, total: u32, b: usize) -> bool
     requires { (4 * (p + format.room_words) ≤ length card.now) × (format.records_held kind * b < total) }
-    ensures* { λ r. ⌜ r ≡ every_below (format.records_used kind total b) (λ r. leb (word_at card.now (p + format.record_words kind * r)) 1) ⌝ }
+    ensures { result ≡ every_below (format.records_used kind total b) (λ r. leb (word_at card.now (p + format.record_words kind * r)) 1) }
 {
     records_marked(card, p, record_words(kind), records_used(kind, total, b))
 }

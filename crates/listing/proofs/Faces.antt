@@ -50,12 +50,12 @@ module _ (ps ns ts : List Float) (f base : ℕ) where
   fine x i j k e hi hj hk ea eb ec = record {
     face = e;
     from = record {
-      small = λ t. elim t [
+      small = λ t. elim t as (λ (i : Third). (kept x i).which < 4) [
         | one ↦ subst (λ (q : Kept). q.which < 4) (sym ea) hi
         | two ↦ subst (λ (q : Kept). q.which < 4) (sym eb) hj
         | three ↦ subst (λ (q : Kept). q.which < 4) (sym ec) hk
       ];
-      corner = λ t. elim t [
+      corner = λ t. elim t as (λ (i : Third). (kept x i).corner ≡ corner_at ps ns ts (base + (kept x i).which)) [
         | one ↦ subst (λ (q : Kept). q.corner ≡ corner_at ps ns ts (base + q.which)) (sym ea) refl
         | two ↦ subst (λ (q : Kept). q.corner ≡ corner_at ps ns ts (base + q.which)) (sym eb) refl
         | three ↦ subst (λ (q : Kept). q.corner ≡ corner_at ps ns ts (base + q.which)) (sym ec) refl

@@ -72,8 +72,8 @@ ends-opposite x y x' y' n n' =
 
 -- ---- equal ends
 
-pub same_ends : (x y x' y' : ℕ) → (eqb (min x y) (min x' y') && eqb (max x y) (max x' y')) ≡ (eqb x x' && eqb y y' || eqb x y' && eqb y x')
-same_ends x y x' y' =
+pub ends-same : (x y x' y' : ℕ) → (eqb (min x y) (min x' y') && eqb (max x y) (max x' y')) ≡ (eqb x x' && eqb y y' || eqb x y' && eqb y x')
+ends-same x y x' y' =
     bool_iff (eqb (min x y) (min x' y') && eqb (max x y) (max x' y')) (eqb x x' && eqb y y' || eqb x y' && eqb y x')
     (λ e. there (eqb-true (min x y) (min x' y') (and_left (eqb (min x y) (min x' y')) (eqb (max x y) (max x' y')) e)) (eqb-true (max x y) (max x' y') (and_right (eqb (min x y) (min x' y')) (eqb (max x y) (max x' y')) e)) (eqb x x') refl)
     (λ e. back (eqb x x' && eqb y y') refl e)
@@ -105,7 +105,7 @@ pub ends-are : (rows k : ℕ) (ss : List Triangle) (d : Triangle) (w : List ℕ)
     → (eqb (min (cell rows k (row t i) w) (cell rows k (row t (after i)) w)) (min (cell rows k (row u j) w) (cell rows k (row u (after j)) w)) && eqb (max (cell rows k (row t i) w) (cell rows k (row t (after i)) w)) (max (cell rows k (row u j) w) (cell rows k (row u (after j)) w))) ≡ same_ends (spot_at ss d t i) (spot_at ss d u j)
 unfolding same_ends opposite end_of next
 ends-are rows k ss d w W t u i j h g =
-    same_ends (cell rows k (row t i) w) (cell rows k (row t (after i)) w) (cell rows k (row u j) w) (cell rows k (row u (after j)) w)
+    ends-same (cell rows k (row t i) w) (cell rows k (row t (after i)) w) (cell rows k (row u j) w) (cell rows k (row u (after j)) w)
     ∙ (λ z. W t u i j h g z && W t u (after i) (after j) h g z || W t u i (after j) h g z && W t u (after i) j h g z)
 
 -- the sides of the triangles ss, in the order os

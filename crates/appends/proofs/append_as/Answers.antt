@@ -4,7 +4,7 @@ use Prim.Native.Nat.{ℕ, ◌*◌, ◌/◌, ◌≤◌, ◌<◌}
 use mathlib.Core.Path.{◌≡◌, sym, ◌∙◌, ap}
 use mathlib.Core.Bool.{Bool, true, false}
 use lib.ListN.{length}
-use borrow.Author.Tests.{not-true, not-false}
+use borrow.Author.Tests.{not-false}
 use Rattle.words.specs.Words.{word_values}
 use Rattle.blocks.specs.declared.Kind.{Kind}
 use Rattle.blocks.specs.Format.{block_bytes, blocks_for}
@@ -77,7 +77,7 @@ returns-then-not-writable c =
     let t = c in
     let a = t.args in
     ap (λ (r : Appended). after_append r a.lent.now) c.refused.ensures
-    ∙ sym (added-1 a.kind a.total a.long a.records.now a.lent.now (sym t.writable.ensures ∙ not-true _ t.if-not-writable.true))
+    ∙ sym (added-1 a.kind a.total a.long a.records.now a.lent.now (sym t.writable.ensures ∙ t.if-not-writable.true))
 
 pub overflow_cast-count : goal.overflow_cast-count
 overflow_cast-count c = omega (arith, few c)
@@ -123,7 +123,7 @@ returns-then-not-are_next c =
     let i = r in
     let a = i.args in
     ap (λ (r : Appended). after_append r a.lent.now) c.refused-then-not-are_next.ensures
-    ∙ sym (added-by a.kind a.total a.long a.records.now a.lent.now (can i) (room r) (within e) false (sym (told t.before) ∙ not-true _ t.if-not-are_next.true))
+    ∙ sym (added-by a.kind a.total a.long a.records.now a.lent.now (can i) (room r) (within e) false (sym (told t.before) ∙ t.if-not-are_next.true))
 
 pub put_blocks-requires : goal.put_blocks-requires
 unfolding first_torn
@@ -133,7 +133,7 @@ put_blocks-requires c =
     let r = e in
     let i = r in
     let a = i.args in
-    (omega (arith, made-is r.before), sym (told t.before) ∙ not-false _ t.if-not-are_next.false, few-records a.kind a.records.now (can i), first_fits e, room r)
+    (omega (arith, made-is r.before), sym (told t.before) ∙ t.if-not-are_next.false, few-records a.kind a.records.now (can i), first_fits e, room r)
 
 pub returns : goal.returns
 unfolding after_append now_added first_torn place_of
@@ -146,4 +146,4 @@ returns c =
     let i = f in
     let a = i.args in
     (λ z. record { number = 0; blocks = made-is f z; at = block_bytes * (a.long / block_bytes); lent = p.put_blocks.ensures z })
-    ∙ sym (added-by a.kind a.total a.long a.records.now a.lent.now (can i) (room r) (within e) true (sym (told t.before) ∙ not-false _ t.if-not-are_next.false))
+    ∙ sym (added-by a.kind a.total a.long a.records.now a.lent.now (can i) (room r) (within e) true (sym (told t.before) ∙ t.if-not-are_next.false))

@@ -6,7 +6,6 @@ use mathlib.Core.Bool.{Bool}
 use mathlib.Core.List.{List}
 use lib.Dec.{eqb}
 use lib.ListN.{get_or}
-use borrow.Author.Tests.{not-true, not-false}
 use Rattle.blocks.specs.Format.{block_words, header_words, room_words}
 use Rattle.lists.specs.Parts.{every_below}
 use Rattle.words.specs.Words.{word_at}
@@ -58,14 +57,14 @@ pub returns-then-not-headed : goal.returns-then-not-headed
 returns-then-not-headed c =
     let i = c in
     let a = i.args in
-    bad-header a.kind a.total a.b a.card.now (omega (arith, i.if-card-b.false)) (sym (headed-is c.before) ∙ not-true _ c.if-not-headed.true)
+    bad-header a.kind a.total a.b a.card.now (omega (arith, i.if-card-b.false)) (sym (headed-is c.before.before) ∙ c.if-not-headed.true)
 
 pub returns-then-not-block_marked : goal.returns-then-not-block_marked
 returns-then-not-block_marked c =
     let e = c in
     let i = e in
     let a = i.args in
-    bad-mark a.kind a.total a.b a.card.now (omega (arith, i.if-card-b.false)) (sym (headed-is e.before) ∙ not-false _ e.if-not-headed.false) (sym (marked-is c.before) ∙ not-true _ c.if-not-block_marked.true)
+    bad-mark a.kind a.total a.b a.card.now (omega (arith, i.if-card-b.false)) (sym (headed-is e.before.before.before.before) ∙ e.if-not-headed.false) (sym (marked-is c.before.before) ∙ c.if-not-block_marked.true)
 
 pub returns-then-not-emptied : goal.returns-then-not-emptied
 returns-then-not-emptied c =
@@ -73,8 +72,8 @@ returns-then-not-emptied c =
     let e = m in
     let i = e in
     let a = i.args in
-    bad-rest a.kind a.total a.b a.card.now (omega (arith, i.if-card-b.false)) (sym (headed-is e.before) ∙ not-false _ e.if-not-headed.false) (sym (marked-is m.before) ∙ not-false _ m.if-not-block_marked.false)
-    (sym (emptied-is c.before) ∙ not-true _ c.if-not-emptied.true)
+    bad-rest a.kind a.total a.b a.card.now (omega (arith, i.if-card-b.false)) (sym (headed-is e.before.before.before.before.before.before) ∙ e.if-not-headed.false) (sym (marked-is m.before.before.before.before) ∙ m.if-not-block_marked.false)
+    (sym (emptied-is c.before.before) ∙ c.if-not-emptied.true)
 
 pub returns : goal.returns
 unfolding block_at
@@ -85,5 +84,5 @@ returns c =
     let i = e in
     let a = i.args in
     c.checked.ensures
-    ∙ by-sum a.kind a.total a.b a.card.now (omega (arith, i.if-card-b.false)) (sym (headed-is e.before) ∙ not-false _ e.if-not-headed.false) (sym (marked-is m.before) ∙ not-false _ m.if-not-block_marked.false)
-    (sym (emptied-is z.before) ∙ not-false _ z.if-not-emptied.false)
+    ∙ by-sum a.kind a.total a.b a.card.now (omega (arith, i.if-card-b.false)) (sym (headed-is e.before.before.before.before.before.before.before) ∙ e.if-not-headed.false) (sym (marked-is m.before.before.before.before.before) ∙ m.if-not-block_marked.false)
+    (sym (emptied-is z.before.before.before) ∙ z.if-not-emptied.false)

@@ -28,7 +28,7 @@ pub overflow_mul-wide : goal.overflow_mul-wide
 overflow_mul-wide c =
     let w = c in
     let a = w.args in
-    omega (arith, product w, used-words-le a.kind a.total a.b)
+    omega (arith, product w.before.before.before.before, used-words-le a.kind a.total a.b)
 
 pub get_words-requires : goal.get_words-requires
 get_words-requires c =
@@ -36,15 +36,15 @@ get_words-requires c =
     let w = g in
     let s = w in
     let a = s.args in
-    let there = good-there a.kind a.total a.b a.card.now (sym g.good2.ensures ∙ c.if-good.true) in
-    (omega (arith, there, product w, used-words-le a.kind a.total a.b), omega (arith, product w, words-fit a.kind a.total a.b s.requires.0, s.requires.1))
+    let there = good-there a.kind a.total a.b a.card.now (sym g.good.ensures ∙ c.if-good.true) in
+    (omega (arith, there, product w.before.before.before.before, used-words-le a.kind a.total a.b), omega (arith, product w.before.before.before.before, words-fit a.kind a.total a.b s.requires.0, s.requires.1))
 
 pub lose-requires : goal.lose-requires
 lose-requires c =
     let w = c in
     let s = w in
     let a = s.args in
-    (omega (arith, product w, words-fit a.kind a.total a.b s.requires.0, s.requires.1), w.record_words-wide.ensures.1)
+    (omega (arith, product w.before.before.before.before, words-fit a.kind a.total a.b s.requires.0, s.requires.1), w.record_words-wide.ensures.1)
 
 -- words that were read, by their place
 got-by : (l u : List ℕ) (p : ℕ) (bs : List ℕ) (k m n : ℕ) → u ≡ sets l p (words_at bs k n) → k ≡ m → u ≡ sets l p (words_at bs m n)
@@ -56,7 +56,7 @@ returns-then-good c =
     let w = g in
     let a = w.args in
     got-by _ _ _ _ _ (block_words * a.b + header_words) _ c.get_words.ensures (omega arith)
-    ∙ ap (sets a.answer.now (room_words * a.b)) (ap (words_at a.card.now (block_words * a.b + header_words)) (product w) ∙ sym (read-good a.kind a.total a.b a.card.now (sym g.good2.ensures ∙ c.if-good.true)))
+    ∙ ap (sets a.answer.now (room_words * a.b)) (ap (words_at a.card.now (block_words * a.b + header_words)) (product w.before.before.before.before.before.before.before) ∙ sym (read-good a.kind a.total a.b a.card.now (sym g.good.ensures ∙ c.if-good.true)))
 
 pub returns-else-good : goal.returns-else-good
 returns-else-good c =
@@ -65,4 +65,4 @@ returns-else-good c =
     let a = w.args in
     c.lose.ensures
     ∙ ap (sets a.answer.now (room_words * a.b))
-    ((λ z. joined (w.records_used-count.ensures.0 z) (λ _. lost_words (w.record_words-wide.ensures.0 z))) ∙ sym (read-lost a.kind a.total a.b a.card.now (sym g.good2.ensures ∙ c.if-good.false)))
+    ((λ z. joined (w.records_used-count.ensures.0 z) (λ _. lost_words (w.record_words-wide.ensures.0 z))) ∙ sym (read-lost a.kind a.total a.b a.card.now (sym g.good.ensures ∙ c.if-good.false)))

@@ -30,13 +30,13 @@ inside c =
     omega (arith, one_of s.args.wide c.loop-r.r s.args.count c.loop-r-test.true, s.requires.1)
 
 pub overflow_mul-wide : goal.overflow_mul-wide
-overflow_mul-wide c = omega (arith, inside c, c.requires.0)
+overflow_mul-wide c = omega (arith, inside c.before, c.requires.0)
 
 pub overflow_add-p : goal.overflow_add-p
-overflow_add-p c = omega (arith, inside c, c.requires.0)
+overflow_add-p c = omega (arith, inside c.before, c.requires.0)
 
 pub word_at-requires : goal.word_at-requires
-word_at-requires c = omega (arith, inside c, c.requires.0)
+word_at-requires c = omega (arith, inside c.before, c.requires.0)
 
 pub returns-then-word_at-gt1 : goal.returns-then-word_at-gt1
 returns-then-word_at-gt1 c =

@@ -5,7 +5,7 @@ use mathlib.Core.Path.{◌≡◌, sym, ap, ◌∙◌, subst}
 use mathlib.Core.Bool.{true}
 use mathlib.Core.List.{◌++◌}
 use lib.ListN.{length, drop}
-use borrow.Author.Tests.{not-true, not-false}
+use borrow.Author.Tests.{not-false}
 use Rattle.words.specs.Words.{word_values}
 use Rattle.blocks.specs.Format.{block_bytes, blocks_for}
 use Rattle.blocks.proofs.Counts.{words-in}
@@ -34,7 +34,7 @@ pub returns-then-not-writable : goal.returns-then-not-writable
 unfolding after_write not_written
 returns-then-not-writable c =
     let a = c.args in
-    sym (wrote-1 a.kind a.answer.now a.card.now (sym c.writable.ensures ∙ not-true _ c.if-not-writable.true))
+    sym (wrote-1 a.kind a.answer.now a.card.now (sym c.writable.ensures ∙ c.if-not-writable.true))
 
 -- how many records there are
 few : (c : At-After-records_of-total) → c.records_of-total.result < word_values

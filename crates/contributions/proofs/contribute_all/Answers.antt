@@ -31,4 +31,4 @@ pub returns : goal.returns
 returns c =
     let l = c.loop-t in
     let D = rw (le_antisymm l.invariant.0 c.loop-t-test.false) at l.invariant.1 in
-    (λ ss d e T t i h. D.brings ss d e T t i (omega (arith, e, h)), l.invariant.1.only)
+    record { brings = λ ss d e T t i h. D.brings ss d e T t i (omega (arith, e, h)); only = l.invariant.1.only }

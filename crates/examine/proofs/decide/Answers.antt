@@ -17,7 +17,7 @@ use Rattle.examine.proofs.decide.Lts as lts
 use Rattle.examine.proofs.decide.Reads as reads
 
 abbrev At-Start : Type 0
-At-Start = lts.Start tie.the-claims reads.Pre reads.Post
+At-Start = lts.Start tie.the-claims reads.Pre reads.Post tie.handed_clauses
 
 -- what holds of the lists
 known : (s : At-Start) → let t = s.args in Fine (shown (handed t.sizes.now t.positions.now t.normals.now t.texture.now) zeroᶠ longest (length t.work.now))
@@ -50,7 +50,7 @@ clear_first-requires c =
     let e = c in
     let m = e in
     let s = m in
-    omega (arith, (known s).work-fits, m.link_mesh-counts.ensures.only.size, e.examine_all-o.ensures.1.size)
+    omega (arith, (known s).work-fits, m.link_mesh-counts.ensures.only.size, e.examine_all-o.ensures.only.size)
 
 pub returns : goal.returns
 returns c =
@@ -61,4 +61,4 @@ returns c =
     let t = s.args in
     let K = m.link_mesh-counts.ensures in
     let r = e.examine_all-o.ensures in
-    (decides (handed t.sizes.now t.positions.now t.normals.now t.texture.now) _ _ t.work.now _ t.given.now t.groups.now t.ways.now _ _ K (known s).well_formed r.0, cleared t.sizes.now t.work.now _ _ (r.1.rest ∙ K.only.rest) y.clear_first.ensures)
+    record { decides = decides (handed t.sizes.now t.positions.now t.normals.now t.texture.now) _ _ t.work.now _ t.given.now t.groups.now t.ways.now _ _ K (known s).well_formed r.verdict; clears = cleared t.sizes.now t.work.now _ _ (r.only.rest ∙ K.only.rest) y.clear_first.ensures }

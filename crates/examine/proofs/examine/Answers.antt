@@ -30,4 +30,4 @@ returns c =
     let i = d in
     let j = i in
     let t = j.args in
-    examines-decided (handed t.sizes.now t.positions.now t.normals.now t.texture.now) t.links.now t.groups.now t.orientations.now t.work.now _ _ (no-refusal (shown (handed t.sizes.now t.positions.now t.normals.now t.texture.now) zeroᶠ longest (length t.work.now)) (omega (arith, ap (λ (x : Verdict). x.number) j.ask-v.ensures, i.if-v-ne0.false))) (record { number = refl; decides = d.decide-o.ensures.0; work = d.decide-o.ensures.1 })
+    examines-decided (handed t.sizes.now t.positions.now t.normals.now t.texture.now) t.links.now t.groups.now t.orientations.now t.work.now _ _ (no-refusal (shown (handed t.sizes.now t.positions.now t.normals.now t.texture.now) zeroᶠ longest (length t.work.now)) (omega (arith, ap (λ (x : Verdict). x.number) j.ask-v.ensures, i.if-v-ne0.false))) (record { number = refl; decides = d.decide-o.ensures.decides; work = d.decide-o.ensures.clears })

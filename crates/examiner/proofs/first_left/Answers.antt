@@ -24,7 +24,4 @@ returns c =
     let s = k in
     let a = s.args in
     let p = s.requires in
-    let words : (r : ℕ) → r < a.rows → cell a.rows vertex_column r a.work.now < 4294967296 = λ r h. omega (arith, k.slice_known-1.given (vertex_column * a.rows + r)) in (
-      c.scan_all.ensures _ _ (reads-are a.rows a.tris a.work.now _ p.0 p.1 p.2 words b.order_sides.ensures) (order_is a.rows a.tris a.work.now _ p.0 p.1 p.2 words b.order_sides.ensures p.4),
-      only_step a.rows a.tris a.work.now _ p.0 p.1 p.2 words b.order_sides.ensures,
-    )
+    let words : (r : ℕ) → r < a.rows → cell a.rows vertex_column r a.work.now < 4294967296 = λ r h. omega (arith, k.slice_known-1.given (vertex_column * a.rows + r)) in record { lowest = c.scan_all.ensures _ _ (reads-are a.rows a.tris a.work.now _ p.0 p.1 p.2 words b.order_sides.ensures) (order_is a.rows a.tris a.work.now _ p.0 p.1 p.2 words b.order_sides.ensures p.4); only = only_step a.rows a.tris a.work.now _ p.0 p.1 p.2 words b.order_sides.ensures }

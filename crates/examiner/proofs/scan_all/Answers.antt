@@ -32,7 +32,7 @@ pub loop-a-preserved : goal.loop-a-preserved
 loop-a-preserved c =
     let l = c.loop-a in
     let e = c.scan_turn-s.ensures in
-    (omega (arith, c.loop-a-test.true), scans-more _ _ _ _ _ _ _ _ _ l.invariant.1 e.1, e.0.0, e.0.1)
+    (omega (arith, c.loop-a-test.true), scans-more _ _ _ _ _ _ _ _ _ l.invariant.1 e.turn, e.low.0, e.low.1)
 
 pub returns : goal.returns
 returns c = let l = c.loop-a in λ vertex E R O. scans-all _ _ _ _ _ _ _ l.invariant.0 c.loop-a-test.false l.invariant.1 vertex E R O

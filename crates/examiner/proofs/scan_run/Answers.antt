@@ -10,7 +10,7 @@ returns-then-v-u c =
     let s = v in
     let a = s.args in
     let p = s.requires in
-    ((omega (arith, p.1), p.2), alike-turn a.rows (3 * a.tris) a.work.now a.given.now a.a a.s.first a.s.best a.r p.0 p.5 p.1 p.6 p.7 p.8 _ _ v.vertex_at-v.ensures v.vertex_at-u.ensures c.if-v-u.true)
+    record { low = (omega (arith, p.1), p.2); turn = alike-turn a.rows (3 * a.tris) a.work.now a.given.now a.a a.s.first a.s.best a.r p.0 p.5 p.1 p.6 p.7 p.8 _ _ v.vertex_at-v.ensures v.vertex_at-u.ensures c.if-v-u.true }
 
 pub returns-then-best-first : goal.returns-then-best-first
 returns-then-best-first c =
@@ -18,7 +18,7 @@ returns-then-best-first c =
     let s = v in
     let a = s.args in
     let p = s.requires in
-    ((omega (arith, p.1), p.2), kept-turn a.rows (3 * a.tris) a.work.now a.given.now a.a a.s.first a.s.best a.r p.0 p.5 p.1 p.6 p.7 p.8 c.if-best-first.true)
+    record { low = (omega (arith, p.1), p.2); turn = kept-turn a.rows (3 * a.tris) a.work.now a.given.now a.a a.s.first a.s.best a.r p.0 p.5 p.1 p.6 p.7 p.8 c.if-best-first.true }
 
 pub returns : goal.returns
 returns c =
@@ -26,4 +26,4 @@ returns c =
     let s = v in
     let a = s.args in
     let p = s.requires in
-    ((omega (arith, p.1), omega (arith, p.1)), lower-turn a.rows (3 * a.tris) a.work.now a.given.now a.a a.s.first a.s.best a.r p.0 p.5 p.1 p.6 p.7 p.8 _ _ v.vertex_at-v.ensures v.vertex_at-u.ensures c.if-v-u.false (omega (arith, c.if-best-first.false)))
+    record { low = (omega (arith, p.1), omega (arith, p.1)); turn = lower-turn a.rows (3 * a.tris) a.work.now a.given.now a.a a.s.first a.s.best a.r p.0 p.5 p.1 p.6 p.7 p.8 _ _ v.vertex_at-v.ensures v.vertex_at-u.ensures c.if-v-u.false (omega (arith, c.if-best-first.false)) }

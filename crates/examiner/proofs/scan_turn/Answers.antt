@@ -2,7 +2,6 @@
 use Prim.Native.Nat.{◌*◌, ◌<◌}
 use native.Mathlib.Omega.{arith}
 use mathlib.Core.Path.{sym, ◌∙◌}
-use borrow.Author.Tests.{not-true, not-false}
 use Rattle.examiner.proofs.Turning.{linked-turn, first-turn, next-turn}
 use Rattle.examiner.proofs.scan_turn.Goals as goal
 
@@ -15,14 +14,14 @@ pub returns-then-word_at-ne0 : goal.returns-then-word_at-ne0
 returns-then-word_at-ne0 c =
     let a = c.args in
     let p = c.requires in
-    ((p.1, p.2), linked-turn a.rows (3 * a.tris) a.work.now a.given.now a.a a.s.first a.s.best _ p.0 c.order_at-r.ensures _ c.word_at.ensures c.if-word_at-ne0.true)
+    record { low = (p.1, p.2); turn = linked-turn a.rows (3 * a.tris) a.work.now a.given.now a.a a.s.first a.s.best _ p.0 c.order_at-r.ensures _ c.word_at.ensures c.if-word_at-ne0.true }
 
 pub returns-then-s-tris : goal.returns-then-s-tris
 returns-then-s-tris c =
     let o = c in
     let a = o.args in
     let p = o.requires in
-    ((omega (arith, o.order_at-r.ensures, p.6 a.a p.0), p.2), first-turn a.rows (3 * a.tris) a.work.now a.given.now a.a a.s.first a.s.best _ p.0 o.order_at-r.ensures _ c.word_at.ensures c.if-word_at-ne0.false c.if-s-tris.true)
+    record { low = (omega (arith, o.order_at-r.ensures, p.6 a.a p.0), p.2); turn = first-turn a.rows (3 * a.tris) a.work.now a.given.now a.a a.s.first a.s.best _ p.0 o.order_at-r.ensures _ c.word_at.ensures c.if-word_at-ne0.false c.if-s-tris.true }
 
 pub same_ends-requires : goal.same_ends-requires
 same_ends-requires c =
@@ -36,7 +35,7 @@ returns-then-not-same_ends c =
     let a = o.args in
     let p = o.requires in
     let k : o.order_at-r.result < 3 * a.tris = omega (arith, o.order_at-r.ensures, p.6 a.a p.0) in
-    ((omega (arith, k), p.2), next-turn a.rows (3 * a.tris) a.work.now a.given.now a.a a.s.first a.s.best _ p.0 o.order_at-r.ensures (omega (arith, p.1, t.if-s-tris.false)) k (sym t.word_at.ensures ∙ t.if-word_at-ne0.false) _ c.same_ends.ensures (not-true _ c.if-not-same_ends.true))
+    record { low = (omega (arith, k), p.2); turn = next-turn a.rows (3 * a.tris) a.work.now a.given.now a.a a.s.first a.s.best _ p.0 o.order_at-r.ensures (omega (arith, p.1, t.if-s-tris.false)) k (sym t.word_at.ensures ∙ t.if-word_at-ne0.false) _ c.same_ends.ensures c.if-not-same_ends.true }
 
 pub scan_run-requires : goal.scan_run-requires
 scan_run-requires c =
@@ -45,4 +44,4 @@ scan_run-requires c =
     let a = o.args in
     let p = o.requires in
     let k : o.order_at-r.result < 3 * a.tris = omega (arith, o.order_at-r.ensures, p.6 a.a p.0) in
-    (p.0, omega (arith, p.1, t.if-s-tris.false), p.2, p.3, p.4, o.order_at-r.ensures, k, sym t.word_at.ensures ∙ t.if-word_at-ne0.false, sym c.same_ends.ensures ∙ not-false _ c.if-not-same_ends.false)
+    (p.0, omega (arith, p.1, t.if-s-tris.false), p.2, p.3, p.4, o.order_at-r.ensures, k, sym t.word_at.ensures ∙ t.if-word_at-ne0.false, sym c.same_ends.ensures ∙ c.if-not-same_ends.false)

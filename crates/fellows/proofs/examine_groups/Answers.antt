@@ -14,28 +14,28 @@ pub returns-then-a-ne0 : goal.returns-then-a-ne0
 returns-then-a-ne0 c =
     let p = c.requires in
     let t = c.args in
-    (stop-words t.rows t.tris t.work.now t.given.now t.groups.now t.ways.now p.0 p.6 _ _ c.examine_words-a.ensures c.if-a-ne0.true, only_none _ _ _)
+    record { verdict = stop-words t.rows t.tris t.work.now t.given.now t.groups.now t.ways.now p.0 p.6 _ _ c.examine_words-a.ensures c.if-a-ne0.true; only = only_none _ _ _ }
 
 pub examine_fellows-b-requires : goal.examine_fellows-b-requires
 examine_fellows-b-requires c =
     let f = c in
     let p = f.requires in
     let t = f.args in
-    (p.0, omega (arith, p.1, f.put_firsts.ensures.1.size), p.2, p.3, p.4, p.5, not_wide t.rows t.tris t.work.now t.given.now t.groups.now t.ways.now p.0 p.6, not-loose t.rows t.tris t.work.now t.given.now t.groups.now t.ways.now p.0 p.6 _ _ f.examine_words-a.ensures f.if-a-ne0.false first_columns _ refl refl refl f.put_firsts.ensures.1, f.put_firsts.ensures.0)
+    (p.0, omega (arith, p.1, f.put_firsts.ensures.only.size), p.2, p.3, p.4, p.5, not_wide t.rows t.tris t.work.now t.given.now t.groups.now t.ways.now p.0 p.6, not-loose t.rows t.tris t.work.now t.given.now t.groups.now t.ways.now p.0 p.6 _ _ f.examine_words-a.ensures f.if-a-ne0.false first_columns _ refl refl refl f.put_firsts.ensures.only, f.put_firsts.ensures.firsts)
 
 pub returns-then-b-ne0 : goal.returns-then-b-ne0
 returns-then-b-ne0 c =
     let f = c in
     let p = f.requires in
     let t = f.args in
-    (stop-beside t.rows t.tris t.work.now t.given.now t.groups.now t.ways.now p.0 p.6 _ _ f.examine_words-a.ensures f.if-a-ne0.false first_columns _ refl refl refl f.put_firsts.ensures.1 _ _ c.examine_fellows-b.ensures c.if-b-ne0.true, only-more first_columns group_columns _ _ _ refl f.put_firsts.ensures.1)
+    record { verdict = stop-beside t.rows t.tris t.work.now t.given.now t.groups.now t.ways.now p.0 p.6 _ _ f.examine_words-a.ensures f.if-a-ne0.false first_columns _ refl refl refl f.put_firsts.ensures.only _ _ c.examine_fellows-b.ensures c.if-b-ne0.true; only = only-more first_columns group_columns _ _ _ refl f.put_firsts.ensures.only }
 
 pub first_severed-c-requires : goal.first_severed-c-requires
 first_severed-c-requires c =
     let f = c in
     let p = f.requires in
     let t = f.args in
-    (p.0, p.2, omega (arith, p.1, f.put_firsts.ensures.1.size), p.3, p.4, not_wide t.rows t.tris t.work.now t.given.now t.groups.now t.ways.now p.0 p.6, walk-firsts _ _ _ _ f.put_firsts.ensures.0)
+    (p.0, p.2, omega (arith, p.1, f.put_firsts.ensures.only.size), p.3, p.4, not_wide t.rows t.tris t.work.now t.given.now t.groups.now t.ways.now p.0 p.6, walk-firsts _ _ _ _ f.put_firsts.ensures.firsts)
 
 pub overflow_mul-tris-2 : goal.overflow_mul-tris-2
 overflow_mul-tris-2 c =
@@ -53,8 +53,8 @@ returns-then-c-tris c =
     let p = f.requires in
     let t = f.args in
     let v = c.first_severed-c.ensures in
-    let o = only-more first_columns group_columns _ _ _ refl f.put_firsts.ensures.1 in
-    (stop-severed t.rows t.tris t.work.now t.given.now t.groups.now t.ways.now p.0 p.6 _ _ f.examine_words-a.ensures f.if-a-ne0.false first_columns _ refl refl refl f.put_firsts.ensures.1 _ _ c.examine_fellows-b.ensures c.if-b-ne0.false _ (v.0 _ (fit t.rows t.tris t.work.now t.given.now t.groups.now t.ways.now p.0 p.6)) _ _ c.if-c-tris.true c.said.ensures.0 c.said.ensures.1, only-trans group_columns _ _ _ _ o (only-more (next_column ∷ []) group_columns _ _ _ refl v.1.1))
+    let o = only-more first_columns group_columns _ _ _ refl f.put_firsts.ensures.only in
+    record { verdict = stop-severed t.rows t.tris t.work.now t.given.now t.groups.now t.ways.now p.0 p.6 _ _ f.examine_words-a.ensures f.if-a-ne0.false first_columns _ refl refl refl f.put_firsts.ensures.only _ _ c.examine_fellows-b.ensures c.if-b-ne0.false _ (v.lowest _ (fit t.rows t.tris t.work.now t.given.now t.groups.now t.ways.now p.0 p.6)) _ _ c.if-c-tris.true c.said.ensures.0 c.said.ensures.1; only = only-trans group_columns _ _ _ _ o (only-more (next_column ∷ []) group_columns _ _ _ refl v.only) }
 
 pub returns : goal.returns
 returns c =
@@ -62,4 +62,4 @@ returns c =
     let p = f.requires in
     let t = f.args in
     let v = c.first_severed-c.ensures in
-    (pass_all t.rows t.tris t.work.now t.given.now t.groups.now t.ways.now p.0 p.6 _ _ f.examine_words-a.ensures f.if-a-ne0.false first_columns _ refl refl refl f.put_firsts.ensures.1 _ _ c.examine_fellows-b.ensures c.if-b-ne0.false _ (v.0 _ (fit t.rows t.tris t.work.now t.given.now t.groups.now t.ways.now p.0 p.6)) _ _ c.if-c-tris.false c.said-2.ensures.0 c.said-2.ensures.1 (v.1.0 c.if-c-tris.false _ (fit t.rows t.tris t.work.now t.given.now t.groups.now t.ways.now p.0 p.6)), only-trans group_columns _ _ _ _ (only-more first_columns group_columns _ _ _ refl f.put_firsts.ensures.1) (only-more (next_column ∷ []) group_columns _ _ _ refl v.1.1))
+    record { verdict = pass_all t.rows t.tris t.work.now t.given.now t.groups.now t.ways.now p.0 p.6 _ _ f.examine_words-a.ensures f.if-a-ne0.false first_columns _ refl refl refl f.put_firsts.ensures.only _ _ c.examine_fellows-b.ensures c.if-b-ne0.false _ (v.lowest _ (fit t.rows t.tris t.work.now t.given.now t.groups.now t.ways.now p.0 p.6)) _ _ c.if-c-tris.false c.said-2.ensures.0 c.said-2.ensures.1 (v.connected c.if-c-tris.false _ (fit t.rows t.tris t.work.now t.given.now t.groups.now t.ways.now p.0 p.6)); only = only-trans group_columns _ _ _ _ (only-more first_columns group_columns _ _ _ refl f.put_firsts.ensures.only) (only-more (next_column ∷ []) group_columns _ _ _ refl v.only) }

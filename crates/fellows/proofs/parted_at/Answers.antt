@@ -1,7 +1,6 @@
 -- `fellows::parted_at` meets its contract. Assumes nothing.
 use Prim.Native.Nat.{◌*◌, ◌-◌, ◌<◌}
 use native.Mathlib.Omega.{arith}
-use borrow.Author.Tests.{not-true, not-false}
 use Rattle.asked.proofs.Rows.{told-not}
 use Rattle.fellows.proofs.Beside.{not-linked, not-firm, parted-tells}
 use Rattle.fellows.proofs.parted_at.Goals as goal
@@ -13,7 +12,7 @@ pub returns-then-not-firm_pair : goal.returns-then-not-firm_pair
 returns-then-not-firm_pair c =
     let f = c in
     let i = f in
-    told-not (not-firm _ _ _ _ _ _ _ i.word_at-word.ensures i.if-word-eq0.false (f.firm_pair.ensures.fails (not-true _ c.if-not-firm_pair.true)))
+    told-not (not-firm _ _ _ _ _ _ _ i.word_at-word.ensures i.if-word-eq0.false (f.firm_pair.ensures.fails c.if-not-firm_pair.true))
 
 pub ends_apart-requires : goal.ends_apart-requires
 ends_apart-requires c =
@@ -21,7 +20,7 @@ ends_apart-requires c =
     let i = f in
     let s = i in
     let p = s.requires in
-    let k = f.firm_pair.ensures.holds (not-false _ c.if-not-firm_pair.false) in
+    let k = f.firm_pair.ensures.holds c.if-not-firm_pair.false in
     let w = i.word_at-word.ensures in
     let q : i.word_at-word.result - 1 < 3 * s.args.tris = omega (arith, w, p.7, i.if-word-eq0.false) in
     (p.0, q, omega (arith, p.1, p.3), p.5, (λ z. p.8 _ p.0 (record { firm = k.near; free = z })), (λ z. p.8 _ q (record { firm = k.far; free = z })))
@@ -33,4 +32,4 @@ returns c =
     let i = f in
     let p = i.requires in
     let w = i.word_at-word.ensures in
-    parted-tells _ _ _ _ _ _ _ w i.if-word-eq0.false _ (omega (arith, w, p.7)) (f.firm_pair.ensures.holds (not-false _ e.if-not-firm_pair.false)) c.ends_apart.ensures
+    parted-tells _ _ _ _ _ _ _ w i.if-word-eq0.false _ (omega (arith, w, p.7)) (f.firm_pair.ensures.holds e.if-not-firm_pair.false) c.ends_apart.ensures

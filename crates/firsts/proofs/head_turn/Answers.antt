@@ -12,7 +12,7 @@ use Rattle.firsts.proofs.head_turn.Lts as lts
 use Rattle.firsts.proofs.head_turn.Reads as reads
 
 abbrev At-After-run_first-f : Type 0
-At-After-run_first-f = lts.After-run_first tie.the-claims reads.Pre reads.Post
+At-After-run_first-f = lts.After-run_first tie.the-claims reads.Pre reads.Post tie.handed_clauses
 
 pub run_first-f-requires : goal.run_first-f-requires
 run_first-f-requires c = let s = c in (omega (arith, c.order_at-r.ensures, s.requires.6), s.requires.1, s.requires.5)
@@ -31,4 +31,4 @@ pub returns : goal.returns
 returns c =
     let o = c.order_at-r.ensures in
     let a = c.args in
-    (subst (λ (x : ℕ). Runs a.n a.groups.now a.first x c.run_first-f.result) o c.run_first-f.ensures, ap (λ (x : ℕ). put a.rows head_column x (c.run_first-f.result + 1) a.work.now) o)
+    record { runs = subst (λ (x : ℕ). Runs a.n a.groups.now a.first x c.run_first-f.result) o c.run_first-f.ensures; puts = ap (λ (x : ℕ). put a.rows head_column x (c.run_first-f.result + 1) a.work.now) o }

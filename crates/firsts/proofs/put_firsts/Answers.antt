@@ -20,4 +20,4 @@ returns c =
     let o = h in
     let e = o.order_rows.ensures in
     let f = h.put_heads.ensures in
-    (f.firsts, only-trans first_columns _ _ _ _ (only-more sort_columns first_columns _ _ _ refl e.only) (only-more (head_column ∷ []) first_columns _ _ _ refl f.only))
+    record { firsts = f.firsts; only = only-trans first_columns _ _ _ _ (only-more sort_columns first_columns _ _ _ refl e.only) (only-more (head_column ∷ []) first_columns _ _ _ refl f.only) }

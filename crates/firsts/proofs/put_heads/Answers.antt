@@ -32,8 +32,8 @@ loop-a-preserved c =
     let a = s.args in
     let n = t.loop-a-test.true in
     let o = order-stands a.rows a.n a.groups.now a.work.now p.0 p.1 p.4 _ _ _ l.invariant.1 _ n in
-    let r = runs-right a.rows a.n a.groups.now a.work.now p.0 p.1 p.4 _ _ _ _ _ n l.invariant.1 o h.head_turn-first.ensures.0 in
-    (omega (arith, n), heading-more a.rows a.n a.groups.now a.work.now p.0 p.1 p.4 _ _ _ _ _ _ n l.invariant.1 o r h.head_turn-first.ensures.1)
+    let r = runs-right a.rows a.n a.groups.now a.work.now p.0 p.1 p.4 _ _ _ _ _ n l.invariant.1 o h.head_turn-first.ensures.runs in
+    (omega (arith, n), heading-more a.rows a.n a.groups.now a.work.now p.0 p.1 p.4 _ _ _ _ _ _ n l.invariant.1 o r h.head_turn-first.ensures.puts)
 
 pub shape_of-work : goal.shape_of-work
 shape_of-work c = c.loop-a.invariant.1.only.size

@@ -9,20 +9,20 @@ use Rattle.flat.proofs.go_to.Lts as lts
 use Rattle.flat.proofs.go_to.Reads as reads
 
 abbrev At-In-At : Type 0
-At-In-At = lts.After-known_told tie.the-claims reads.Pre reads.Post
+At-In-At = lts.After-known_told tie.the-claims reads.Pre reads.Post tie.handed_clauses
 
 -- the corner entered is one of three
 below : (c : At-In-At) → c.in-At.i < 3
 below c =
     let enter = c.enter_at in
     let start = c in
-    corner-below _ _ _ _ _ _ _ _ start.requires.0 start.requires.1 _ _ enter.ensures.0 enter.ensures.1 _ c.in-At.is
+    corner-below _ _ _ _ _ _ _ _ start.requires.0 start.requires.1 _ _ enter.ensures.entry enter.ensures.work _ c.in-At.is
 
 pub returns-in_default : goal.returns-in_default
 returns-in_default c =
     let enter = c.enter_at in
     let start = c in
-    goes_back _ _ _ _ _ _ _ _ _ start.requires.0 start.requires.1 start.requires.2 _ _ enter.ensures.0 enter.ensures.1 _ c.in_default.is c.back.ensures
+    goes_back _ _ _ _ _ _ _ _ _ start.requires.0 start.requires.1 start.requires.2 _ _ enter.ensures.entry enter.ensures.work _ c.in_default.is c.back.ensures
 
 pub overflow_add-work : goal.overflow_add-work
 overflow_add-work c = omega (arith, below c, c.requires.1.fits)
@@ -37,4 +37,4 @@ pub returns : goal.returns
 returns c =
     let enter = c.enter_at in
     let start = c in
-    goes_to _ _ _ _ _ _ _ _ _ start.requires.0 start.requires.1 start.requires.2 _ _ enter.ensures.0 enter.ensures.1 _ c.in-At.is _ _ _ _ (omega (arith, below c)) (omega arith) (omega arith) (omega (arith, below c))
+    goes_to _ _ _ _ _ _ _ _ _ start.requires.0 start.requires.1 start.requires.2 _ _ enter.ensures.entry enter.ensures.work _ c.in-At.is _ _ _ _ (omega (arith, below c)) (omega arith) (omega arith) (omega (arith, below c))

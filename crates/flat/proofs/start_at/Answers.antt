@@ -13,12 +13,12 @@ use Rattle.flat.proofs.start_at.Goals as goal
 pub returns-then-work-rows-ne0 : goal.returns-then-work-rows-ne0
 returns-then-work-rows-ne0 c =
     let start = c in
-    (turned-any _ _ _ _ _ start.requires.0 start.requires.1 start.requires.2 c.if-work-rows-ne0.true, only_none _ _ _)
+    record { turned = turned-any _ _ _ _ _ start.requires.0 start.requires.1 start.requires.2 c.if-work-rows-ne0.true; only = only_none _ _ _ }
 
 pub returns-then-work-rows-ne0-2 : goal.returns-then-work-rows-ne0-2
 returns-then-work-rows-ne0-2 c =
     let start = c in
-    (turned-grouped _ _ _ _ _ start.requires.0 start.requires.1 start.requires.2 c.if-work-rows-ne0.false c.if-work-rows-ne0-2.true, only_none _ _ _)
+    record { turned = turned-grouped _ _ _ _ _ start.requires.0 start.requires.1 start.requires.2 c.if-work-rows-ne0.false c.if-work-rows-ne0-2.true; only = only_none _ _ _ }
 
 pub walk_from-n-requires : goal.walk_from-n-requires
 walk_from-n-requires c =
@@ -35,7 +35,4 @@ returns c =
     let start = c in
     let a = start.args in
     let R = start.requires.2 in
-    let step = c.walk_from-n in (
-      turned-new _ _ _ _ _ start.requires.0 start.requires.1 R c.if-work-rows-ne0.false c.if-work-rows-ne0-2.false _ _ step.ensures.0,
-      only-trans _ _ _ _ _ (only-put flat_columns a.rows a.work.now a.work.now begin_column a.s.groups a.s.members refl (omega arith) (omega (arith, R.fits)) (only_none flat_columns a.rows a.work.now)) step.ensures.1,
-    )
+    let step = c.walk_from-n in record { turned = turned-new _ _ _ _ _ start.requires.0 start.requires.1 R c.if-work-rows-ne0.false c.if-work-rows-ne0-2.false _ _ step.ensures.walked; only = only-trans _ _ _ _ _ (only-put flat_columns a.rows a.work.now a.work.now begin_column a.s.groups a.s.members refl (omega arith) (omega (arith, R.fits)) (only_none flat_columns a.rows a.work.now)) step.ensures.only }

@@ -21,7 +21,7 @@ pub loop-k-preserved : goal.loop-k-preserved
 loop-k-preserved c =
     let one = c.start_at-s in
     let loop = c.loop-k in
-    (omega arith, one.ensures.0.few, unblank-ready _ _ _ _ _ one.ensures.0.ready, one.ensures.0.is ∙ ap (turn _ _) loop.invariant.3 ∙ up_to-more _ _ _, only-trans _ _ _ _ _ loop.invariant.4 one.ensures.1)
+    (omega arith, one.ensures.turned.few, unblank-ready _ _ _ _ _ one.ensures.turned.ready, one.ensures.turned.is ∙ ap (turn _ _) loop.invariant.3 ∙ up_to-more _ _ _, only-trans _ _ _ _ _ loop.invariant.4 one.ensures.only)
 
 pub shape_of-work : goal.shape_of-work
 shape_of-work c = c.loop-k.invariant.4.size ∙ c.clear.auto.work
@@ -29,4 +29,4 @@ shape_of-work c = c.loop-k.invariant.4.size ∙ c.clear.auto.work
 pub returns : goal.returns
 returns c =
     let l = c.loop-k.invariant in
-    (rw (← c.clear.ensures) (rw (le_antisymm l.0 c.loop-k-test.false) at l.3), ((omega (arith, l.0, l.1), omega (arith, l.2.room)), only-after _ _ _ _ c.clear.ensures l.4))
+    record { is = rw (← c.clear.ensures) (rw (le_antisymm l.0 c.loop-k-test.false) at l.3); few = (omega (arith, l.0, l.1), omega (arith, l.2.room)); only = only-after _ _ _ _ c.clear.ensures l.4 }

@@ -34,4 +34,4 @@ returns c =
     let I = c.loop-s.invariant in
     let G = c.go_to-s.ensures in
     let start = c in
-    (goes_end _ _ _ _ _ _ _ _ _ _ _ _ start.requires.0 start.requires.1 G I c.loop-s-test.false, only-trans _ _ _ _ _ G.only I.only)
+    record { walked = goes_end _ _ _ _ _ _ _ _ _ _ _ _ start.requires.0 start.requires.1 G I c.loop-s-test.false; only = only-trans _ _ _ _ _ G.only I.only }

@@ -14,4 +14,4 @@ returns c =
     let g = o in
     let s = g in
     let a = s.args in
-    sides-grouped a.rows a.triangles.sound a.triangles.all g.build_4_rule_groups-counts.result.groups g.build_4_rule_groups-counts.result.members _ _ _ s.requires.0 (λ ss d ls B e N S A. g.build_4_rule_groups-counts.ensures.0 ss d ls B (omega (arith, e)) N S A) o.order_members.ensures.0 g.build_4_rule_groups-counts.ensures.1.1 o.order_members.ensures.1 (omega (arith, g.build_4_rule_groups-counts.ensures.1.0.0, s.requires.0)) g.build_4_rule_groups-counts.ensures.1.0.1
+    sides-grouped a.rows a.triangles.sound a.triangles.all g.build_4_rule_groups-counts.result.groups g.build_4_rule_groups-counts.result.members _ _ _ s.requires.0 (λ ss d ls B e N S A. g.build_4_rule_groups-counts.ensures.grouped ss d ls B (omega (arith, e)) N S A) o.order_members.ensures.ordered g.build_4_rule_groups-counts.ensures.only o.order_members.ensures.only (omega (arith, g.build_4_rule_groups-counts.ensures.few.0, s.requires.0)) g.build_4_rule_groups-counts.ensures.few.1

@@ -20,4 +20,4 @@ returns c =
     let s = l in
     let p = l in
     let a = s.args in
-    left (handed a.sizes.now a.positions.now a.normals.now a.texture.now) l.list_triangles-counts.result.sound l.list_triangles-counts.result.all a.work.now _ _ _ l.list_triangles-counts.ensures k.weld.ensures.0.only (λ sizes ys d n H. k.weld.ensures.1 sizes ys d (omega (arith, n)) H) (λ ss d n N S W. e.link_sides.ensures.0 ss d (omega (arith, n)) N S W) (λ r h. omega (arith, e.link_sides.ensures.1.0 r (omega (arith, h)))) e.link_sides.ensures.1.1 (λ i. p.shared_slice_known-2-1.given i)
+    left (handed a.sizes.now a.positions.now a.normals.now a.texture.now) l.list_triangles-counts.result.sound l.list_triangles-counts.result.all a.work.now _ _ _ l.list_triangles-counts.ensures k.weld.ensures.0.only (λ sizes ys d n H. k.weld.ensures.1 sizes ys d (omega (arith, n)) H) (λ ss d n N S W. e.link_sides.ensures.linked ss d (omega (arith, n)) N S W) (λ r h. omega (arith, e.link_sides.ensures.range r (omega (arith, h)))) e.link_sides.ensures.only (λ i. p.shared_slice_known-2-1.given i)

@@ -27,4 +27,4 @@ shape_of-work c = c.loop-k.invariant.4.size ∙ c.clear.auto.work
 pub returns : goal.returns
 returns c =
     let l = c.loop-k.invariant in
-    (rw (← c.clear.ensures) (rw (le_antisymm l.0 c.loop-k-test.false) at l.3), ((omega (arith, l.0, l.1), omega (arith, l.2.room)), only-after _ _ _ _ c.clear.ensures l.4))
+    record { is = rw (← c.clear.ensures) (rw (le_antisymm l.0 c.loop-k-test.false) at l.3); few = (omega (arith, l.0, l.1), omega (arith, l.2.room)); only = only-after _ _ _ _ c.clear.ensures l.4 }

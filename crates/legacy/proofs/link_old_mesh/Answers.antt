@@ -34,4 +34,4 @@ returns c =
     let s = p in
     let a = s.args in
     let L = l.list_triangles-counts.ensures in
-    left-old (handed a.sizes.now a.positions.now a.normals.now a.texture.now) l.list_triangles-counts.result.sound l.list_triangles-counts.result.all a.work.now _ _ _ _ (omega (arith, s.requires.1, L.only.size)) _ (omega arith) L j.merge_rows.ensures k.name_rows.ensures (λ ss d n N S W G. e.link_old_sides.ensures.0 ss d (omega (arith, n)) N S W G) (λ r h. omega (arith, e.link_old_sides.ensures.1.0 r (omega (arith, h)))) e.link_old_sides.ensures.1.1 (λ i. p.shared_slice_known-2-1.given i)
+    left-old (handed a.sizes.now a.positions.now a.normals.now a.texture.now) l.list_triangles-counts.result.sound l.list_triangles-counts.result.all a.work.now _ _ _ _ (omega (arith, s.requires.1, L.only.size)) _ (omega arith) L j.merge_rows.ensures k.name_rows.ensures (λ ss d n N S W G. e.link_old_sides.ensures.linked ss d (omega (arith, n)) N S W G) (λ r h. omega (arith, e.link_old_sides.ensures.range r (omega (arith, h)))) e.link_old_sides.ensures.only (λ i. p.shared_slice_known-2-1.given i)

@@ -47,7 +47,7 @@ add_one-requires c =
     let m = c in
     let s = m in
     let a = s.args in
-    let K = known m in
+    let K = known m.before.before in
     let small = small_of a.positions.now a.normals.now a.texture.now a.face a.base m.make-x.result K.1 in
     (room-one a.rows a.want a.positions.now a.normals.now a.texture.now a.face a.base a.slot _ _ a.tris K.0 s.requires.3, s.requires.2, small a.base s.requires.0, small a.slot s.requires.1)
 
@@ -56,7 +56,7 @@ returns-then-size-eq3 c =
     let call = c in
     let m = call in
     let a = m.args in
-    let K = known m in
+    let K = known m.before.before.before.before.before in
     one-done a.rows a.want a.positions.now a.normals.now a.texture.now a.face a.base a.slot m.make-x.result _ a.tris call.add_one.result a.work.now _ K.0 K.1 call.add_one.ensures.0 call.add_one.ensures.1
 
 pub overflow_add-base-then-size-eq4-2 : goal.overflow_add-base-then-size-eq4-2
@@ -67,7 +67,7 @@ add_one-k-requires c =
     let q = c in
     let s = q in
     let a = s.args in
-    let K = known-four q in
+    let K = known-four q.before.before.before.before in
     let R = room-two a.rows a.want a.positions.now a.normals.now a.texture.now a.face a.base a.slot q.quad-q.result.first q.quad-q.result.second _ a.tris K.0 s.requires.3 in
     let small = small_of a.positions.now a.normals.now a.texture.now a.face a.base q.quad-q.result.first K.1.0 in
     (omega (arith, R), s.requires.2, small a.base s.requires.0, small a.slot s.requires.1)
@@ -78,7 +78,7 @@ add_one-requires-then-size-eq4 c =
     let q = call in
     let s = q in
     let a = s.args in
-    let K = known-four q in
+    let K = known-four q.before.before.before.before.before.before.before.before in
     let R = room-two a.rows a.want a.positions.now a.normals.now a.texture.now a.face a.base a.slot q.quad-q.result.first q.quad-q.result.second _ a.tris K.0 s.requires.3 in
     let small = small_of a.positions.now a.normals.now a.texture.now a.face a.base q.quad-q.result.second K.1.1 in
     (omega (arith, R, call.add_one-k.ensures.0), omega (arith, s.requires.2, call.add_one-k.auto.work), small a.base s.requires.0, small a.slot s.requires.1)
@@ -89,7 +89,7 @@ returns-then-size-eq4 c =
     let call = last in
     let q = call in
     let a = q.args in
-    let K = known-four q in
+    let K = known-four q.before.before.before.before.before.before.before.before.before.before.before in
     two-done a.rows a.want a.positions.now a.normals.now a.texture.now a.face a.base a.slot q.quad-q.result.first q.quad-q.result.second _ a.tris call.add_one-k.result last.add_one-then-size-eq4.result a.work.now _ _ K.0 K.1.0 K.1.1 call.add_one-k.ensures.0 call.add_one-k.ensures.1 last.add_one-then-size-eq4.ensures.0 last.add_one-then-size-eq4.ensures.1
 
 pub returns : goal.returns

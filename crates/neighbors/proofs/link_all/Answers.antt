@@ -29,4 +29,4 @@ shape_of-work c = c.loop-c.invariant.2.size
 pub returns : goal.returns
 returns c =
     let l = c.loop-c.invariant in
-    (rw (le_antisymm l.0.first c.loop-c-test.false) at l.1, (l.0.ready, l.2))
+    record { work = rw (le_antisymm l.0.first c.loop-c-test.false) at l.1; ready = l.0.ready; only = l.2 }

@@ -23,7 +23,4 @@ returns c =
     let p = q in
     let k = p in
     let s = k in
-    let a = s.args in (
-      λ ss d e N S W. subst (Linked a.rows ss d (links ss)) (sym l.link_all.ensures.0) (links-are a.rows a.tris a.work.now _ _ s.requires.0 s.requires.1 s.requires.2 p.put_sides.ensures q.sort.ensures (λ r h. omega (arith, k.slice_known-1.given (vertex_column * a.rows + r))) ss d e N S W),
-      (λ r h. l.link_all.ensures.1.0.links r h, only-three a.rows vertex_column a.tris a.work.now _ _ refl s.requires.0 s.requires.1 p.put_sides.ensures q.sort.ensures.only _ l.link_all.ensures.1.1),
-    )
+    let a = s.args in record { linked = λ ss d e N S W. subst (Linked a.rows ss d (links ss)) (sym l.link_all.ensures.work) (links-are a.rows a.tris a.work.now _ _ s.requires.0 s.requires.1 s.requires.2 p.put_sides.ensures q.sort.ensures (λ r h. omega (arith, k.slice_known-1.given (vertex_column * a.rows + r))) ss d e N S W); range = λ r h. l.link_all.ensures.ready.links r h; only = only-three a.rows vertex_column a.tris a.work.now _ _ refl s.requires.0 s.requires.1 p.put_sides.ensures q.sort.ensures.only _ l.link_all.ensures.only }

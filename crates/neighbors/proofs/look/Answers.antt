@@ -2,7 +2,6 @@
 use Prim.Native.Nat.{ℕ}
 use mathlib.Core.Path.{◌≡◌, sym, ◌∙◌}
 use mathlib.Core.Bool.{Bool}
-use borrow.Author.Tests.{not-true, not-false}
 use Rattle.neighbors.specs.Links.{same_ends, suits}
 use Rattle.neighbors.proofs.Turns.{parted, unsuited, linked-as}
 use Rattle.neighbors.proofs.look.Goals as goal
@@ -18,8 +17,8 @@ returns-then-not-same_ends c =
     let start = b in
     let a = start.args in
     let p = start.requires in
-    parted a.rows a.n a.c.near a.c.far a.work.now p.0.2 p.1.2 p.0.0 p.0.1
-    (told (λ x y. same_ends a.rows x y a.work.now) p.1.0 at.ensures.0 b.same_ends.ensures (not-true _ c.if-not-same_ends.true))
+    parted a.rows a.n a.c.near a.c.far a.work.now p.near_lt_far.2 p.s_value.2 p.near_lt_far.0 p.near_lt_far.1
+    (told (λ x y. same_ends a.rows x y a.work.now) p.s_value.0 at.ensures.0 b.same_ends.ensures c.if-not-same_ends.true)
 
 pub returns-then-not-suits : goal.returns-then-not-suits
 returns-then-not-suits c =
@@ -29,9 +28,9 @@ returns-then-not-suits c =
     let start = b in
     let a = start.args in
     let p = start.requires in
-    unsuited a.rows a.n a.c.near a.c.far a.work.now p.0.2 p.1.2 p.0.0 p.0.1
-    (told (λ x y. same_ends a.rows x y a.work.now) p.1.0 at.ensures.0 b.same_ends.ensures (not-false _ d.if-not-same_ends.false))
-    (told (λ x y. suits a.rows x y a.work.now) p.1.0 at.ensures.0 d.suits.ensures (not-true _ c.if-not-suits.true))
+    unsuited a.rows a.n a.c.near a.c.far a.work.now p.near_lt_far.2 p.s_value.2 p.near_lt_far.0 p.near_lt_far.1
+    (told (λ x y. same_ends a.rows x y a.work.now) p.s_value.0 at.ensures.0 b.same_ends.ensures d.if-not-same_ends.false)
+    (told (λ x y. suits a.rows x y a.work.now) p.s_value.0 at.ensures.0 d.suits.ensures c.if-not-suits.true)
 
 pub returns : goal.returns
 returns c =
@@ -42,7 +41,7 @@ returns c =
     let start = b in
     let a = start.args in
     let p = start.requires in
-    linked-as a.rows a.n a.c.near a.c.far a.work.now p.0.2 p.1.2 p.0.0 p.0.1
-    (told (λ x y. same_ends a.rows x y a.work.now) p.1.0 at.ensures.0 b.same_ends.ensures (not-false _ d.if-not-same_ends.false))
-    _ _ _ p.1.0 at.ensures.0 j.join.ensures
-    (told (λ x y. suits a.rows x y a.work.now) p.1.0 at.ensures.0 d.suits.ensures (not-false _ j.if-not-suits.false))
+    linked-as a.rows a.n a.c.near a.c.far a.work.now p.near_lt_far.2 p.s_value.2 p.near_lt_far.0 p.near_lt_far.1
+    (told (λ x y. same_ends a.rows x y a.work.now) p.s_value.0 at.ensures.0 b.same_ends.ensures d.if-not-same_ends.false)
+    _ _ _ p.s_value.0 at.ensures.0 j.join.ensures
+    (told (λ x y. suits a.rows x y a.work.now) p.s_value.0 at.ensures.0 d.suits.ensures j.if-not-suits.false)

@@ -1,19 +1,16 @@
 -- `neighbors::step` meets its contract: each arm is a way in which the cursors move. Assumes nothing.
-use Prim.Native.Nat.{ℕ}
+use Prim.Native.Nat.{ℕ, ◌<◌}
+use mathlib.Core.List.{List}
 use native.Mathlib.Omega.{arith}
 use mathlib.Core.Path.{◌≡◌, sym, ap, ◌∙◌}
 use Rattle.table.specs.Table.{cell}
 use Rattle.table.specs.Columns.{link_column}
+use Rattle.neighbors.specs.declared.Link.{Link}
+use Rattle.neighbors.specs.declared.Link.TheVariants.{Nothing}
 use Rattle.neighbors.specs.Links.{link_of, side_at}
 use Rattle.neighbors.proofs.Words.{unlinked}
 use Rattle.neighbors.proofs.Turns.{passed, fetched, ended}
 use Rattle.neighbors.proofs.step.Goals as goal
-use Rattle.neighbors.proofs.step.Tie as tie
-use Rattle.neighbors.proofs.step.Lts as lts
-use Rattle.neighbors.proofs.step.Reads as reads
-
-abbrev At-In-Nothing : Type 0
-At-In-Nothing = lts.After-enum_told tie.the-claims reads.Pre reads.Post
 
 pub link_at-requires : goal.link_at-requires
 link_at-requires c =
@@ -22,12 +19,8 @@ link_at-requires c =
     (at.ensures.1, R.fits, R.long, R.links at.result at.ensures.1)
 
 -- the side at `near` is unlinked
-free : (c : At-In-Nothing) → let a = c.args in cell a.rows link_column (side_at a.rows a.work.now a.c.near) a.work.now ≡ 0
-free c =
-    let k = c in
-    let at = k.side_at-s in
-    let a = k.args in
-    unlinked _ (ap (λ (x : ℕ). link_of (cell a.rows link_column x a.work.now)) (sym at.ensures.0) ∙ sym k.link_at.ensures.0 ∙ c.in-Nothing.is)
+free : (rows near s : ℕ) (work : List ℕ) (l : Link) → s ≡ side_at rows work near → l ≡ link_of (cell rows link_column s work) → l ≡ Nothing → cell rows link_column (side_at rows work near) work ≡ 0
+free rows near s work l p q e = unlinked _ (ap (λ (x : ℕ). link_of (cell rows link_column x work)) (sym p) ∙ sym q ∙ e)
 
 pub returns-in_default : goal.returns-in_default
 returns-in_default c =
@@ -51,7 +44,7 @@ returns-then-c-n c =
     let e = t in
     let start = e in
     let a = start.args in
-    ended a.rows a.n a.c.near a.c.far a.work.now start.requires.1 (free e) (omega arith) c.if-c-n.true
+    ended a.rows a.n a.c.near a.c.far a.work.now start.requires.1 (free a.rows a.c.near _ a.work.now _ e.side_at-s.ensures.0 e.link_at.ensures.0 e.in-Nothing.is) (omega arith) c.if-c-n.true
 
 pub look-requires : goal.look-requires
 look-requires c =
@@ -59,4 +52,4 @@ look-requires c =
     let e = t in
     let at = e.side_at-s in
     let start = e in
-    ((t.if-c.false, omega (arith, start.requires.1.second), start.requires.1), (at.ensures.0, at.ensures.1, free e))
+    record { near_lt_far = (t.if-c.false, omega (arith, start.requires.1.second), start.requires.1); s_value = (at.ensures.0, at.ensures.1, free c.args.rows c.args.c.near _ c.args.work.now _ at.ensures.0 c.link_at.ensures.0 c.in-Nothing.is) }

@@ -5,7 +5,6 @@ use native.Mathlib.Nat.{le_antisymm}
 use mathlib.Core.Path.{sym, ◌∙◌, ap}
 use mathlib.Core.Bool.{Bool}
 use mathlib.Core.List.{List}
-use borrow.Author.Tests.{not-true, not-false}
 use Rattle.packed.specs.Packer.{packed_words}
 use Rattle.packed.specs.Reader.{is_packed, seven_at, first_failing}
 use Rattle.packed.proofs.Runs.{cut-is, cut-long, failing-none, failing-more, failing-here}
@@ -29,7 +28,7 @@ returns-then-not-is_packed c =
     let l = c.loop-s in
     let a = c.args in
     let e = sym (c.is_packed.ensures ∙ ap is_packed (cut-is packed_words l.s a.packed.now)) in
-    sym (failing-here a.count l.s (passes a.packed.now) (omega arith) l.invariant.1 (e ∙ not-true _ c.if-not-is_packed.true))
+    sym (failing-here a.count l.s (passes a.packed.now) (omega arith) l.invariant.1 (e ∙ c.if-not-is_packed.true))
 
 pub loop-s-preserved : goal.loop-s-preserved
 unfolding seven_at
@@ -37,7 +36,7 @@ loop-s-preserved c =
     let l = c.loop-s in
     let a = c.args in
     let e = sym (c.is_packed.ensures ∙ ap is_packed (cut-is packed_words l.s a.packed.now)) in
-    (omega arith, failing-more l.s (passes a.packed.now) l.invariant.1 (e ∙ not-false _ c.if-not-is_packed.false))
+    (omega arith, failing-more l.s (passes a.packed.now) l.invariant.1 (e ∙ c.if-not-is_packed.false))
 
 pub returns : goal.returns
 returns c =

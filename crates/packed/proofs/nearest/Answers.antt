@@ -23,10 +23,10 @@ shifted-pos k h = subst (λ (x : ℕ). 0 < x) (sym (shifted-is k h)) (pow_pos k)
 settled : (n k q : ℕ) → k < 64 → NearestWhole n (shifted k) q → q ≡ rounding.nearest n (2 ^ k)
 settled n k q h e = nearest-only n (shifted k) q (shifted-pos k h) e ∙ ap (rounding.nearest n) (shifted-is k h)
 
-pub nonzero_div-q : goal.nonzero-div-q
+pub nonzero_div-q : goal.nonzero_div-q
 nonzero_div-q c = shifted-pos c.args.k c.requires.1
 
-pub nonzero_rem-r : goal.nonzero-rem-r
+pub nonzero_rem-r : goal.nonzero_rem-r
 nonzero_rem-r c = shifted-pos c.args.k c.requires.1
 
 pub overflow_mul-r : goal.overflow_mul-r

@@ -1,17 +1,16 @@
 -- `packed::pack_slot` meets its contract. Assumes nothing.
 use mathlib.Core.Path.{sym, ◌∙◌}
-use borrow.Author.Tests.{not-true, not-false}
 use Rattle.lists.specs.Loops.{list_of}
 use Rattle.packed.specs.Packer.{frame, frame_packed, packed_slot}
 use Rattle.packed.proofs.pack_slot.Goals as goal
 
 pub returns-then-not-has_frame : goal.returns-then-not-has_frame
 unfolding packed_slot frame_packed
-returns-then-not-has_frame c = simp (sym c.has_frame.ensures ∙ not-true _ c.if-not-has_frame.true)
+returns-then-not-has_frame c = simp (sym c.has_frame.ensures ∙ c.if-not-has_frame.true)
 
 pub returns : goal.returns
 unfolding packed_slot frame_packed frame list_of
 returns c =
     let s = c in
     let e = s in
-    simp (sym e.has_frame.ensures ∙ not-false _ e.if-not-has_frame.false) (cc)
+    simp (sym e.has_frame.ensures ∙ e.if-not-has_frame.false) (cc)

@@ -29,7 +29,7 @@ loop-s-preserved c =
     let l = p.loop-s in
     let a = p.args in
     run_more read_words a.count (stored a.packed.now) (λ i. length-read (seven_at a.packed.now i)) a.answer.now l.answer _ l.s (omega arith) l.invariant
-    (p.read_slot.ensures ∙ ap (λ x. sets l.answer (read_words * l.s) (read_seven x)) (cut-is packed_words l.s a.packed.now)) p.read_slot.auto.1.0
+    (p.read_slot.ensures ∙ ap (λ x. sets l.answer (read_words * l.s) (read_seven x)) (cut-is packed_words l.s a.packed.now)) p.read_slot.auto.answer
 
 pub returns : goal.returns
 unfolding read_slots

@@ -38,7 +38,7 @@ shape_of-work-then-severed_at c =
     let k = v in
     let a = k.args in
     let o = only-cleared a.rows a.tris a.given.now a.groups.now a.work.now _ k.clear.ensures in
-    v.severed_at.ensures.1.size ∙ (l.invariant.2.size ∙ o.size)
+    v.severed_at.ensures.only.size ∙ (l.invariant.2.size ∙ o.size)
 
 pub returns-then-severed_at : goal.returns-then-severed_at
 returns-then-severed_at c =
@@ -48,8 +48,8 @@ returns-then-severed_at c =
     let k = t in
     let a = k.args in
     let o = only-cleared a.rows a.tris a.given.now a.groups.now a.work.now _ k.clear.ensures in
-    let z = only-trans _ _ _ _ _ o (only-trans _ _ _ _ _ l.invariant.2 v.severed_at.ensures.1) in
-    ((λ vertex F. v.severed_at.ensures.0.objects c.if-severed_at.true l.invariant.1 vertex F), ((λ h. absurd (omega (arith, h, t.loop-r-test.true))), z))
+    let z = only-trans _ _ _ _ _ o (only-trans _ _ _ _ _ l.invariant.2 v.severed_at.ensures.only) in
+    record { lowest = (λ vertex F. v.severed_at.ensures.turn.objects c.if-severed_at.true l.invariant.1 vertex F); connected = (λ h. absurd (omega (arith, h, t.loop-r-test.true))); only = z }
 
 pub overflow_step-r : goal.overflow_step-r
 overflow_step-r c = let t = c in omega (arith, t.loop-r-test.true)
@@ -62,7 +62,7 @@ loop-r-preserved c =
     let v = c in
     let t = v in
     let l = t.loop-r in
-    (omega (arith, t.loop-r-test.true), v.severed_at.ensures.0.goes_on c.if-severed_at.false l.invariant.1, only-trans _ _ _ _ _ l.invariant.2 v.severed_at.ensures.1)
+    (omega (arith, t.loop-r-test.true), v.severed_at.ensures.turn.goes_on c.if-severed_at.false l.invariant.1, only-trans _ _ _ _ _ l.invariant.2 v.severed_at.ensures.only)
 
 pub overflow_mul-result : goal.overflow_mul-result
 overflow_mul-result c = let s = c in omega (arith, s.requires.0, s.requires.1)
@@ -83,4 +83,4 @@ returns c =
     let a = k.args in
     let o = only-cleared a.rows a.tris a.given.now a.groups.now a.work.now _ k.clear.ensures in
     let z = only-trans _ _ _ _ _ o l.invariant.2 in
-    ((λ vertex F. walks-all _ _ _ _ _ _ l.invariant.0 c.loop-r-test.false l.invariant.1 vertex F), ((λ _ vertex F. walks-connected _ _ _ _ _ _ c.loop-r-test.false l.invariant.1 vertex F), z))
+    record { lowest = (λ vertex F. walks-all _ _ _ _ _ _ l.invariant.0 c.loop-r-test.false l.invariant.1 vertex F); connected = (λ _ vertex F. walks-connected _ _ _ _ _ _ c.loop-r-test.false l.invariant.1 vertex F); only = z }

@@ -60,4 +60,4 @@ pub shape_of-work : goal.shape_of-work
 shape_of-work c = c.loop-x.invariant.3.size
 
 pub returns : goal.returns
-returns c = let l = c.loop-x in (goes_end _ _ _ _ _ _ _ _ _ l.invariant.0 c.loop-x-test.false l.invariant.4, l.invariant.3)
+returns c = let l = c.loop-x in record { goes = goes_end _ _ _ _ _ _ _ _ _ l.invariant.0 c.loop-x-test.false l.invariant.4; only = l.invariant.3 }

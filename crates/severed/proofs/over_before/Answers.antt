@@ -11,11 +11,11 @@ use Rattle.severed.proofs.over_before.Goals as goal
 pub word_at-word-requires : goal.word_at-word-requires
 word_at-word-requires c =
     let s = c in
-    let b = end_below c.Before-of.result s.args.tris (subst (λ z. z < 3 * s.args.tris) (sym c.Before-of.ensures) s.requires.0) in
+    let b = end_below c.before_of.result s.args.tris (subst (λ z. z < 3 * s.args.tris) (sym c.before_of.ensures) s.requires.0) in
     omega (arith, b, s.requires.2)
 
 pub returns-then-word-eq0 : goal.returns-then-word-eq0
-returns-then-word-eq0 c = way-before-none _ _ _ _ _ _ refl c.Before-of.ensures c.word_at-word.ensures c.if-word-eq0.true
+returns-then-word-eq0 c = way-before-none _ _ _ _ _ _ refl c.before_of.ensures c.word_at-word.ensures c.if-word-eq0.true
 
 pub returns : goal.returns
 returns c =
@@ -23,6 +23,6 @@ returns c =
     let b = d in
     let s = b in
     let a = s.args in
-    let l = end_below b.Before-of.result a.tris (subst (λ z. z < 3 * a.tris) (sym b.Before-of.ensures) s.requires.0) in
-    let w : get_or a.given.now b.Before-of.result 0 ≤ 3 * a.tris = not-lt _ _ (s.requires.3 b.Before-of.result l) in
-    way-before-to _ _ _ _ _ _ refl b.Before-of.ensures d.word_at-word.ensures c.if-word-eq0.false (omega (arith, w, d.word_at-word.ensures))
+    let l = end_below b.before_of.result a.tris (subst (λ z. z < 3 * a.tris) (sym b.before_of.ensures) s.requires.0) in
+    let w : get_or a.given.now b.before_of.result 0 ≤ 3 * a.tris = not-lt _ _ (s.requires.3 b.before_of.result l) in
+    way-before-to _ _ _ _ _ _ refl b.before_of.ensures d.word_at-word.ensures c.if-word-eq0.false (omega (arith, w, d.word_at-word.ensures))

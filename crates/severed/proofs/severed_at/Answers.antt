@@ -8,22 +8,22 @@ use Rattle.severed.proofs.severed_at.Goals as goal
 pub returns-then-word_at-eq0 : goal.returns-then-word_at-eq0
 returns-then-word_at-eq0 c =
     let a = c.args in
-    (turn-free a.rows a.tris a.given.now a.groups.now a.r _ _ c.word_at.ensures c.if-word_at-eq0.true, only_none _ _ _)
+    record { turn = turn-free a.rows a.tris a.given.now a.groups.now a.r _ _ c.word_at.ensures c.if-word_at-eq0.true; only = only_none _ _ _ }
 
 pub returns-then-mark_at-ne0 : goal.returns-then-mark_at-ne0
 returns-then-mark_at-ne0 c =
     let a = c.args in
-    (turn-marked a.rows a.tris a.given.now a.groups.now a.r a.work.now (λ z. c.if-mark_at-ne0.true (c.mark_at.ensures ∙ z)), only_none _ _ _)
+    record { turn = turn-marked a.rows a.tris a.given.now a.groups.now a.r a.work.now (λ z. c.if-mark_at-ne0.true (c.mark_at.ensures ∙ z)); only = only_none _ _ _ }
 
 pub returns-then-first_at-r : goal.returns-then-first_at-r
 returns-then-first_at-r c =
     let s = c in
     let a = s.args in
-    (turn-severed a.rows a.tris a.given.now a.groups.now a.r _ _ c.first_at.result a.work.now s.requires.0 s.requires.7 c.word_at.ensures c.if-word_at-eq0.false c.mark_at.ensures c.if-mark_at-ne0.false c.first_at.ensures (λ h. c.if-first_at-r.true (omega (arith, h))), only_none _ _ _)
+    record { turn = turn-severed a.rows a.tris a.given.now a.groups.now a.r _ _ c.first_at.result a.work.now s.requires.0 s.requires.7 c.word_at.ensures c.if-word_at-eq0.false c.mark_at.ensures c.if-mark_at-ne0.false c.first_at.ensures (λ h. c.if-first_at-r.true (omega (arith, h))); only = only_none _ _ _ }
 
 pub returns : goal.returns
 returns c =
     let g = c in
     let s = g in
     let a = s.args in
-    (turn-walked a.rows a.tris a.given.now a.groups.now a.r g.first_at.result a.work.now _ s.requires.0 s.requires.7 g.first_at.ensures (omega (arith, g.if-first_at-r.false)) g.walk_group.ensures.0, g.walk_group.ensures.1)
+    record { turn = turn-walked a.rows a.tris a.given.now a.groups.now a.r g.first_at.result a.work.now _ s.requires.0 s.requires.7 g.first_at.ensures (omega (arith, g.if-first_at-r.false)) g.walk_group.ensures.walks; only = g.walk_group.ensures.only }

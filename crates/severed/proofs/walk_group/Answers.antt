@@ -27,7 +27,7 @@ go_on-requires-2 c =
     let s = m in
     let p = s.requires in
     let e = n.next_on-y.ensures in
-    (e.low, p.1, p.2, omega (arith, p.3, m.mark.auto.work, g.go_on.ensures.1.size), p.4, p.5, p.6, (λ h z. (e.together h).some ((e.together h).same ∙ z)), (λ h. same-unless _ _ (e.fresh h)))
+    (e.low, p.1, p.2, omega (arith, p.3, m.mark.auto.work, g.go_on.ensures.only.size), p.4, p.5, p.6, (λ h z. (e.together h).some ((e.together h).same ∙ z)), (λ h. same-unless _ _ (e.fresh h)))
 
 pub returns : goal.returns
 returns c =
@@ -39,7 +39,4 @@ returns c =
     let s = m in
     let p = s.requires in
     let a = s.args in
-    let k : a.f < a.rows = omega (arith, p.0, p.1) in (
-      walks-group a.rows a.tris _ _ a.f _ _ a.work.now _ _ _ p.0 k p.3 p.7 m.mark.ensures x.next_on-x.ensures g.go_on.ensures.0 n.next_on-y.ensures h.go_on-2.ensures.0,
-      only-trans _ _ _ _ _ (subst (Only (next_column ∷ []) a.rows a.work.now) (sym m.mark.ensures) (only-put (next_column ∷ []) a.rows a.work.now a.work.now next_column a.f 1 refl (omega arith) k (only_none _ _ _))) (only-trans _ _ _ _ _ g.go_on.ensures.1 h.go_on-2.ensures.1),
-    )
+    let k : a.f < a.rows = omega (arith, p.0, p.1) in record { walks = walks-group a.rows a.tris _ _ a.f _ _ a.work.now _ _ _ p.0 k p.3 p.7 m.mark.ensures x.next_on-x.ensures g.go_on.ensures.goes n.next_on-y.ensures h.go_on-2.ensures.goes; only = only-trans _ _ _ _ _ (subst (Only (next_column ∷ []) a.rows a.work.now) (sym m.mark.ensures) (only-put (next_column ∷ []) a.rows a.work.now a.work.now next_column a.f 1 refl (omega arith) k (only_none _ _ _))) (only-trans _ _ _ _ _ g.go_on.ensures.only h.go_on-2.ensures.only) }

@@ -15,7 +15,7 @@ abbrev At-Start : Type 0
 At-Start = lts.Start reads.Pre reads.Post goal.the-invariant-loop-i goal.the-decreases-loop-i
 
 -- as many words as a slot has
-all : (c : At-Start) → length c.args.t3 ≡ slot_words
+all : (c : At-Start) → length c.args.words ≡ slot_words
 all c = c.well_formed.1.1.0.1.0.1
 
 pub loop-i-init : goal.loop-i-init
@@ -26,11 +26,11 @@ loop-i-preserved c =
     let l = c.loop-i in
     let s = c in
     let n = all s in
-    (omega arith, sets_more s.args.answer.now l.answer s.args.t3 (slot_words * s.args.slot) l.i (omega arith) l.invariant.1, simp length-set l.invariant.2)
+    (omega arith, sets_more s.args.answer.now l.answer s.args.words (slot_words * s.args.slot) l.i (omega arith) l.invariant.1, simp length-set l.invariant.2)
 
 pub returns : goal.returns
 returns c =
     let l = c.loop-i in
     let s = c in
     let n = all s in
-    rw (le_antisymm l.invariant.0 c.loop-i-test.false) at l.invariant.1 ∙ ap (sets s.args.answer.now (slot_words * s.args.slot)) (take_all slot_words s.args.t3 (omega arith))
+    rw (le_antisymm l.invariant.0 c.loop-i-test.false) at l.invariant.1 ∙ ap (sets s.args.answer.now (slot_words * s.args.slot)) (take_all slot_words s.args.words (omega arith))

@@ -11,5 +11,5 @@ returns c =
     let p = c in
     let a = p.args in
     λ q. whole-law a.rows a.work.now a.threshold a.from (a.to - a.from)
-    (sym (c.above.ensures ∙ ap (λ x. above x.s a.threshold) p.Span-of.ensures) ∙ and_left _ _ q)
-    (sym (c.above-2.ensures ∙ ap (λ x. above x.t a.threshold) p.Span-of.ensures) ∙ and_right c.above.result _ q)
+    (sym (c.above.ensures ∙ ap (λ x. above x.s a.threshold) p.span_of-b.ensures) ∙ and_left _ _ q)
+    (sym (c.above-2.ensures ∙ ap (λ x. above x.t a.threshold) p.span_of-b.ensures) ∙ and_right c.above.result _ q)

@@ -31,16 +31,16 @@ pub returns-then-same_corner : goal.returns-then-same_corner
 returns-then-same_corner c =
     let t = c in
     let i = t in
-    walking_here _ _ _ _ _ _ (word-of-row i) (sym (t.same_corner.ensures ∙ ap (welded _) t.corner_of-d.ensures) ∙ c.if-same_corner.true) i.loop-p.invariant
+    walking_here _ _ _ _ _ _ (word-of-row i.before.before.before.before) (sym (t.same_corner.ensures ∙ ap (welded _) t.corner_of-d.ensures) ∙ c.if-same_corner.true) i.loop-p.invariant
 
 pub loop-p-smaller : goal.loop-p-smaller
-loop-p-smaller c = let i = c in walking-falls _ _ _ _ _ _ _ (word-of-row i) (next i) i.loop-p.invariant
+loop-p-smaller c = let i = c in walking-falls _ _ _ _ _ _ _ (word-of-row i.before.before.before.before.before) (next i.before.before.before.before.before) i.loop-p.invariant
 
 pub loop-p-preserved : goal.loop-p-preserved
 loop-p-preserved c =
     let t = c in
     let i = t in
-    walking-next _ _ _ _ _ _ _ (word-of-row i) (sym (t.same_corner.ensures ∙ ap (welded _) t.corner_of-d.ensures) ∙ c.if-same_corner.false) (next i) i.loop-p.invariant
+    walking-next _ _ _ _ _ _ _ (word-of-row i.before.before.before.before.before) (sym (t.same_corner.ensures ∙ ap (welded _) t.corner_of-d.ensures) ∙ c.if-same_corner.false) (next i.before.before.before.before.before) i.loop-p.invariant
 
 pub returns : goal.returns
 returns c = walking-end _ _ _ _ _ c.loop-p-test.false c.loop-p.invariant

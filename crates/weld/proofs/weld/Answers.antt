@@ -36,7 +36,7 @@ turn-requires c =
     let i = c in
     let l = i.loop-r in
     let s = i in
-    (omega (arith, s.requires.1, (cleared i.before.before).size, l.invariant.1.size), omega (arith, s.requires.0, i.loop-r-test.true), s.requires.2, l.invariant.0)
+    (omega (arith, s.requires.1, (cleared i.before.before.before.before).size, l.invariant.1.size), omega (arith, s.requires.0, i.loop-r-test.true), s.requires.2, l.invariant.0)
 
 pub loop-r-preserved : goal.loop-r-preserved
 loop-r-preserved c =
@@ -49,12 +49,12 @@ whole : (c : At-After-loop-r) → let a = c.args in Only weld_columns a.rows a.w
 whole c = only-trans _ _ _ _ _ (cleared c.before.before) c.loop-r.invariant.1
 
 pub shape_of-work : goal.shape_of-work
-shape_of-work c = (whole c).size
+shape_of-work c = (whole c.before).size
 
 pub returns : goal.returns
 returns c =
     let l = c.loop-r in
     let s = c in
     let a = s.args in
-    let all = welded-all a.rows a.n a.positions.now a.normals.now a.texture.now a.work.now l.work s.requires.0 (subst (λ (m : ℕ). GoingIn a.rows m a.positions.now a.normals.now a.texture.now l.work) (le_antisymm l.invariant.2 c.loop-r-test.false) l.invariant.0) (whole c) in
+    let all = welded-all a.rows a.n a.positions.now a.normals.now a.texture.now a.work.now l.work s.requires.0 (subst (λ (m : ℕ). GoingIn a.rows m a.positions.now a.normals.now a.texture.now l.work) (le_antisymm l.invariant.2 c.loop-r-test.false) l.invariant.0) (whole c.before) in
     (all, vertices-are _ _ _ _ _ _ _ all s.requires.0)
