@@ -45,14 +45,14 @@ pub returns-then-work-rows-ne0 : goal.returns-then-work-rows-ne0
 unfolding adopted untouched
 returns-then-work-rows-ne0 c =
     let a = c.args in
-    simp (any-set c.before.before, ne_eqb (cell a.rows group_column (3 * a.t) a.work.now) 0 (λ z. omega (arith, z, c.if-work-rows-ne0.true)))
+    simp (any-set c.before.before.before, ne_eqb (cell a.rows group_column (3 * a.t) a.work.now) 0 (λ z. omega (arith, z, c.if-work-rows-ne0.true)))
 
 pub returns-then-work-rows-ne0-2 : goal.returns-then-work-rows-ne0-2
 unfolding adopted untouched
 returns-then-work-rows-ne0-2 c =
     let two = c in
     let a = two.args in
-    simp (any-set two.before.before, free-1 two, ne_eqb (cell a.rows group_column (3 * a.t + 1) a.work.now) 0 (λ z. omega (arith, z, c.if-work-rows-ne0-2.true)))
+    simp (any-set two.before.before.before.before.before, free-1 two.before.before.before, ne_eqb (cell a.rows group_column (3 * a.t + 1) a.work.now) 0 (λ z. omega (arith, z, c.if-work-rows-ne0-2.true)))
 
 pub returns-then-work-rows-ne0-3 : goal.returns-then-work-rows-ne0-3
 unfolding adopted untouched
@@ -60,11 +60,11 @@ returns-then-work-rows-ne0-3 c =
     let three = c in
     let two = three in
     let a = two.args in
-    simp (any-set two.before.before, free-1 two, free-2 three, ne_eqb (cell a.rows group_column (3 * a.t + 2) a.work.now) 0 (λ z. omega (arith, z, c.if-work-rows-ne0-3.true)))
+    simp (any-set two.before.before.before.before.before.before.before, free-1 two.before.before.before.before.before, free-2 three.before.before.before, ne_eqb (cell a.rows group_column (3 * a.t + 2) a.work.now) 0 (λ z. omega (arith, z, c.if-work-rows-ne0-3.true)))
 
 pub returns : goal.returns
 unfolding adopted untouched
 returns c =
     let three = c in
     let two = three in
-    simp (any-set two.before.before, free-1 two, free-2 three, free-3 c)
+    simp (any-set two.before.before.before.before.before.before, free-1 two.before.before.before.before, free-2 three.before.before, free-3 c)
