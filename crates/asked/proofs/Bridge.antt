@@ -157,11 +157,11 @@ module _ (ss : List Triangle) (d : Triangle) where
             meaning.on (q / 3) u (third (q % 3)) j (chain-to r q c h t (q / 3) i (third (q % 3)) e (row_is q)) (tri-lt q n k) (subst (λ x. x < n) (row-div u j) (tri-lt (row u j) n l))
             (way-over b q p w (q / 3) u (third (q % 3)) j (row_is q) f) (one_group (q / 3) u (third (q % 3)) j (subst (λ x. Together G x (row u j)) (sym (row_is q)) (subst (Together G q) (sym f) T)))
 
-      chain-from : (t u : ℕ) (i j : Third) → Connects n L G t i u j → Chain n L G (row t i) (row u j)
-      chain-from t u i j meaning.here = here
-      chain-from t u i j (meaning.on v _ k _ c h g o T) =
+      chain-from : (t : ℕ) (i : Third) (u : ℕ) (j : Third) → Connects n L G t i u j → Chain n L G (row t i) (row u j)
+      chain-from t i u j meaning.here = here
+      chain-from t i u j (meaning.on v _ k _ c h g o T) =
           let w = over-way v u k j o in
-          on w.0 (row v k) (row u j) (chain-from t v i k c) (row_lt v n k h) w.1 (together v u k j T)
+          on w.0 (row v k) (row u j) (chain-from t i v k c) (row_lt v n k h) w.1 (together v u k j T)
 
       -- ---- groups
       module _ (O : List ℕ) where
@@ -208,7 +208,7 @@ module _ (ss : List Triangle) (d : Triangle) where
                     subst (Together G r) (end-at q) (subst (λ x. Together G x (row (q / 3) (next-third (third (q % 3))))) (row_is r) (together (r / 3) (q / 3) (third (r % 3)) (next-third (third (q % 3))) g.0)),
                     subst (λ x. Together G x q) (end-at r) (subst (Together G (row (r / 3) (next-third (third (r % 3))))) (row_is q) (together (r / 3) (q / 3) (next-third (third (r % 3))) (third (q % 3)) g.1)),
                   );
-              connected = λ r q h k T. both-rows (Chain n L G) r q (chain-from (r / 3) (q / 3) (third (r % 3)) (third (q % 3)) (K.connected (r / 3) (q / 3) (third (r % 3)) (third (q % 3)) (tri-lt r n h) (tri-lt q n k) (one r q T)));
+              connected = λ r q h k T. both-rows (Chain n L G) r q (chain-from (r / 3) (third (r % 3)) (q / 3) (third (q % 3)) (K.connected (r / 3) (q / 3) (third (r % 3)) (third (q % 3)) (tri-lt r n h) (tri-lt q n k) (one r q T)));
             }
           where
             one : (r q : ℕ) → Together G r q → OneGroup G (r / 3) (third (r % 3)) (q / 3) (third (q % 3))

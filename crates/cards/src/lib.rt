@@ -29,7 +29,7 @@ pub struct CardFound {
 // Whether each of `count` records of `wide` words has 0 or 1 in its word 0.
 fn all_marked(answer: &[u32], wide: usize, count: usize) -> bool
     requires { (wide * count ≤ length answer.now) × (0 < wide) }
-    ensures { result ≡ every_below count (λ r. leb (slice_index answer.now (wide * r)) 1) }
+    ensures { result ≡ every_below count (λ r. leb (get_or answer.now (wide * r) 0) 1) }
 {
     for r in 0..count {
         if 1 < answer[wide * r] {

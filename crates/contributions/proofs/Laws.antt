@@ -141,7 +141,7 @@ module _ (rows k : ℕ) (ps ns : List Float) (t : ℕ) (room : 3 * t + 3 ≤ row
           let et : g.t ≡ x.tangent.t = ap (λ (y : RawTangentSpace). y.t) e ∙ S.up in
           let Su = reads_kept rows k ps ns contribution_columns w u t x room o refl A.only S in
           let Sv = reads_kept rows k ps ns contribution_columns u v t x room o refl B.only Su in
-          elim i [
+          elim i as (λ (j : Third). Brings rows z (row t j) (record { tri = x; at = j })) [
             | one ↦ brings-kept rows (row t one) v z (record { tri = x; at = one }) (C.others (row t one) (omega arith) (apart one three (omega arith)))
                 (brings-kept rows (row t one) u v (record { tri = x; at = one }) (B.others (row t one) (omega arith) (apart one two (omega arith))) (corner-brings x g w u S es et one A))
             | two ↦ brings-kept rows (row t two) v z (record { tri = x; at = two }) (C.others (row t two) (omega arith) (apart two three (omega arith))) (corner-brings x g u v Su es et two B)

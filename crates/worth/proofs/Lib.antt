@@ -1,4 +1,4 @@
-pub mod Hidden
+pub mod Showing
 pub mod Counting
 pub mod Filling
 pub mod Outcomes

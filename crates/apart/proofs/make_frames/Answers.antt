@@ -49,7 +49,7 @@ clear_own-requires c =
     ((fits s).0.few, p.prepare.ensures.1.long, omega (arith, k.sizes.size, (long s).sizes), omega (arith, k.numbers.size, (long s).numbers), omega (arith, k.frames.size, (long s).frames))
 
 pub shape_of-labels : goal.shape_of-labels
-shape_of-labels c = c.prepare.auto.order.1.1.1.0
+shape_of-labels c = c.prepare.auto.labels
 
 pub returns : goal.returns
 returns c =

@@ -9,14 +9,14 @@ use Rattle.apart.specs.Order.{Begun}
 use Rattle.apart.proofs.start_faces.Given as goal
 
 -- after f faces with c corners and s slots
-record Going (sizes w : List ℕ) (c s f : ℕ) (u : List ℕ) : Type 0 where
-  within : f ≤ length sizes
-  corners : c ≡ corner_count (take f sizes)
-  slots : s ≡ slot_count (take f sizes)
-  few : c ≤ 255 * f
-  low : s ≤ 4 * f
-  begun : Begun sizes f u
-  past : Past 0 (4 * length sizes) w u
+pub record Going (sizes w : List ℕ) (c s f : ℕ) (u : List ℕ) : Type 0 where
+  pub within : f ≤ length sizes
+  pub corners : c ≡ corner_count (take f sizes)
+  pub slots : s ≡ slot_count (take f sizes)
+  pub few : c ≤ 255 * f
+  pub low : s ≤ 4 * f
+  pub begun : Begun sizes f u
+  pub past : Past 0 (4 * length sizes) w u
 
 abbrev pub invariant-loop-f : goal.invariant-loop-f
 invariant-loop-f l = Going l.sizes l.initial.order l.corners l.slots l.f l.order

@@ -4,7 +4,6 @@ use Prim.Native.Nat.{ℕ, ◌*◌, ◌/◌, ◌≤◌, ◌<◌}
 use mathlib.Core.Path.{◌≡◌, sym, ◌∙◌, ap}
 use mathlib.Core.Bool.{Bool, true, false}
 use lib.ListN.{length}
-use borrow.Author.Tests.{not-false}
 use Rattle.words.specs.Words.{word_values}
 use Rattle.blocks.specs.declared.Kind.{Kind}
 use Rattle.blocks.specs.Format.{block_bytes, blocks_for}
@@ -42,7 +41,7 @@ At-After-are_next = lts.After-are_next tie.the-claims reads.Pre reads.Post
 
 -- what is known past each test
 can : (c : At-Else-not-writable) → let a = c.args in writable a.kind a.records.now ≡ true
-can c = sym c.writable.ensures ∙ not-false _ c.if-not-writable.false
+can c = sym c.writable.ensures ∙ c.if-not-writable.false
 
 few : (c : At-After-records_of-count) → c.records_of-count.result < word_values
 few c =
@@ -80,10 +79,10 @@ returns-then-not-writable c =
     ∙ sym (added-1 a.kind a.total a.long a.records.now a.lent.now (sym t.writable.ensures ∙ t.if-not-writable.true))
 
 pub overflow_cast-count : goal.overflow_cast-count
-overflow_cast-count c = omega (arith, few c)
+overflow_cast-count c = omega (arith, few c.before)
 
 pub overflow_mul-made : goal.overflow_mul-made
-overflow_mul-made c = omega (arith, c.blocks_for-made.ensures.1, few c.before)
+overflow_mul-made c = omega (arith, c.blocks_for-made.ensures.1, few c.before.before)
 
 pub returns-then-lent-made : goal.returns-then-lent-made
 unfolding after_append not_added card_bytes
@@ -92,7 +91,7 @@ returns-then-lent-made c =
     let e = t in
     let a = e.args in
     ap (λ (r : Appended). after_append r a.lent.now) c.refused-then-lent-made.ensures
-    ∙ sym (added-2 a.kind a.total a.long a.records.now a.lent.now (can e) (omega (arith, t.if-lent-made.true, made-is t.before)))
+    ∙ sym (added-2 a.kind a.total a.long a.records.now a.lent.now (can e.before.before.before.before.before) (omega (arith, t.if-lent-made.true, made-is t.before.before.before)))
 
 pub returns-then-overfull : goal.returns-then-overfull
 unfolding after_append not_added
@@ -102,7 +101,7 @@ returns-then-overfull c =
     let i = e in
     let a = i.args in
     ap (λ (r : Appended). after_append r a.lent.now) c.refused-then-overfull.ensures
-    ∙ sym (added-3 a.kind a.total a.long a.records.now a.lent.now (can i) (room e) (sym t.overfull.ensures ∙ t.if-overfull.true))
+    ∙ sym (added-3 a.kind a.total a.long a.records.now a.lent.now (can i.before.before.before.before.before.before.before) (room e.before.before.before.before) (sym t.overfull.ensures ∙ t.if-overfull.true))
 
 -- the torn block's number is small
 first_fits : (c : At-Else-overfull) → let a = c.args in a.long / block_bytes ≤ word_values
@@ -112,7 +111,7 @@ first_fits c =
     omega (arith, torn-among a.kind a.total a.long (within c), blocks-le a.kind a.total)
 
 pub are_next-requires : goal.are_next-requires
-are_next-requires c = first_fits c
+are_next-requires c = first_fits c.before
 
 pub returns-then-not-are_next : goal.returns-then-not-are_next
 unfolding after_append not_added
@@ -123,7 +122,7 @@ returns-then-not-are_next c =
     let i = r in
     let a = i.args in
     ap (λ (r : Appended). after_append r a.lent.now) c.refused-then-not-are_next.ensures
-    ∙ sym (added-by a.kind a.total a.long a.records.now a.lent.now (can i) (room r) (within e) false (sym (told t.before) ∙ t.if-not-are_next.true))
+    ∙ sym (added-by a.kind a.total a.long a.records.now a.lent.now (can i.before.before.before.before.before.before.before.before.before) (room r.before.before.before.before.before.before) (within e.before.before.before.before) false (sym (told t.before.before.before) ∙ t.if-not-are_next.true))
 
 pub put_blocks-requires : goal.put_blocks-requires
 unfolding first_torn
@@ -133,7 +132,7 @@ put_blocks-requires c =
     let r = e in
     let i = r in
     let a = i.args in
-    (omega (arith, made-is r.before), sym (told t.before) ∙ t.if-not-are_next.false, few-records a.kind a.records.now (can i), first_fits e, room r)
+    (omega (arith, made-is r.before), sym (told t.before.before.before) ∙ t.if-not-are_next.false, few-records a.kind a.records.now (can i.before.before.before), first_fits e.before.before.before.before, room r)
 
 pub returns : goal.returns
 unfolding after_append now_added first_torn place_of
@@ -145,5 +144,5 @@ returns c =
     let f = r in
     let i = f in
     let a = i.args in
-    (λ z. record { number = 0; blocks = made-is f z; at = block_bytes * (a.long / block_bytes); lent = p.put_blocks.ensures z })
-    ∙ sym (added-by a.kind a.total a.long a.records.now a.lent.now (can i) (room r) (within e) true (sym (told t.before) ∙ t.if-not-are_next.false))
+    (λ z. record { number = 0; blocks = made-is f.before.before.before.before.before.before.before.before.before.before z; at = block_bytes * (a.long / block_bytes); lent = p.put_blocks.ensures z })
+    ∙ sym (added-by a.kind a.total a.long a.records.now a.lent.now (can i.before.before.before.before.before.before.before.before.before.before.before.before) (room r.before.before.before.before.before.before.before.before.before) (within e.before.before.before.before.before.before.before) true (sym (told t.before.before.before.before.before.before) ∙ t.if-not-are_next.false))

@@ -39,10 +39,10 @@ few c =
     omega (arith, s.requires.0, s.requires.2, blocks-le a.kind (records_of a.kind a.records.now), c.loop-i-test.true)
 
 pub overflow_add-b : goal.overflow_add-b
-overflow_add-b c = omega (arith, few c, c.requires.3)
+overflow_add-b c = omega (arith, few c.before, c.requires.3)
 
 pub overflow_mul-i : goal.overflow_mul-i
-overflow_mul-i c = omega (arith, few c)
+overflow_mul-i c = omega (arith, few c.before)
 
 pub put_block-requires : goal.put_block-requires
 unfolding card_bytes
@@ -51,7 +51,7 @@ put_block-requires c =
     let s = c in
     let a = s.args in
     let h : l.i < blocks_for a.kind (records_of a.kind a.records.now) = omega (arith, s.requires.0, c.loop-i-test.true) in
-    (omega (arith, h, s.requires.4, l.invariant.2), next-called a.kind a.total a.b (records_of a.kind a.records.now) l.i (theirs s) h, next-fit a.kind a.total a.b a.records.now (theirs s) l.i h)
+    (omega (arith, h, s.requires.4, l.invariant.2), next-called a.kind a.total a.b (records_of a.kind a.records.now) l.i (theirs s.before.before.before.before.before.before) h, next-fit a.kind a.total a.b a.records.now (theirs s.before.before.before.before.before.before) l.i h)
 
 pub loop-i-preserved : goal.loop-i-preserved
 loop-i-preserved c =
@@ -62,7 +62,7 @@ loop-i-preserved c =
       omega arith,
       p.put_block.ensures
           ∙ joined-stored a.lent.now l.lent 0 (block_bytes * l.i) (λ k. block_of a.kind a.total (a.b + k) (part (room_words * k) (used_words a.kind a.total (a.b + k)) a.records.now)) l.i
-          (omega (arith, length_from a.kind a.total a.b a.records.now (theirs s) l.i (omega (arith, s.requires.0, l.invariant.0)))) l.invariant.1,
+          (omega (arith, length_from a.kind a.total a.b a.records.now (theirs s.before.before.before.before.before.before.before.before.before) l.i (omega (arith, s.requires.0, l.invariant.0)))) l.invariant.1,
       p.put_block.auto.card ∙ l.invariant.2,
     )
 
@@ -74,5 +74,5 @@ returns c =
     let a = s.args in
     let k = blocks_for a.kind (records_of a.kind a.records.now) in
     joined-front a.lent.now l.lent (λ i. block_of a.kind a.total (a.b + i) (part (room_words * i) (used_words a.kind a.total (a.b + i)) a.records.now)) l.i k (block_bytes * k) l.invariant.1
-    (le_antisymm l.invariant.0 c.loop-i-test.false ∙ s.requires.0) (length_from a.kind a.total a.b a.records.now (theirs s) k (omega arith))
+    (le_antisymm l.invariant.0 c.loop-i-test.false ∙ s.requires.0) (length_from a.kind a.total a.b a.records.now (theirs s.before.before.before.before.before) k (omega arith))
     s.requires.4

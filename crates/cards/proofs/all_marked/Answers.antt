@@ -27,13 +27,13 @@ inside c =
     omega (arith, one_of s.args.wide c.loop-r.r s.args.count c.loop-r-test.true, s.requires)
 
 pub overflow_mul-wide : goal.overflow_mul-wide
-overflow_mul-wide c = omega (arith, inside c)
+overflow_mul-wide c = omega (arith, inside c.before)
 
 pub offset_bounds-answer-wide : goal.offset_bounds-answer-wide
-offset_bounds-answer-wide c = omega (arith, inside c)
+offset_bounds-answer-wide c = omega (arith, inside c.before)
 
 pub bounds-answer-wide : goal.bounds-answer-wide
-bounds-answer-wide c = inside c.before
+bounds-answer-wide c = inside c.before.before
 
 pub returns-then-answer-wide-gt1 : goal.returns-then-answer-wide-gt1
 returns-then-answer-wide-gt1 c =

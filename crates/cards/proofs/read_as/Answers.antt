@@ -31,7 +31,7 @@ room c =
     words-in a.kind (length a.answer.now) a.total (omega (arith, c.if-records_of-total.false, c.records_of.ensures))
 
 pub read_blocks-requires : goal.read_blocks-requires
-read_blocks-requires c = room c.before
+read_blocks-requires c = room c.before.before
 
 pub returns : goal.returns
 unfolding after_read
@@ -39,4 +39,4 @@ returns c =
     let r = c in
     let e = r in
     let a = e.args in
-    (λ z. record { number = 0; past = c.bytes_past.ensures z; answer = r.read_blocks.ensures z }) ∙ sym (got-0 a.kind a.total a.card.now a.answer.now (room e))
+    (λ z. record { number = 0; past = c.bytes_past.ensures z; answer = r.read_blocks.ensures z }) ∙ sym (got-0 a.kind a.total a.card.now a.answer.now (room e.before.before.before.before.before.before))

@@ -33,7 +33,7 @@ loop-b-preserved c =
       p.read_block.ensures
           ∙ joined-stored a.answer.now l.answer 0 (room_words * l.b) (λ k. records_read a.kind a.total k a.card.now) l.b
           (omega (arith, length_before a.kind a.total l.b a.card.now (omega (arith, f.blocks_for-b-end.ensures.0, p.loop-b-test.true)))) l.invariant.1,
-      p.read_block.auto.1.1.1.1.0 ∙ l.invariant.2,
+      p.read_block.auto.answer ∙ l.invariant.2,
     )
 
 pub returns : goal.returns

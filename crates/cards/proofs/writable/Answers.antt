@@ -28,7 +28,7 @@ pub returns-then-answer-wide-ne0 : goal.returns-then-answer-wide-ne0
 returns-then-answer-wide-ne0 c =
     let w = c in
     let a = w.args in
-    cannot-part a.kind a.answer.now (λ e. omega (arith, c.if-answer-wide-ne0.true, left w, e))
+    cannot-part a.kind a.answer.now (λ e. omega (arith, c.if-answer-wide-ne0.true, left w.before.before, e))
 
 -- past the first test: whole records
 whole : (c : At-Else-answer-wide-ne0) → let a = c.args in length a.answer.now % record_words a.kind ≡ 0
@@ -38,7 +38,7 @@ pub returns-then-count-ge4294967296 : goal.returns-then-count-ge4294967296
 returns-then-count-ge4294967296 c =
     let e = c in
     let a = e.args in
-    cannot-many a.kind a.answer.now (whole e) (omega (arith, c.if-count-ge4294967296.true, c.records_of-count.ensures))
+    cannot-many a.kind a.answer.now (whole e.before.before.before) (omega (arith, c.if-count-ge4294967296.true, c.records_of-count.ensures))
 
 pub all_marked-requires : goal.all_marked-requires
 unfolding records_of
@@ -59,4 +59,4 @@ returns c =
     let a = w.args in
     c.all_marked.ensures
     ∙ ((λ z. every_below (n.records_of-count.ensures z) (λ r. leb (get_or a.answer.now (w.record_words-wide.ensures.0 z * r) 0) 1))
-    ∙ sym (marked-decides a.kind a.answer.now (whole i) (omega (arith, e.if-count-ge4294967296.false, n.records_of-count.ensures))))
+    ∙ sym (marked-decides a.kind a.answer.now (whole i.before.before.before.before) (omega (arith, e.if-count-ge4294967296.false, n.records_of-count.ensures))))

@@ -5,7 +5,6 @@ use mathlib.Core.Path.{◌≡◌, sym, ap, ◌∙◌, subst}
 use mathlib.Core.Bool.{true}
 use mathlib.Core.List.{◌++◌}
 use lib.ListN.{length, drop}
-use borrow.Author.Tests.{not-false}
 use Rattle.words.specs.Words.{word_values}
 use Rattle.blocks.specs.Format.{block_bytes, blocks_for}
 use Rattle.blocks.proofs.Counts.{words-in}
@@ -28,7 +27,7 @@ At-After-blocks_for-bytes = lts.After-blocks_for tie.the-claims reads.Pre reads.
 
 -- past the first test the list can be written
 can : (c : At-Else-not-writable) → let a = c.args in writable a.kind a.answer.now ≡ true
-can c = sym c.writable.ensures ∙ not-false _ c.if-not-writable.false
+can c = sym c.writable.ensures ∙ c.if-not-writable.false
 
 pub returns-then-not-writable : goal.returns-then-not-writable
 unfolding after_write not_written
@@ -43,10 +42,10 @@ few c =
     omega (arith, c.records_of-total.ensures, few-records a.kind a.answer.now (can c.before))
 
 pub overflow_cast-total : goal.overflow_cast-total
-overflow_cast-total c = omega (arith, few c)
+overflow_cast-total c = omega (arith, few c.before)
 
 pub overflow_mul-bytes : goal.overflow_mul-bytes
-overflow_mul-bytes c = omega (arith, c.blocks_for-bytes.ensures.1, few c.before)
+overflow_mul-bytes c = omega (arith, c.blocks_for-bytes.ensures.1, few c.before.before)
 
 -- and the bytes of their blocks
 bytes-are : (c : At-After-blocks_for-bytes) → let a = c.args in block_bytes * c.blocks_for-bytes.result ≡ card_bytes a.kind (records_of a.kind a.answer.now)
@@ -61,7 +60,7 @@ returns-then-card-bytes c =
     let f = c in
     let e = f in
     let a = e.args in
-    sym (wrote-2 a.kind a.answer.now a.card.now (can e) (omega (arith, c.if-card-bytes.true, bytes-are f)))
+    sym (wrote-2 a.kind a.answer.now a.card.now (can e.before.before.before.before) (omega (arith, c.if-card-bytes.true, bytes-are f.before.before)))
 
 pub write_blocks-requires : goal.write_blocks-requires
 unfolding records_of
@@ -70,7 +69,7 @@ write_blocks-requires c =
     let f = e in
     let n = f in
     let a = n.args in
-    (words-in a.kind (length a.answer.now) n.records_of-total.result (omega (arith, n.records_of-total.ensures)), subst (λ (k : ℕ). card_bytes a.kind k ≤ length a.card.now) (sym n.records_of-total.ensures) (omega (arith, e.if-card-bytes.false, bytes-are f)))
+    (words-in a.kind (length a.answer.now) n.records_of-total.result (omega (arith, n.records_of-total.ensures)), subst (λ (k : ℕ). card_bytes a.kind k ≤ length a.card.now) (sym n.records_of-total.ensures) (omega (arith, e.if-card-bytes.false, bytes-are f.before.before.before)))
 
 pub returns : goal.returns
 unfolding after_write card_written card_of
@@ -80,5 +79,5 @@ returns c =
     let f = e in
     let n = f in
     let a = n.args in
-    (λ z. record { number = 0; bytes = bytes-are f z; card = (w.write_blocks.ensures ∙ ap (λ (k : ℕ). blocks_of a.kind (blocks_for a.kind k) k a.answer.now ++ drop (card_bytes a.kind k) a.card.now) n.records_of-total.ensures) z })
-    ∙ sym (wrote-0 a.kind a.answer.now a.card.now (can n.before) (omega (arith, e.if-card-bytes.false, bytes-are f)))
+    (λ z. record { number = 0; bytes = bytes-are f.before.before.before.before.before.before z; card = (w.write_blocks.ensures ∙ ap (λ (k : ℕ). blocks_of a.kind (blocks_for a.kind k) k a.answer.now ++ drop (card_bytes a.kind k) a.card.now) n.records_of-total.ensures) z })
+    ∙ sym (wrote-0 a.kind a.answer.now a.card.now (can n.before.before.before.before.before.before.before.before) (omega (arith, e.if-card-bytes.false, bytes-are f.before.before.before.before.before.before)))

@@ -15,13 +15,13 @@ ends : (c : At-Start) → let a = c.args in a.k * a.rows + a.rows ≤ columns * 
 ends c = column-ends c.args.k columns c.args.rows c.requires.0
 
 pub overflow_mul-result : goal.overflow_mul-result
-overflow_mul-result c = omega (arith, ends c)
+overflow_mul-result c = omega (arith, ends c.before)
 
 pub overflow_add-result : goal.overflow_add-result
-overflow_add-result c = omega (arith, ends c)
+overflow_add-result c = omega (arith, ends c.before)
 
 pub offset_bounds-work-k : goal.offset_bounds-work-k
-offset_bounds-work-k c = omega (arith, ends c)
+offset_bounds-work-k c = omega (arith, ends c.before)
 
 pub bounds-work-k : goal.bounds-work-k
-bounds-work-k c = omega (arith, ends c.before)
+bounds-work-k c = omega (arith, ends c.before.before)

@@ -35,4 +35,4 @@ returns c =
     stored-as n r a.s a.t a.opening a.work.now s.requires.0 s.requires.1 _
     ((λ z. set (q.put_vector-2.ensures.0 z) (opening_column * n + r) (c.word-a.ensures z))
     ∙ ap (λ (k : List ℕ). set (set (set (set k (tx_column * n + r) (word a.t.x)) (ty_column * n + r) (word a.t.y)) (tz_column * n + r) (word a.t.z)) (opening_column * n + r) (word a.opening)) p.put_vector.ensures.0)
-    p.put_vector.ensures.1 q.put_vector-2.ensures.1 (held s)
+    p.put_vector.ensures.1 q.put_vector-2.ensures.1 (held s.before.before.before.before.before.before.before.before.before.before)

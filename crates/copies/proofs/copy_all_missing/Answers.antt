@@ -24,7 +24,7 @@ loop-t-preserved c =
     let l = i.loop-t in
     let a = i.args in
     let turn = missing_copied a.rows a.positions.now a.work.now in
-    (t.copy_missing.ensures ∙ ap (turn l.t) l.invariant.0 ∙ up_to-more l.t turn a.answer.now, omega (arith, i.loop-t-test.true), t.copy_missing.auto.1.1.1.1.0 ∙ l.invariant.2)
+    (t.copy_missing.ensures ∙ ap (turn l.t) l.invariant.0 ∙ up_to-more l.t turn a.answer.now, omega (arith, i.loop-t-test.true), t.copy_missing.auto.answer ∙ l.invariant.2)
 
 pub shape_of-answer : goal.shape_of-answer
 shape_of-answer c = c.loop-t.invariant.2

@@ -20,7 +20,7 @@ loop-t-preserved c =
     let i = t in
     let l = i.loop-t in
     let a = i.args in
-    (one-broken a.rows a.sound a.work.now l.t a.answer.now _ _ l.invariant.1 l.invariant.0 t.copy_triangle.ensures, omega (arith, l.invariant.1), omega (arith, i.loop-t-test.true), t.copy_triangle.auto.1.1.1.1.0 ∙ l.invariant.3)
+    (one-broken a.rows a.sound a.work.now l.t a.answer.now _ _ l.invariant.1 l.invariant.0 t.copy_triangle.ensures, omega (arith, l.invariant.1), omega (arith, i.loop-t-test.true), t.copy_triangle.auto.answer ∙ l.invariant.3)
 
 pub shape_of-answer : goal.shape_of-answer
 shape_of-answer c = c.loop-t.invariant.3

@@ -8,7 +8,7 @@ use Rattle.table.specs.Table.{cell}
 use Rattle.examine.proofs.copy_out.Given as goal
 
 abbrev pub invariant-loop-i : goal.invariant-loop-i
-invariant-loop-i l = (l.i ≤ l.n) × (l.list ≡ sets l.initial.list 0 (list_of l.i (λ l.i. cell l.rows l.column l.i l.work))) × (length l.list ≡ length l.initial.list)
+invariant-loop-i l = (l.i ≤ l.n) × (l.list ≡ sets l.initial.list 0 (list_of l.i (λ i. cell l.rows l.column i l.work))) × (length l.list ≡ length l.initial.list)
 
 abbrev pub decreases-loop-i : goal.decreases-loop-i
 decreases-loop-i l = l.n - l.i

@@ -7,4 +7,4 @@ returns c =
     let k = c in
     let s = k in
     let a = s.args in
-    (λ ss d ls B n N S A. flat-walked a.rows a.tris ss d ls B a.work.now _ k.walk_all.result n s.requires.0 s.requires.1 k.walk_all.ensures.few.0 N S A k.walk_all.ensures.is, k.walk_all.ensures.1)
+    record { grouped = λ ss d ls B n N S A. flat-walked a.rows a.tris ss d ls B a.work.now _ k.walk_all.result n s.requires.0 s.requires.1 k.walk_all.ensures.few.0 N S A k.walk_all.ensures.is; few = k.walk_all.ensures.few; only = k.walk_all.ensures.only }

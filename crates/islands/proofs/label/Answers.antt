@@ -16,17 +16,17 @@ At-After-weld-arg-1 = lts.After-weld-arg tie.the-claims reads.Pre reads.Post
 
 -- so few faces are listed, in a list as long as the one that is lent
 few : (c : At-After-weld-arg-1) → let f = c in let s = f in
-    (4 * f.list_faces-k.result ≤ 6 * length s.args.sizes.now) × (126 * length s.args.sizes.now ≤ length f.list_faces-k.new.1.0) × (length s.args.sizes.now ≤ face_limit)
+    (4 * f.list_faces-k.result ≤ 6 * length s.args.sizes.now) × (126 * length s.args.sizes.now ≤ length f.list_faces-k.new.work) × (length s.args.sizes.now ≤ face_limit)
 few c =
     let f = c in
     let s = f in
     (omega (arith, f.list_faces-k.ensures.0.few), omega (arith, f.list_faces-k.ensures.1.size, s.requires.2), s.requires.0)
 
 pub overflow_mul-k : goal.overflow_mul-k
-overflow_mul-k c = let f = few c in omega (arith, f.0, f.2)
+overflow_mul-k c = let f = few c.before in omega (arith, f.0, f.2)
 
 pub weld-requires : goal.weld-requires
-weld-requires c = let f = few c in (f.0, omega (arith, f.1), omega (arith, f.2))
+weld-requires c = let f = few c.before in (f.0, omega (arith, f.1), omega (arith, f.2))
 
 pub overflow_mul-k-2 : goal.overflow_mul-k-2
 overflow_mul-k-2 c = let f = few c.before.before.before.before in omega (arith, f.0, f.2)
@@ -36,7 +36,7 @@ unite_rows-requires c =
     let k = c in
     let s = k in
     let w = k.weld.ensures.0 in
-    let f = few k.before.before.before in
+    let f = few k.before.before.before.before.before in
     let a = k.alone.ensures in
     (omega (arith, f.0), omega (arith, f.1, w.only.size), omega (arith, a.beyond.size, s.requires.1), alone-down _ _ _ a, readable _ _ _ _ k.list_faces-k.ensures.0 w _ (omega arith))
 

@@ -65,10 +65,10 @@ list_face-k-requires c =
     (omega (arith, g.listed.few, i.loop-f-test.true), omega (arith, s.requires.1, g.only.size), omega (arith, g.few, i.loop-f-test.true, s.requires.0))
 
 pub overflow_cast-base : goal.overflow_cast-base
-overflow_cast-base c = omega (arith, byte c)
+overflow_cast-base c = omega (arith, byte c.before)
 
 pub overflow_add-base : goal.overflow_add-base
-overflow_add-base c = let i = c in omega (arith, byte c, i.loop-f.invariant.few, i.loop-f-test.true, i.requires.0)
+overflow_add-base c = let i = c in omega (arith, byte c.before, i.loop-f.invariant.few, i.loop-f-test.true, i.requires.0)
 
 pub loop-f-preserved : goal.loop-f-preserved
 loop-f-preserved c =
@@ -76,7 +76,7 @@ loop-f-preserved c =
     let i = a in
     let s = i in
     let l = i.loop-f in
-    going_more _ _ _ _ _ _ _ _ _ s.requires.1 i.loop-f-test.true refl (byte c) l.invariant _ refl a.list_face-k.ensures.0 a.list_face-k.ensures.1
+    going_more _ _ _ _ _ _ _ _ _ s.requires.1 i.loop-f-test.true refl (byte c.before) l.invariant _ refl a.list_face-k.ensures.0 a.list_face-k.ensures.1
 
 pub shape_of-work : goal.shape_of-work
 shape_of-work c = c.loop-f.invariant.only.size

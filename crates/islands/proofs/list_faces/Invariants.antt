@@ -9,12 +9,12 @@ use Rattle.islands.specs.Rows.{FacesListed, corner_row, face_row, list_columns}
 use Rattle.islands.proofs.list_faces.Given as goal
 
 -- after f faces, k of them listed, and base corners
-record Going (sizes w : List ℕ) (k base f : ℕ) (u : List ℕ) : Type 0 where
-  within : f ≤ length sizes
-  sum : base ≡ corner_count (take f sizes)
-  few : base ≤ 255 * f
-  listed : FacesListed sizes f k (corner_row (6 * length sizes) u) (face_row (6 * length sizes) u)
-  only : Only list_columns (6 * length sizes) w u
+pub record Going (sizes w : List ℕ) (k base f : ℕ) (u : List ℕ) : Type 0 where
+  pub within : f ≤ length sizes
+  pub sum : base ≡ corner_count (take f sizes)
+  pub few : base ≤ 255 * f
+  pub listed : FacesListed sizes f k (corner_row (6 * length sizes) u) (face_row (6 * length sizes) u)
+  pub only : Only list_columns (6 * length sizes) w u
 
 abbrev pub invariant-loop-f : goal.invariant-loop-f
 invariant-loop-f l = Going l.sizes l.initial.work l.k l.base l.f l.work

@@ -99,7 +99,7 @@ note_reasons-requires c =
     let t = c in
     let e = t in
     let n = e in
-    (omega (arith, (known n).answer-fits, counted n, t.try_copies.auto.answer.1.1.1.1.0), omega (arith, byte-each e, counted n))
+    (omega (arith, (known n).answer-fits, counted n, t.try_copies.auto.answer), omega (arith, byte-each e, counted n))
 
 pub make_frames-made-requires : goal.make_frames-made-requires
 make_frames-made-requires c =
@@ -107,7 +107,7 @@ make_frames-made-requires c =
     let n = t in
     let s = n in
     let a = s.args in
-    (λ z. verdict (shown (handed a.sizes.now a.positions.now a.normals.now a.texture.now) a.threshold (t.try_copies.auto.answer.1.1.1.1.0 z) (t.try_copies.auto.answer.1.1.1.0 z))) ∙ unrefused n.before
+    (λ z. verdict (shown (handed a.sizes.now a.positions.now a.normals.now a.texture.now) a.threshold (t.try_copies.auto.answer z) (t.try_copies.auto.work z))) ∙ unrefused n.before
 
 pub strike-requires : goal.strike-requires
 strike-requires c =
@@ -116,7 +116,7 @@ strike-requires c =
     let t = r in
     let e = t in
     let n = e in
-    (omega (arith, (known n).answer-fits, counted n, t.try_copies.auto.answer.1.1.1.1.0, m.make_frames-made.auto.answer.1.1.1.1.0), omega (arith, byte-each e, counted n, r.note_reasons.auto.1.0))
+    (omega (arith, (known n).answer-fits, counted n, t.try_copies.auto.answer, m.make_frames-made.auto.answer), omega (arith, byte-each e, counted n, r.note_reasons.auto.reasons))
 
 pub returns : goal.returns
 unfolding reasons_outcome answered
@@ -130,6 +130,6 @@ returns c =
     let s = n in
     let a = s.args in
     left-same _ _ _ _ _ c.said-2.ensures
-    ∙ (whole (handed a.sizes.now a.positions.now a.normals.now a.texture.now) a.threshold a.answer.now a.work.now a.reasons.now _ _ _ _ _ _ _ _ (counted n) (known n).answer-fits t.try_copies.auto.answer.1.1.1.1.0
-    t.try_copies.ensures.0 t.try_copies.ensures.1 r.note_reasons.ensures m.make_frames-made.ensures m.make_frames-made.auto.answer.1.1.1.1.0 k.strike.ensures
+    ∙ (whole (handed a.sizes.now a.positions.now a.normals.now a.texture.now) a.threshold a.answer.now a.work.now a.reasons.now _ _ _ _ _ _ _ _ (counted n) (known n).answer-fits t.try_copies.auto.answer
+    t.try_copies.ensures.0 t.try_copies.ensures.1 r.note_reasons.ensures m.make_frames-made.ensures m.make_frames-made.auto.answer k.strike.ensures
     ∙ ap (λ o. answered o (taken s) a.answer.now a.work.now a.reasons.now) (sym (passing e)))

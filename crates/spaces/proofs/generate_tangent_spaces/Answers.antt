@@ -31,7 +31,7 @@ loop-q-preserved c =
     let s = i in
     let a = s.args in
     let e = m.reach_at.ensures in
-    (one_group a.rows a.threshold a.s.groups a.s.members a.work.now _ a.answer.now _ _ l.q s.requires.0 s.requires.1 s.requires.3 l.invariant.1 l.invariant.0 e.0, only-trans (joined_column ∷ []) a.rows a.work.now _ _ l.invariant.1 e.1, omega (arith, i.loop-q-test.true), m.reach_at.auto.answer.1.1.0 ∙ l.invariant.3, omega (arith, l.invariant.4, e.1.size))
+    (one_group a.rows a.threshold a.s.groups a.s.members a.work.now _ a.answer.now _ _ l.q s.requires.0 s.requires.1 s.requires.3 l.invariant.1 l.invariant.0 e.0, only-trans (joined_column ∷ []) a.rows a.work.now _ _ l.invariant.1 e.1, omega (arith, i.loop-q-test.true), m.reach_at.auto.answer ∙ l.invariant.3, omega (arith, l.invariant.4, e.1.size))
 
 pub returns : goal.returns
 unfolding reach_all

@@ -46,7 +46,7 @@ loop-j-preserved c =
     let f : ℕ → List ℕ → List ℕ = λ k. reach_row a.rows a.threshold a.from (a.to - a.from) a.work.now (cell a.rows met_column (a.from + k) a.work.now) in
     let at : l.j ≡ a.from + (l.j - a.from) = omega (arith, l.invariant.3) in
     let more : (l.j - a.from) + 1 ≡ l.j + 1 - a.from = omega (arith, l.invariant.3) in
-    (e.0 ∙ (member-kept a.rows a.work.now _ l.invariant.2 a.threshold a.from a.to l.j _ s.requires.0 s.requires.1 b s.requires.3 ∙ ((λ z. reach_row a.rows a.threshold a.from (a.to - a.from) a.work.now (cell a.rows met_column (at z) a.work.now) (l.invariant.0 z)) ∙ (up_to-more (l.j - a.from) f a.answer.now ∙ ap (λ n. up_to n f a.answer.now) more))), e.1, only-trans (joined_column ∷ []) a.rows a.work.now _ _ l.invariant.2 e.2, omega (arith, l.invariant.3), omega (arith, b), m.reach_member-sum.auto.answer.1.1.0 ∙ l.invariant.5, omega (arith, l.invariant.6, e.2.size))
+    (e.0 ∙ (member-kept a.rows a.work.now _ l.invariant.2 a.threshold a.from a.to l.j _ s.requires.0 s.requires.1 b s.requires.3 ∙ ((λ z. reach_row a.rows a.threshold a.from (a.to - a.from) a.work.now (cell a.rows met_column (at z) a.work.now) (l.invariant.0 z)) ∙ (up_to-more (l.j - a.from) f a.answer.now ∙ ap (λ n. up_to n f a.answer.now) more))), e.1, only-trans (joined_column ∷ []) a.rows a.work.now _ _ l.invariant.2 e.2, omega (arith, l.invariant.3), omega (arith, b), m.reach_member-sum.auto.answer ∙ l.invariant.5, omega (arith, l.invariant.6, e.2.size))
 
 pub returns : goal.returns
 unfolding reach_group

@@ -45,7 +45,7 @@ loop-j-preserved c =
     let f : ℕ → List ℕ → List ℕ = λ k. reach_with a.rows a.work.now g (cell a.rows met_column (a.from + k) a.work.now) in
     let at : l.j ≡ a.from + (l.j - a.from) = omega (arith, l.invariant.1) in
     let more : (l.j - a.from) + 1 ≡ l.j + 1 - a.from = omega (arith, l.invariant.1) in
-    (m.reach_one.ensures ∙ ((λ z. reach_with a.rows a.work.now g (cell a.rows met_column (at z) a.work.now) (l.invariant.0 z)) ∙ (up_to-more (l.j - a.from) f a.answer.now ∙ ap (λ n. up_to n f a.answer.now) more)), omega (arith, l.invariant.1), omega (arith, b), m.reach_one.auto.1.1.0 ∙ l.invariant.3)
+    (m.reach_one.ensures ∙ ((λ z. reach_with a.rows a.work.now g (cell a.rows met_column (at z) a.work.now) (l.invariant.0 z)) ∙ (up_to-more (l.j - a.from) f a.answer.now ∙ ap (λ n. up_to n f a.answer.now) more)), omega (arith, l.invariant.1), omega (arith, b), m.reach_one.auto.answer ∙ l.invariant.3)
 
 pub returns : goal.returns
 unfolding reach_whole

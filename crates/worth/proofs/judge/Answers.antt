@@ -29,19 +29,19 @@ fit : (c : At-Else-number-ne0) → let a = c.args in Fit (length a.answer.now) (
 fit c = let a = c.args in none-fit (length a.answer.now) (length a.verdicts.now) (none c)
 
 pub judge_slots-requires : goal.judge_slots-requires
-judge_slots-requires c = (omega arith, omega (arith, (fit c.before).room_for))
+judge_slots-requires c = (omega arith, omega (arith, (fit c.before.before).room_for))
 
 pub good_among-good-requires : goal.good_among-good-requires
 good_among-good-requires c =
     let j = c in
     let e = j in
-    (omega (arith, (fit e).room_for, j.judge_slots.auto.1.0), omega (arith, (fit e).few))
+    (omega (arith, (fit e.before.before.before.before.before).room_for, j.judge_slots.auto.verdicts), omega (arith, (fit e.before.before.before.before.before).few))
 
 pub first_other-first-requires : goal.first_other-first-requires
 first_other-first-requires c =
     let j = c in
     let e = j in
-    omega (arith, (fit e).room_for, j.judge_slots.auto.1.0)
+    omega (arith, (fit e.before.before.before.before.before.before).room_for, j.judge_slots.auto.verdicts)
 
 pub returns : goal.returns
 unfolding after_judge all_judged slots_in
@@ -58,4 +58,4 @@ returns c =
       first = (c.first_other-first.ensures ∙ first-there l v _ (slots_in l) j.judge_slots.ensures) i;
       verdicts = j.judge_slots.ensures i;
     })
-    ∙ judge-done l v (none e)
+    ∙ judge-done l v (none e.before.before.before.before.before.before.before)

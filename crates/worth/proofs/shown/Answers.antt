@@ -1,5 +1,5 @@
 -- `worth::shown` meets its contract. Assumes nothing.
-use Rattle.worth.proofs.Hidden.{shown-is}
+use Rattle.worth.proofs.Showing.{shown-is}
 use Rattle.worth.proofs.shown.Goals as goal
 
 pub returns : goal.returns
