@@ -132,7 +132,7 @@ put_blocks-requires c =
     let r = e in
     let i = r in
     let a = i.args in
-    (omega (arith, made-is r.before), sym (told t.before.before.before) ∙ t.if-not-are_next.false, few-records a.kind a.records.now (can i.before.before.before), first_fits e.before.before.before.before, room r)
+    (omega (arith, made-is r.before.before.before.before.before.before.before), sym (told t.before.before.before) ∙ t.if-not-are_next.false, few-records a.kind a.records.now (can i.before.before.before.before.before.before.before.before.before), first_fits e.before.before.before.before, room r.before.before.before.before.before.before)
 
 pub returns : goal.returns
 unfolding after_append now_added first_torn place_of

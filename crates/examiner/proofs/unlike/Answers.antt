@@ -34,14 +34,14 @@ returns-then-a-b c =
     let w = c in
     let e = w in
     let s = e in
-    told (unlike-start (vertex s) s.args.r s.args.q _ w.vertex_at-a.result w.vertex_at-b.result w.vertex_at-a.ensures w.vertex_at-b.ensures e.end_of-f.ensures (λ h. c.if-a-b.true (omega (arith, h))))
+    told (unlike-start (vertex s.before.before.before.before.before.before.before.before.before) s.args.r s.args.q _ w.vertex_at-a.result w.vertex_at-b.result w.vertex_at-a.ensures w.vertex_at-b.ensures e.end_of-f.ensures (λ h. c.if-a-b.true (omega (arith, h))))
 
 pub returns-then-c-d : goal.returns-then-c-d
 returns-then-c-d c =
     let v = c in
     let e = v in
     let s = e in
-    told (unlike-end (vertex s) s.args.r s.args.q _ v.vertex_at-c.result v.vertex_at-d.result v.vertex_at-c.ensures v.vertex_at-d.ensures e.end_of-e.ensures (λ h. c.if-c-d.true (omega (arith, h))))
+    told (unlike-end (vertex s.before.before.before.before.before.before.before.before.before.before) s.args.r s.args.q _ v.vertex_at-c.result v.vertex_at-d.result v.vertex_at-c.ensures v.vertex_at-d.ensures e.end_of-e.ensures (λ h. c.if-c-d.true (omega (arith, h))))
 
 pub returns : goal.returns
 returns c =
@@ -49,4 +49,4 @@ returns c =
     let w = v in
     let e = w in
     let s = e in
-    told-not (alike (vertex s) s.args.r s.args.q _ _ w.vertex_at-a.result w.vertex_at-b.result v.vertex_at-c.result v.vertex_at-d.result e.end_of-e.ensures e.end_of-f.ensures w.vertex_at-a.ensures w.vertex_at-b.ensures v.vertex_at-c.ensures v.vertex_at-d.ensures (omega (arith, c.if-a-b.false)) (omega (arith, c.if-c-d.false)))
+    told-not (alike (vertex s.before.before.before.before.before.before.before.before.before.before) s.args.r s.args.q _ _ w.vertex_at-a.result w.vertex_at-b.result v.vertex_at-c.result v.vertex_at-d.result e.end_of-e.ensures e.end_of-f.ensures w.vertex_at-a.ensures w.vertex_at-b.ensures v.vertex_at-c.ensures v.vertex_at-d.ensures (omega (arith, c.if-a-b.false)) (omega (arith, c.if-c-d.false)))

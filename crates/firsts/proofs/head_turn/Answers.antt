@@ -22,10 +22,10 @@ low : (c : At-After-run_first-f) → c.run_first-f.result < c.args.n
 low c = let s = c in runs-low _ _ _ _ _ (omega (arith, c.order_at-r.ensures, s.requires.6)) c.run_first-f.ensures
 
 pub overflow_add-work : goal.overflow_add-work
-overflow_add-work c = let p = c.requires in omega (arith, low c, p.2, p.4)
+overflow_add-work c = let p = c.requires in omega (arith, low c.before, p.2, p.4)
 
 pub overflow_cast-work : goal.overflow_cast-work
-overflow_cast-work c = let p = c.requires in omega (arith, low c, p.2, p.4)
+overflow_cast-work c = let p = c.requires in omega (arith, low c.before, p.2, p.4)
 
 pub returns : goal.returns
 returns c =
