@@ -146,3 +146,6 @@ returns c =
     let a = i.args in
     (λ z. record { number = 0; blocks = made-is f.before.before.before.before.before.before.before.before.before.before z; at = block_bytes * (a.long / block_bytes); lent = p.put_blocks.ensures z })
     ∙ sym (added-by a.kind a.total a.long a.records.now a.lent.now (can i.before.before.before.before.before.before.before.before.before.before.before.before) (room r.before.before.before.before.before.before.before.before.before) (within e.before.before.before.before.before.before.before) true (sym (told t.before.before.before.before.before.before) ∙ t.if-not-are_next.false))
+
+pub overflow_cast-result : goal.overflow_cast-result
+overflow_cast-result c = omega (arith, c.blocks_for-made.ensures.1, few c.before.before.before.before.before.before.before.before.before.before.before)

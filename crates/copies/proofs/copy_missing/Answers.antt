@@ -8,7 +8,7 @@ pub returns-then-not-is_marked : goal.returns-then-not-is_marked
 returns-then-not-is_marked c =
     let m = c in
     let a = m.args in
-    missing-unmarked a.rows a.positions.now a.work.now a.t a.answer.now _ m.is_marked.ensures (not-true m.is_marked.result c.if-not-is_marked.true)
+    missing-unmarked a.rows a.positions.now a.work.now a.t a.answer.now _ m.is_marked.ensures c.if-not-is_marked.true
 
 pub returns : goal.returns
 returns c =
@@ -19,4 +19,4 @@ returns c =
     let i = f in
     let m = i in
     let a = m.args in
-    missing-copied a.rows a.positions.now a.work.now a.t a.answer.now _ m.is_marked.ensures _ _ _ _ (not-false m.is_marked.result i.if-not-is_marked.false) f.equal_at-row.ensures.0 k.copy.ensures (omega (arith, f.slot_at-kept.ensures)) (omega (arith, gone))
+    missing-copied a.rows a.positions.now a.work.now a.t a.answer.now _ m.is_marked.ensures _ _ _ _ i.if-not-is_marked.false f.equal_at-row.ensures.0 k.copy.ensures (omega (arith, f.slot_at-kept.ensures)) (omega (arith, gone))

@@ -30,20 +30,20 @@ returns-then-v-ne0 c =
     let j = c in
     let s = j in
     let a = s.args in
-    let v = verdict (at_desk (called s)) in
+    let v = verdict (at_desk (called s.before.before.before.before.before.before.before.before.before.before.before)) in
     let e = j.judge-v.ensures in
     ap (λ r. left r a.answer.now a.work.now) (c.said.ensures ∙ (λ i. record { number = (e i).number; place = (e i).place; slots = 0 }))
-    ∙ refused v (accepted (called s)) a.answer.now a.work.now (λ q. c.if-v-ne0.true (omega (arith, ap (λ x. x.number) e, q)))
+    ∙ refused v (accepted (called s.before.before.before.before.before.before.before.before.before.before.before)) a.answer.now a.work.now (λ q. c.if-v-ne0.true (omega (arith, ap (λ x. x.number) e, q)))
 
 -- past the test no row applies
 passed : (i : At-Else-v-ne0) → verdict (at_desk (called i.before.before.before.before.before.before.before.before.before)) ≡ none
 passed i =
     let j = i in
-    let x = at_desk (called j.before.before.before.before.before.before.before) in
+    let x = at_desk (called j.before.before.before.before.before.before.before.before.before) in
     no-refusal x (omega (arith, ap (λ x. x.number) j.judge-v.ensures, number_small x, i.if-v-ne0.false))
 
 pub make_frames-slots-requires : goal.make_frames-slots-requires
-make_frames-slots-requires c = passed c.before.before
+make_frames-slots-requires c = passed c.before.before.before
 
 pub returns : goal.returns
 unfolding outcome answered
@@ -53,5 +53,5 @@ returns c =
     let j = i in
     let s = j in
     let a = s.args in
-    let z = accepted (called s) in
-    left-same _ _ _ _ c.said-2.ensures ∙ (m.make_frames-slots.ensures ∙ ap (λ o. answered o z a.answer.now a.work.now) (sym (passed i)))
+    let z = accepted (called s.before.before.before.before.before.before.before.before.before.before.before.before.before.before.before.before.before.before) in
+    left-same _ _ _ _ c.said-2.ensures ∙ (m.make_frames-slots.ensures ∙ ap (λ o. answered o z a.answer.now a.work.now) (sym (passed i.before.before.before.before.before.before.before.before.before)))
