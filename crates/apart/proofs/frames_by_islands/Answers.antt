@@ -40,7 +40,7 @@ returns-then-v-ne0 c =
     table-leaves (handed a.sizes.now a.positions.now a.normals.now a.texture.now) a.threshold a.answer.now a.work.now (own s) _ (c.said.ensures ∙ (λ i. record { number = (e i).number; place = (e i).place; slots = 0 })) (λ q. let n = ap (λ x. x.number) e in omega (arith, n, q, c.if-v-ne0.true))
 
 pub is_short-requires : goal.is_short-requires
-is_short-requires c = (fine _ (accepted c)).few
+is_short-requires c = (fine _ (accepted c.before)).few
 
 pub returns-then-is_short : goal.returns-then-is_short
 unfolding short
@@ -56,7 +56,7 @@ unfolding short
 make_frames-slots-requires c =
     let x = c in
     let i = x in
-    (accepted i.before, sym i.is_short.ensures ∙ x.if-is_short.false)
+    (accepted i.before.before.before.before.before.before.before.before.before.before, sym i.is_short.ensures ∙ x.if-is_short.false)
 
 pub returns : goal.returns
 unfolding short

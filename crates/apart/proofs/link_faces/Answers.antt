@@ -31,7 +31,7 @@ link_face-requires c =
     let s = k in
     let t = i.loop-i-test.true in
     let e : (l.i - 1) + 1 ≡ l.i = omega (arith, t) in
-    (omega (arith, l.invariant.0, t), s.requires.0, omega (arith, s.requires.1, (cleared k).size, l.invariant.2.size), s.requires.2, subst (λ n. Linked s.args.count (label_at s.args.labels.now) n l.order) (sym e) l.invariant.1)
+    (omega (arith, l.invariant.0, t), s.requires.0, omega (arith, s.requires.1, (cleared k.before.before.before.before).size, l.invariant.2.size), s.requires.2, subst (λ n. Linked s.args.count (label_at s.args.labels.now) n l.order) (sym e) l.invariant.1)
 
 pub loop-i-preserved : goal.loop-i-preserved
 loop-i-preserved c =
@@ -41,7 +41,7 @@ loop-i-preserved c =
     (omega (arith, l.invariant.0, i.loop-i-test.true), f.link_face.ensures.0, past-trans 0 _ _ _ _ l.invariant.2 f.link_face.ensures.1)
 
 pub shape_of-order : goal.shape_of-order
-shape_of-order c = c.loop-i.invariant.2.size ∙ (cleared c.before.before).size
+shape_of-order c = c.loop-i.invariant.2.size ∙ (cleared c.before.before.before).size
 
 pub returns : goal.returns
 returns c =
@@ -49,4 +49,4 @@ returns c =
     let k = c in
     let a = k.args in
     let e : l.i ≡ 0 = omega (arith, c.loop-i-test.false) in
-    (subst (λ n. Linked a.count (label_at a.labels.now) n l.order) e l.invariant.1, past-trans 0 _ _ _ _ (cleared k) l.invariant.2)
+    (subst (λ n. Linked a.count (label_at a.labels.now) n l.order) e l.invariant.1, past-trans 0 _ _ _ _ (cleared k.before.before.before) l.invariant.2)

@@ -31,14 +31,14 @@ ends : (s : At-Start) → let a = s.args in Fine (shown (handed a.sizes.now a.po
 ends s = fine _ s.requires.0
 
 pub prepare-requires : goal.prepare-requires
-prepare-requires c = let s = c in ((fits s).0, (long s).labels, (long s).order, (ends s).work-fits)
+prepare-requires c = let s = c in ((fits s.before.before.before.before.before.before.before.before.before.before.before.before.before.before.before).0, (long s.before.before.before.before.before.before.before.before.before.before.before.before.before.before.before).labels, (long s.before.before.before.before.before.before.before.before.before.before.before.before.before.before.before).order, (ends s.before.before.before.before.before.before.before.before.before.before.before.before.before.before.before).work-fits)
 
 pub all_islands-requires : goal.all_islands-requires
 all_islands-requires c =
     let p = c in
     let s = p in
     let e = p.prepare.ensures in
-    (e.1, (fits s).1, room-first _ _ _ _ (own s) (ends s).answer-fits (ends s).work-fits e.3 (long s))
+    (e.1, (fits s.before.before.before.before.before.before.before.before.before.before.before.before.before.before.before.before.before.before.before.before.before.before.before.before.before.before.before).1, room-first _ _ _ _ (own s) (ends s.before.before.before.before.before.before.before.before.before.before.before.before.before.before.before.before.before.before.before.before.before.before.before.before.before.before.before).answer-fits (ends s.before.before.before.before.before.before.before.before.before.before.before.before.before.before.before.before.before.before.before.before.before.before.before.before.before.before.before).work-fits e.3 (long s.before.before.before.before.before.before.before.before.before.before.before.before.before.before.before.before.before.before.before.before.before.before.before.before.before.before.before))
 
 pub clear_own-requires : goal.clear_own-requires
 clear_own-requires c =
@@ -46,7 +46,7 @@ clear_own-requires c =
     let p = i in
     let s = p in
     let k = i.all_islands.ensures.2 in
-    ((fits s).0.few, p.prepare.ensures.1.long, omega (arith, k.sizes.size, (long s).sizes), omega (arith, k.numbers.size, (long s).numbers), omega (arith, k.frames.size, (long s).frames))
+    ((fits s.before.before.before.before.before.before.before.before.before.before.before.before.before.before.before.before.before.before.before.before.before.before.before.before.before.before.before.before.before.before.before.before.before.before.before.before.before.before.before.before.before.before).0.few, p.prepare.ensures.1.long, omega (arith, k.sizes.size, (long s.before.before.before.before.before.before.before.before.before.before.before.before.before.before.before.before.before.before.before.before.before.before.before.before.before.before.before.before.before.before.before.before.before.before.before.before.before.before.before.before.before.before).sizes), omega (arith, k.numbers.size, (long s.before.before.before.before.before.before.before.before.before.before.before.before.before.before.before.before.before.before.before.before.before.before.before.before.before.before.before.before.before.before.before.before.before.before.before.before.before.before.before.before.before.before).numbers), omega (arith, k.frames.size, (long s.before.before.before.before.before.before.before.before.before.before.before.before.before.before.before.before.before.before.before.before.before.before.before.before.before.before.before.before.before.before.before.before.before.before.before.before.before.before.before.before.before.before).frames))
 
 pub shape_of-labels : goal.shape_of-labels
 shape_of-labels c = c.prepare.auto.labels

@@ -26,59 +26,59 @@ room : (s : At-Start) → columns * rows_of (length s.args.sizes.now) ≤ length
 room s = omega (arith, (known s).work-fits)
 
 pub group_mesh-counts-requires : goal.group_mesh-counts-requires
-group_mesh-counts-requires c = let s = c in ((known s).few, room s)
+group_mesh-counts-requires c = let s = c in ((known s.before.before.before.before.before.before.before.before.before.before).few, room s.before.before.before.before.before.before.before.before.before.before)
 
 pub overflow_mul-n : goal.overflow_mul-n
 overflow_mul-n c =
     let g = c in
     let s = g in
     let n = grouped-fit _ _ _ _ g.group_mesh-counts.ensures in
-    omega (arith, n, (known s).few)
+    omega (arith, n, (known s.before.before.before.before.before.before.before.before.before.before.before.before.before).few)
 
 pub copy_out-requires : goal.copy_out-requires
 copy_out-requires c =
     let g = c in
     let s = g in
     let n = grouped-fit _ _ _ _ g.group_mesh-counts.ensures in
-    (n, omega arith, omega (arith, room s, g.group_mesh-counts.ensures.only.size), omega (arith, n, s.requires.1))
+    (n, omega arith, omega (arith, room s.before.before.before.before.before.before.before.before.before.before.before.before.before.before, g.group_mesh-counts.ensures.only.size), omega (arith, n, s.requires.1))
 
 pub overflow_mul-n-2 : goal.overflow_mul-n-2
 overflow_mul-n-2 c =
     let g = c in
     let s = g in
     let n = grouped-fit _ _ _ _ g.group_mesh-counts.ensures in
-    omega (arith, n, (known s).few)
+    omega (arith, n, (known s.before.before.before.before.before.before.before.before.before.before.before.before.before.before.before.before.before).few)
 
 pub copy_out-requires-2 : goal.copy_out-requires-2
 copy_out-requires-2 c =
     let g = c in
     let s = g in
     let n = grouped-fit _ _ _ _ g.group_mesh-counts.ensures in
-    (n, omega arith, omega (arith, room s, g.group_mesh-counts.ensures.only.size), omega (arith, n, s.requires.2))
+    (n, omega arith, omega (arith, room s.before.before.before.before.before.before.before.before.before.before.before.before.before.before.before.before.before.before, g.group_mesh-counts.ensures.only.size), omega (arith, n, s.requires.2))
 
 pub copy_out-requires-3 : goal.copy_out-requires-3
 copy_out-requires-3 c =
     let g = c in
     let s = g in
     let n = grouped-fit _ _ _ _ g.group_mesh-counts.ensures in
-    (omega (arith, n), omega arith, omega (arith, room s, g.group_mesh-counts.ensures.only.size), omega (arith, n, s.requires.3))
+    (omega (arith, n), omega arith, omega (arith, room s.before.before.before.before.before.before.before.before.before.before.before.before.before.before.before.before.before.before.before.before.before.before, g.group_mesh-counts.ensures.only.size), omega (arith, n, s.requires.3))
 
 pub overflow_mul-sizes : goal.overflow_mul-sizes
-overflow_mul-sizes c = let s = c in omega (arith, (known s).few)
+overflow_mul-sizes c = let s = c in omega (arith, (known s.before.before.before.before.before.before.before.before.before.before.before.before.before.before.before.before.before.before.before.before.before.before.before.before.before.before).few)
 
 pub clear_first-requires : goal.clear_first-requires
 clear_first-requires c =
     let g = c in
     let s = g in
     let n = grouped-fit _ _ _ _ g.group_mesh-counts.ensures in
-    omega (arith, (known s).work-fits, g.group_mesh-counts.ensures.only.size)
+    omega (arith, (known s.before.before.before.before.before.before.before.before.before.before.before.before.before.before.before.before.before.before.before.before.before.before.before.before.before.before).work-fits, g.group_mesh-counts.ensures.only.size)
 
 pub overflow_cast-result : goal.overflow_cast-result
 overflow_cast-result c =
     let g = c in
     let s = g in
     let n = grouped-fit _ _ _ _ g.group_mesh-counts.ensures in
-    omega (arith, n, (known s).few)
+    omega (arith, n, (known s.before.before.before.before.before.before.before.before.before.before.before.before.before.before.before.before.before.before.before.before.before.before.before.before.before.before.before.before.before).few)
 
 pub returns : goal.returns
 returns c =

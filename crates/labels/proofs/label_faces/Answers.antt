@@ -41,7 +41,7 @@ abbrev short : (s : At-Start) → Bool
 short s = ltb (length s.args.labels.now) (length s.args.sizes.now)
 
 -- past the first test the table has no row
-unrefused : (e : At-Else-v-ne0) → table e.before ≡ none
+unrefused : (e : At-Else-v-ne0) → table e.before.before.before.before.before.before.before.before.before ≡ none
 unrefused e =
     let j = e in
     let a = j.args in
@@ -50,7 +50,7 @@ unrefused e =
 -- past the second nothing is refused
 passing : (e : At-Else-labels-sizes) → let s = e in let a = s.args in labels_verdict (handed a.sizes.now a.positions.now a.normals.now a.texture.now) (length a.labels.now) (length a.work.now) ≡ none
 unfolding labels_verdict
-passing e = let s = e in passes (table s) (short s) (unrefused e.before) (le-ltb (length s.args.labels.now) (length s.args.sizes.now) (omega (arith, e.if-labels-sizes.false)))
+passing e = let s = e in passes (table s.before.before.before.before.before.before.before.before.before.before) (short s.before.before.before.before.before.before.before.before.before.before) (unrefused e.before) (le-ltb (length s.args.labels.now) (length s.args.sizes.now) (omega (arith, e.if-labels-sizes.false)))
 
 pub returns-then-v-ne0 : goal.returns-then-v-ne0
 unfolding labels_outcome labels_verdict
@@ -59,7 +59,7 @@ returns-then-v-ne0 c =
     let s = j in
     let e = j.judge-v.ensures in
     ap (λ r. left r s.args.labels.now s.args.work.now) (c.said.ensures ∙ (λ i. record { number = (e i).number; place = (e i).place; islands = 0 }))
-    ∙ refused (table s) (short s) (taken s) s.args.labels.now s.args.work.now (λ q. c.if-v-ne0.true (ap (λ x. x.number) e ∙ q))
+    ∙ refused (table s.before.before.before.before.before.before.before.before.before.before.before) (short s.before.before.before.before.before.before.before.before.before.before.before) (taken s.before.before.before.before.before.before.before.before.before.before.before) s.args.labels.now s.args.work.now (λ q. c.if-v-ne0.true (ap (λ x. x.number) e ∙ q))
 
 pub returns-then-labels-sizes : goal.returns-then-labels-sizes
 unfolding labels_outcome labels_verdict
@@ -67,10 +67,10 @@ returns-then-labels-sizes c =
     let e = c in
     let s = e in
     ap (λ r. left r s.args.labels.now s.args.work.now) c.said-then-labels-sizes.ensures
-    ∙ too_short (table s) (short s) (taken s) s.args.labels.now s.args.work.now (unrefused e) (lt-ltb (length s.args.labels.now) (length s.args.sizes.now) (omega (arith, c.if-labels-sizes.true)))
+    ∙ too_short (table s.before.before.before.before.before.before.before.before.before.before.before.before) (short s.before.before.before.before.before.before.before.before.before.before.before.before) (taken s.before.before.before.before.before.before.before.before.before.before.before.before) s.args.labels.now s.args.work.now (unrefused e.before.before.before) (lt-ltb (length s.args.labels.now) (length s.args.sizes.now) (omega (arith, c.if-labels-sizes.true)))
 
 pub number_faces-islands-requires : goal.number_faces-islands-requires
-number_faces-islands-requires c = let e = c in passing e
+number_faces-islands-requires c = let e = c in passing e.before.before.before
 
 pub returns : goal.returns
 unfolding labels_outcome answered
@@ -78,4 +78,4 @@ returns c =
     let n = c in
     let e = n in
     let s = e in
-    left-same _ _ _ _ c.said-2.ensures ∙ (n.number_faces-islands.ensures ∙ ap (λ o. answered o (taken s) s.args.labels.now s.args.work.now) (sym (passing e)))
+    left-same _ _ _ _ c.said-2.ensures ∙ (n.number_faces-islands.ensures ∙ ap (λ o. answered o (taken s.before.before.before.before.before.before.before.before.before.before.before.before.before.before.before.before.before.before.before) s.args.labels.now s.args.work.now) (sym (passing e.before.before.before.before.before.before.before.before.before)))

@@ -29,18 +29,18 @@ known s =
     (f.few, p.1, f.work-fits)
 
 pub label-requires : goal.label-requires
-label-requires c = let k = known c.before.before.before.before.before.before.before.before in (k.0, k.1, omega (arith, k.2))
+label-requires c = let k = known c.before.before.before.before.before.before.before.before.before in (k.0, k.1, omega (arith, k.2))
 
 pub overflow_mul-sizes : goal.overflow_mul-sizes
-overflow_mul-sizes c = let k = known c.before.before.before.before.before in omega (arith, k.0)
+overflow_mul-sizes c = let k = known c.before.before.before.before.before.before.before.before.before.before.before.before.before.before.before in omega (arith, k.0)
 
 pub clear_first-requires : goal.clear_first-requires
-clear_first-requires c = let e = c in let k = known e in omega (arith, k.2, e.label.ensures.1)
+clear_first-requires c = let e = c in let k = known e.before.before.before.before.before.before.before.before.before.before.before.before.before.before.before in omega (arith, k.2, e.label.ensures.1)
 
 pub count_islands-requires : goal.count_islands-requires
 count_islands-requires c =
     let e = c in
-    let k = known e in
+    let k = known e.before.before.before.before.before.before.before.before.before.before.before.before.before.before.before.before.before.before in
     (omega (arith, labels_length _ _ _ k.1 e.label.ensures.0), k.0)
 
 pub returns : goal.returns

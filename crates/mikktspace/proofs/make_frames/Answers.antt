@@ -51,7 +51,7 @@ finish_frames-requires c =
     let s = g in
     let L = g.group_mesh-counts.ensures in
     let R = counts-fit (mesh s.before.before.before.before.before.before.before.before.before.before.before.before.before.before.before.before.before.before) _ s.args.work.now _ L in
-    (omega arith, refl, R.0, R.1, L.few, L.small, omega (arith, room s.before.before.before.before.before.before.before.before.before.before.before.before.before.before.before.before.before.before, L.only.size), all-ranged (mesh s.before.before.before.before.before.before.before.before.before.before.before.before.before.before.before.before.before.before) _ s.args.work.now _ L (known s.before.before.before.before.before.before.before.before.before.before.before.before.before.before.before.before.before.before).well_formed (room s.before.before.before.before.before.before.before.before.before.before.before.before.before.before.before.before.before.before))
+    (omega arith, refl, R.0, R.1, L.few, L.small, omega (arith, room s.before.before.before.before.before.before.before.before.before.before.before.before.before.before.before.before.before.before, L.only.size), all-ranged (mesh s.before.before.before.before.before.before.before.before.before.before.before.before.before.before.before.before.before.before) _ s.args.work.now _ L (known s.before.before.before.before.before.before.before.before.before.before.before.before.before.before.before.before.before.before).good (room s.before.before.before.before.before.before.before.before.before.before.before.before.before.before.before.before.before.before))
 
 pub overflow_mul-sizes : goal.overflow_mul-sizes
 overflow_mul-sizes c = omega (arith, (known c.before.before.before.before.before.before.before.before.before.before.before.before.before.before.before.before.before.before.before.before.before.before.before.before).few)
@@ -80,6 +80,6 @@ returns c =
     let L = g.group_mesh-counts.ensures in
     let slots = all_slots a.sizes.now _ (known s.before.before.before.before.before.before.before.before.before.before.before.before.before.before.before.before.before.before.before.before.before.before.before.before.before.before.before).few n.slots_before-slots.ensures.0 in
     let first = cleared-to _ (slot_words * slot_count a.sizes.now) a.answer.now _ q.clear_first.ensures (omega (arith, slots)) in
-    let answer = answered (mesh s.before.before.before.before.before.before.before.before.before.before.before.before.before.before.before.before.before.before.before.before.before.before.before.before.before.before.before) _ a.work.now _ L (known s.before.before.before.before.before.before.before.before.before.before.before.before.before.before.before.before.before.before.before.before.before.before.before.before.before.before.before).well_formed a.threshold a.answer.now _ _ _ first f.finish_frames.ensures in
-    let work = cleared (mesh s) _ a.work.now _ L (known s.before.before.before.before.before.before.before.before.before.before.before.before.before.before.before.before.before.before.before.before.before.before.before.before.before.before.before).well_formed a.threshold a.answer.now _ _ _ first f.finish_frames.ensures _ (cleared-to _ (work_words * length a.sizes.now) _ _ y.clear_first-2.ensures (omega arith)) in
+    let answer = answered (mesh s.before.before.before.before.before.before.before.before.before.before.before.before.before.before.before.before.before.before.before.before.before.before.before.before.before.before.before) _ a.work.now _ L (known s.before.before.before.before.before.before.before.before.before.before.before.before.before.before.before.before.before.before.before.before.before.before.before.before.before.before.before).good a.threshold a.answer.now _ _ _ first f.finish_frames.ensures in
+    let work = cleared (mesh s.before.before.before.before.before.before.before.before.before.before.before.before.before.before.before.before.before.before.before.before.before.before.before.before.before.before.before) _ a.work.now _ L (known s.before.before.before.before.before.before.before.before.before.before.before.before.before.before.before.before.before.before.before.before.before.before.before.before.before.before.before).good a.threshold a.answer.now _ _ _ first f.finish_frames.ensures _ (cleared-to _ (work_words * length a.sizes.now) _ _ y.clear_first-2.ensures (omega arith)) in
     λ i. record { number = 0; place = 0; slots = slots i; answer = answer i; work = work i }
