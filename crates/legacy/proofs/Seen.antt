@@ -42,7 +42,7 @@ first_is p [] z = missing (λ k h. absurd (omega arith))
 first_is p (s ∷ l) z = go (p s) refl (first p l) (first_is p l z)
   where
     later : (o : Option Spot) → p s ≡ false → FirstIs p l z o → FirstIs p (s ∷ l) z o
-    later o e (missing f) = missing (λ k. elim k [ zero ↦ (λ h. e) | suc j ↦ (λ h. f j (omega (arith, h))) ])
+    later o e (missing f) = missing (λ k. elim k as (λ (i : ℕ). i < length (s ∷ l) → p (get_or (s ∷ l) i z) ≡ false) [ zero ↦ (λ h. e) | suc j ↦ (λ h. f j (omega (arith, h))) ])
     later o e (found k h q) = found (suc k) (omega (arith, h)) q
 
     go : (b : Bool) → p s ≡ b → (o : Option Spot) → FirstIs p l z o → FirstIs p (s ∷ l) z (cond b (some s) o)

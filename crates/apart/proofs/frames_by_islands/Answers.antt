@@ -22,7 +22,7 @@ At-Else-v-ne0 = lts.Else1 tie.the-claims reads.Pre reads.Post
 
 -- the lists of its own that are lent
 abbrev own : At-Start → Own
-own s = let a = s.args in lists a.labels.now a.order.now a.own-sizes.now a.own-numbers.now a.own-frames.now
+own s = let a = s.args in lists a.labels.now a.order.now a.own_sizes.now a.own_numbers.now a.own_frames.now
 
 -- past the first test there is no refusal of the table
 accepted : (c : At-Else-v-ne0) → let a = c.args in verdict (shown (handed a.sizes.now a.positions.now a.normals.now a.texture.now) a.threshold (length a.answer.now) (length a.work.now)) ≡ none
@@ -37,7 +37,7 @@ returns-then-v-ne0 c =
     let s = j in
     let a = s.args in
     let e = j.judge-v.ensures in
-    table-leaves (handed a.sizes.now a.positions.now a.normals.now a.texture.now) a.threshold a.answer.now a.work.now (own s) _ (c.said.ensures ∙ (λ i. record { number = (e i).number; place = (e i).place; slots = 0 })) (λ q. let n = ap (λ x. x.number) e in omega (arith, n, q, c.if-v-ne0.true))
+    table-leaves (handed a.sizes.now a.positions.now a.normals.now a.texture.now) a.threshold a.answer.now a.work.now (own s.before.before.before.before.before.before.before.before.before.before.before.before.before.before.before.before) _ (c.said.ensures ∙ (λ i. record { number = (e i).number; place = (e i).place; slots = 0 })) (λ q. let n = ap (λ x. x.number) e in omega (arith, n, q, c.if-v-ne0.true))
 
 pub is_short-requires : goal.is_short-requires
 is_short-requires c = (fine _ (accepted c.before)).few
@@ -49,7 +49,7 @@ returns-then-is_short c =
     let j = i in
     let s = j in
     let a = s.args in
-    nine-leaves (handed a.sizes.now a.positions.now a.normals.now a.texture.now) a.threshold a.answer.now a.work.now (own s) _ c.said-then-is_short.ensures (accepted j) (sym i.is_short.ensures ∙ c.if-is_short.true)
+    nine-leaves (handed a.sizes.now a.positions.now a.normals.now a.texture.now) a.threshold a.answer.now a.work.now (own s.before.before.before.before.before.before.before.before.before.before.before.before.before.before.before.before.before.before) _ c.said-then-is_short.ensures (accepted j.before.before.before.before) (sym i.is_short.ensures ∙ c.if-is_short.true)
 
 pub make_frames-slots-requires : goal.make_frames-slots-requires
 unfolding short
@@ -67,4 +67,4 @@ returns c =
     let j = i in
     let s = j in
     let a = s.args in
-    leaving-same _ _ _ _ _ c.said-2.ensures ∙ m.make_frames-slots.ensures ∙ taken-leaves (handed a.sizes.now a.positions.now a.normals.now a.texture.now) a.threshold a.answer.now a.work.now (own s) (accepted j) (sym i.is_short.ensures ∙ x.if-is_short.false)
+    leaving-same _ _ _ _ _ c.said-2.ensures ∙ m.make_frames-slots.ensures ∙ taken-leaves (handed a.sizes.now a.positions.now a.normals.now a.texture.now) a.threshold a.answer.now a.work.now (own s.before.before.before.before.before.before.before.before.before.before.before.before.before.before.before.before.before.before.before.before.before.before.before.before.before.before.before.before.before.before.before.before.before.before.before.before.before.before.before.before) (accepted j.before.before.before.before.before.before.before.before.before.before.before.before.before.before.before.before.before.before.before.before.before.before.before.before.before.before) (sym i.is_short.ensures ∙ x.if-is_short.false)

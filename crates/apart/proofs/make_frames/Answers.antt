@@ -19,7 +19,7 @@ At-Start = lts.Start tie.the-claims reads.Pre reads.Post
 
 -- the lists of its own that are lent
 abbrev own : At-Start → Own
-own s = let a = s.args in lists a.labels.now a.order.now a.own-sizes.now a.own-numbers.now a.own-frames.now
+own s = let a = s.args in lists a.labels.now a.order.now a.own_sizes.now a.own_numbers.now a.own_frames.now
 
 long : (s : At-Start) → Long (length s.args.sizes.now) (own s)
 long s = long-enough (length s.args.sizes.now) (own s) s.requires.1
@@ -38,7 +38,7 @@ all_islands-requires c =
     let p = c in
     let s = p in
     let e = p.prepare.ensures in
-    (e.1, (fits s.before.before.before.before.before.before.before.before.before.before.before.before.before.before.before.before.before.before.before.before.before.before.before.before.before.before.before).1, room-first _ _ _ _ (own s) (ends s.before.before.before.before.before.before.before.before.before.before.before.before.before.before.before.before.before.before.before.before.before.before.before.before.before.before.before).answer-fits (ends s.before.before.before.before.before.before.before.before.before.before.before.before.before.before.before.before.before.before.before.before.before.before.before.before.before.before.before).work-fits e.3 (long s.before.before.before.before.before.before.before.before.before.before.before.before.before.before.before.before.before.before.before.before.before.before.before.before.before.before.before))
+    (e.1, (fits s.before.before.before.before.before.before.before.before.before.before.before.before.before.before.before.before.before.before.before.before.before.before.before.before.before.before.before).1, room-first _ _ _ _ (own s.before.before.before.before.before.before.before.before.before.before.before.before.before.before.before.before.before.before.before.before.before.before.before.before.before.before.before) (ends s.before.before.before.before.before.before.before.before.before.before.before.before.before.before.before.before.before.before.before.before.before.before.before.before.before.before.before).answer-fits (ends s.before.before.before.before.before.before.before.before.before.before.before.before.before.before.before.before.before.before.before.before.before.before.before.before.before.before.before).work-fits e.3 (long s.before.before.before.before.before.before.before.before.before.before.before.before.before.before.before.before.before.before.before.before.before.before.before.before.before.before.before))
 
 pub clear_own-requires : goal.clear_own-requires
 clear_own-requires c =
@@ -61,5 +61,5 @@ returns c =
     let e = p.prepare.ensures in
     let f = i.all_islands.ensures in
     let g = o.clear_own.ensures in
-    accepted-leaves (handed a.sizes.now a.positions.now a.normals.now a.texture.now) a.threshold a.answer.now a.work.now (own s) (ends s).answer-fits (long s)
-    _ _ _ _ _ _ _ _ _ _ _ _ _ (fits s).0.few c.slots_before.ensures.0 e.0 e.1 e.2 e.3 f.0 f.1 f.2 g.0 g.1 g.2 g.3
+    accepted-leaves (handed a.sizes.now a.positions.now a.normals.now a.texture.now) a.threshold a.answer.now a.work.now (own s.before.before.before.before.before.before.before.before.before.before.before.before.before.before.before.before.before.before.before.before.before.before.before.before.before.before.before.before.before.before.before.before.before.before.before.before.before.before.before.before.before.before.before.before.before.before.before.before.before.before.before.before) (ends s.before.before.before.before.before.before.before.before.before.before.before.before.before.before.before.before.before.before.before.before.before.before.before.before.before.before.before.before.before.before.before.before.before.before.before.before.before.before.before.before.before.before.before.before.before.before.before.before.before.before.before.before).answer-fits (long s.before.before.before.before.before.before.before.before.before.before.before.before.before.before.before.before.before.before.before.before.before.before.before.before.before.before.before.before.before.before.before.before.before.before.before.before.before.before.before.before.before.before.before.before.before.before.before.before.before.before.before.before)
+    _ _ _ _ _ _ _ _ _ _ _ _ _ (fits s.before.before.before.before.before.before.before.before.before.before.before.before.before.before.before.before.before.before.before.before.before.before.before.before.before.before.before.before.before.before.before.before.before.before.before.before.before.before.before.before.before.before.before.before.before.before.before.before.before.before.before.before).0.few c.slots_before.ensures.0 e.0 e.1 e.2 e.3 f.0 f.1 f.2 g.0 g.1 g.2 g.3

@@ -38,7 +38,7 @@ examine_all-o-requires c =
     let s = m in
     let t = s.args in
     let K = m.link_mesh-counts.ensures in
-    (linked-fit _ _ _ _ _ K, omega (arith, room s.before.before.before.before.before.before.before.before.before.before.before.before.before.before, K.only.size), omega (arith, (known s.before.before.before.before.before.before.before.before.before.before.before.before.before.before).few), sharp-left (handed t.sizes.now t.positions.now t.normals.now t.texture.now) (some-triangle (corner_at t.positions.now t.normals.now t.texture.now 0)) _ _ t.work.now _ K (known s.before.before.before.before.before.before.before.before.before.before.before.before.before.before).well_formed)
+    (linked-fit _ _ _ _ _ K, omega (arith, room s.before.before.before.before.before.before.before.before.before.before.before.before.before.before, K.only.size), omega (arith, (known s.before.before.before.before.before.before.before.before.before.before.before.before.before.before).few), sharp-left (handed t.sizes.now t.positions.now t.normals.now t.texture.now) (some-triangle (corner_at t.positions.now t.normals.now t.texture.now 0)) _ _ t.work.now _ K (known s.before.before.before.before.before.before.before.before.before.before.before.before.before.before).good)
 
 pub overflow_mul-sizes : goal.overflow_mul-sizes
 overflow_mul-sizes c =
@@ -61,4 +61,4 @@ returns c =
     let t = s.args in
     let K = m.link_mesh-counts.ensures in
     let r = e.examine_all-o.ensures in
-    record { decides = decides (handed t.sizes.now t.positions.now t.normals.now t.texture.now) _ _ t.work.now _ t.given.now t.groups.now t.ways.now _ _ K (known s.before.before.before.before.before.before.before.before.before.before.before.before.before.before.before.before.before.before.before.before.before).well_formed r.verdict; clears = cleared t.sizes.now t.work.now _ _ (r.only.rest ∙ K.only.rest) y.clear_first.ensures }
+    record { decides = decides (handed t.sizes.now t.positions.now t.normals.now t.texture.now) _ _ t.work.now _ t.given.now t.groups.now t.ways.now _ _ K (known s.before.before.before.before.before.before.before.before.before.before.before.before.before.before.before.before.before.before.before.before.before).good r.verdict; clears = cleared t.sizes.now t.work.now _ _ (r.only.rest ∙ K.only.rest) y.clear_first.ensures }
