@@ -51,7 +51,7 @@ use Rattle.examine.proofs.Results.{long-enough}
 use Rattle.promises.specs.OwnColumns.{Promised}
 use Rattle.promises.specs.Examiner.{Asking, Asked, Fetched, sound_in, Sound, Objects, Refused, Examiner, AboutOwn, OwnAccepted}
 use Rattle.promises.proofs.OwnColumns.{own_columns, welded-words, any-words}
-use Rattle.promises.proofs.OwnLists.{own-links, own-groups}
+use Rattle.promises.proofs.ListsOwned.{own-links, own-groups}
 
 -- ---- the desk
 

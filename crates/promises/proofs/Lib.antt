@@ -10,7 +10,7 @@ pub mod OwnLinks
 pub mod OwnColumns
 pub mod Moments
 pub mod FourFunctions
-pub mod OwnLists
+pub mod ListsOwned
 pub mod TwoWalks
 pub mod NarrowAngles
 pub mod Cosines

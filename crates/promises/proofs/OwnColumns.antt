@@ -207,6 +207,8 @@ module _ (rows : ℕ) (ss : List Triangle) (d : Triangle) (groups : ℕ) (w : Li
 
   -- an element of the first j is one of them by its place
   early : (l : List Mark) (j : ℕ) (k : Mark) → j ≤ length l → Memᴰ k (take j l) → (p : ℕ) × (p < j) × (get_or l p e₀ ≡ k)
+  early [] zero k h m = elim m [ ]
+  early (x ∷ l) zero k h m = elim m [ ]
   early [] (suc j) k h m = absurd (omega arith)
   early (x ∷ l) (suc j) k h (Memᴰ.head e) = (0, omega arith, sym e)
   early (x ∷ l) (suc j) k h (Memᴰ.tail m) = let r = early l j k (omega arith) m in (suc r.0, omega (arith, r.1), r.2)
