@@ -1,6 +1,11 @@
 // A card file in a walk round the tank: appended to block by block, cut at awkward lengths, read, and appended to until it is whole. Prints what it found.
 #![tactic(auto)]
-use libc::STDOUT_FILENO;
+
+ghost use Rattle.std.specs.Io.{ReadsAtMost};
+
+use std::fs::{File, OpenOptions};
+use std::io;
+use std::os::unix::fs::FileExt;
 
 // Three blocks, the last of them part full.
 const RECORDS: u32 = 29;
@@ -35,82 +40,82 @@ fn fill(list: &mut [u32]) {
 }
 
 // The file's bytes, and how many they are.
-fn read_file(fd: i32, bytes: &mut [u8]) -> usize {
-    let got = libc::pread(fd, bytes, 0);
-    io::count(got, bytes)
+fn read_file(file: &File, bytes: &mut [u8]) -> io::Result<usize>
+    ensures { ReadsAtMost result bytes.new }
+{
+    file.read_at(bytes, 0)
 }
 
 // A block's bytes into the file.
-fn put(fd: i32, bytes: &[u8], at: usize) {
+fn put(file: &File, bytes: &[u8], at: usize) -> io::Result<()> {
     if bytes.len() < blocks::BLOCK_BYTES {
-        return;
+        return Ok(());
     }
     if LAST_PLACE < at {
-        return;
+        return Ok(());
     }
-    let end = blocks::BLOCK_BYTES;
-    libc::pwrite(fd, &bytes[..end], at as i64);
+    file.write_all_at(&bytes[..blocks::BLOCK_BYTES], at as u64)
 }
 
 // The records of the next block, appended at the torn one.
-fn append_one(fd: i32, list: &[u32], bytes: &mut [u8]) {
-    let long = read_file(fd, bytes);
+fn append_one(file: &File, list: &[u32], bytes: &mut [u8]) -> io::Result<()> {
+    let long = read_file(file, bytes)?;
     let next = appends::next_block(long, RECORDS);
     // the remainders change nothing on a card of three blocks; they bound what is cut out of the list
     let from = next.at % PLACES / blocks::BLOCK_BYTES * blocks::ROOM_WORDS;
     let to = from + blocks::TWELVE_WORDS * (next.records % COUNTS) as usize;
     if list.len() < to {
-        return;
+        return Ok(());
     }
     let added = appends::append(long, RECORDS, &list[from..to], bytes);
     if added.number == 0 {
-        put(fd, bytes, added.at);
+        put(file, bytes, added.at)?;
     }
+    Ok(())
 }
 
-fn append_all(fd: i32, list: &[u32], bytes: &mut [u8]) {
-    append_one(fd, list, bytes);
-    append_one(fd, list, bytes);
-    append_one(fd, list, bytes);
+fn append_all(file: &File, list: &[u32], bytes: &mut [u8]) -> io::Result<()> {
+    append_one(file, list, bytes)?;
+    append_one(file, list, bytes)?;
+    append_one(file, list, bytes)
 }
 
 // P for a present record, A for an absent one, L for a lost one.
-fn letter(mark: u32) -> u8 {
+fn letter(mark: u32) -> char {
     match mark {
-        0 => b'A',
-        1 => b'P',
-        2 => b'L',
-        _ => b'?',
+        0 => 'A',
+        1 => 'P',
+        2 => 'L',
+        _ => '?',
     }
 }
 
-fn print_letters(answer: &[u32]) {
+fn print_letters(rt: &impl Print, answer: &[u32]) -> io::Result<()> {
     for r in 0..RECORDS as usize {
         if blocks::TWELVE_WORDS * r < answer.len() {
-            io::write_all(STDOUT_FILENO, &[letter(answer[blocks::TWELVE_WORDS * r])]);
+            let mark = letter(answer[blocks::TWELVE_WORDS * r]);
+            print!(rt; "{mark}")?;
         }
     }
+    Ok(())
 }
 
 // What the reader finds in so many bytes.
-fn find(bytes: &[u8], n: usize, answer: &mut [u32]) {
+fn find(rt: &impl Print, bytes: &[u8], n: usize, answer: &mut [u32]) -> io::Result<()> {
     if bytes.len() < n {
-        return;
+        return Ok(());
     }
     let found = cards::read(&bytes[..n], RECORDS, answer);
-    io::print_decimal(STDOUT_FILENO, n as u64);
-    io::write_all(STDOUT_FILENO, b" bytes: ");
-    print_letters(answer);
-    io::write_all(STDOUT_FILENO, b", torn ");
-    io::print_decimal(STDOUT_FILENO, found.past as u64);
-    io::write_all(STDOUT_FILENO, b"\n");
+    print!(rt; "{n} bytes: ")?;
+    print_letters(rt, answer)?;
+    println!(rt; ", torn {}", found.past)
 }
 
 // What is in the file, and how many bytes.
-fn report(fd: i32, bytes: &mut [u8], answer: &mut [u32]) -> usize {
-    let n = read_file(fd, bytes);
-    find(bytes, n, answer);
-    n
+fn report(rt: &impl Print, file: &File, bytes: &mut [u8], answer: &mut [u32]) -> io::Result<usize> {
+    let n = read_file(file, bytes)?;
+    find(rt, bytes, n, answer)?;
+    Ok(n)
 }
 
 // Whether the first n bytes are the beginning of a run without a cut.
@@ -130,96 +135,154 @@ fn begins(whole: &[u8], bytes: &[u8], n: usize) -> bool {
 }
 
 // What is in the file, and whether those are the bytes of a run without a cut, all of them or its beginning.
-fn compare(fd: i32, whole: &[u8], bytes: &mut [u8], answer: &mut [u32]) {
-    let n = report(fd, bytes, answer);
+fn compare(
+    rt: &impl Print,
+    file: &File,
+    whole: &[u8],
+    bytes: &mut [u8],
+    answer: &mut [u32],
+) -> io::Result<()> {
+    let n = report(rt, file, bytes, answer)?;
     if !begins(whole, bytes, n) {
-        io::write_all(STDOUT_FILENO, b"OTHER BYTES\n");
-        return;
+        return println!(rt; "OTHER BYTES");
     }
     if n == whole.len() {
-        io::write_all(STDOUT_FILENO, b"the bytes of a run without the cut\n");
+        println!(rt; "the bytes of a run without the cut")
     } else {
-        io::write_all(STDOUT_FILENO, b"the beginning of a run without the cut\n");
+        println!(rt; "the beginning of a run without the cut")
     }
 }
 
 // The file cut, and read.
-fn cut(fd: i32, long: i64, whole: &[u8], bytes: &mut [u8], answer: &mut [u32]) {
-    libc::ftruncate(fd, long);
-    compare(fd, whole, bytes, answer);
+fn cut(
+    rt: &impl Print,
+    file: &File,
+    long: u64,
+    whole: &[u8],
+    bytes: &mut [u8],
+    answer: &mut [u32],
+) -> io::Result<()> {
+    file.set_len(long)?;
+    compare(rt, file, whole, bytes, answer)
 }
 
 // The file cut, read, appended to until it is whole, and read again.
-fn turn(fd: i32, long: i64, list: &[u32], whole: &[u8], bytes: &mut [u8], answer: &mut [u32]) {
-    cut(fd, long, whole, bytes, answer);
-    append_all(fd, list, bytes);
-    compare(fd, whole, bytes, answer);
+fn turn(
+    rt: &impl Print,
+    file: &File,
+    long: u64,
+    list: &[u32],
+    whole: &[u8],
+    bytes: &mut [u8],
+    answer: &mut [u32],
+) -> io::Result<()> {
+    cut(rt, file, long, whole, bytes, answer)?;
+    append_all(file, list, bytes)?;
+    compare(rt, file, whole, bytes, answer)
 }
 
 // The same with one block appended.
-fn step(fd: i32, long: i64, list: &[u32], whole: &[u8], bytes: &mut [u8], answer: &mut [u32]) {
-    cut(fd, long, whole, bytes, answer);
-    append_one(fd, list, bytes);
-    compare(fd, whole, bytes, answer);
+fn step(
+    rt: &impl Print,
+    file: &File,
+    long: u64,
+    list: &[u32],
+    whole: &[u8],
+    bytes: &mut [u8],
+    answer: &mut [u32],
+) -> io::Result<()> {
+    cut(rt, file, long, whole, bytes, answer)?;
+    append_one(file, list, bytes)?;
+    compare(rt, file, whole, bytes, answer)
 }
 
 // In the first block: nothing, one byte, the middle of the sum, all but one byte.
-fn first_block(fd: i32, list: &[u32], whole: &[u8], bytes: &mut [u8], answer: &mut [u32]) {
-    turn(fd, 0, list, whole, bytes, answer);
-    turn(fd, 1, list, whole, bytes, answer);
-    turn(fd, 510, list, whole, bytes, answer);
-    turn(fd, 511, list, whole, bytes, answer);
+fn first_block(
+    rt: &impl Print,
+    file: &File,
+    list: &[u32],
+    whole: &[u8],
+    bytes: &mut [u8],
+    answer: &mut [u32],
+) -> io::Result<()> {
+    turn(rt, file, 0, list, whole, bytes, answer)?;
+    turn(rt, file, 1, list, whole, bytes, answer)?;
+    turn(rt, file, 510, list, whole, bytes, answer)?;
+    turn(rt, file, 511, list, whole, bytes, answer)
 }
 
 // The first block whole, one byte more, and the middle of the second sum.
-fn second_block(fd: i32, list: &[u32], whole: &[u8], bytes: &mut [u8], answer: &mut [u32]) {
-    turn(fd, 512, list, whole, bytes, answer);
-    turn(fd, 513, list, whole, bytes, answer);
-    turn(fd, 1022, list, whole, bytes, answer);
+fn second_block(
+    rt: &impl Print,
+    file: &File,
+    list: &[u32],
+    whole: &[u8],
+    bytes: &mut [u8],
+    answer: &mut [u32],
+) -> io::Result<()> {
+    turn(rt, file, 512, list, whole, bytes, answer)?;
+    turn(rt, file, 513, list, whole, bytes, answer)?;
+    turn(rt, file, 1022, list, whole, bytes, answer)
 }
 
 // Two blocks, all but one byte, and no cut.
-fn third_block(fd: i32, list: &[u32], whole: &[u8], bytes: &mut [u8], answer: &mut [u32]) {
-    turn(fd, 1024, list, whole, bytes, answer);
-    turn(fd, 1535, list, whole, bytes, answer);
-    turn(fd, 1536, list, whole, bytes, answer);
+fn third_block(
+    rt: &impl Print,
+    file: &File,
+    list: &[u32],
+    whole: &[u8],
+    bytes: &mut [u8],
+    answer: &mut [u32],
+) -> io::Result<()> {
+    turn(rt, file, 1024, list, whole, bytes, answer)?;
+    turn(rt, file, 1535, list, whole, bytes, answer)?;
+    turn(rt, file, 1536, list, whole, bytes, answer)
 }
 
 // One cut after another, and a block appended between: the third, the second, and then all three.
-fn many_cuts(fd: i32, list: &[u32], whole: &[u8], bytes: &mut [u8], answer: &mut [u32]) {
-    step(fd, 1100, list, whole, bytes, answer);
-    step(fd, 900, list, whole, bytes, answer);
-    turn(fd, 3, list, whole, bytes, answer);
+fn many_cuts(
+    rt: &impl Print,
+    file: &File,
+    list: &[u32],
+    whole: &[u8],
+    bytes: &mut [u8],
+    answer: &mut [u32],
+) -> io::Result<()> {
+    step(rt, file, 1100, list, whole, bytes, answer)?;
+    step(rt, file, 900, list, whole, bytes, answer)?;
+    turn(rt, file, 3, list, whole, bytes, answer)
 }
 
-fn all_cuts(fd: i32, list: &[u32], whole: &[u8], bytes: &mut [u8], answer: &mut [u32]) {
-    first_block(fd, list, whole, bytes, answer);
-    second_block(fd, list, whole, bytes, answer);
-    third_block(fd, list, whole, bytes, answer);
-    many_cuts(fd, list, whole, bytes, answer);
+fn all_cuts(
+    rt: &impl Print,
+    file: &File,
+    list: &[u32],
+    whole: &[u8],
+    bytes: &mut [u8],
+    answer: &mut [u32],
+) -> io::Result<()> {
+    first_block(rt, file, list, whole, bytes, answer)?;
+    second_block(rt, file, list, whole, bytes, answer)?;
+    third_block(rt, file, list, whole, bytes, answer)?;
+    many_cuts(rt, file, list, whole, bytes, answer)
 }
 
 // A run without a cut, and then the cuts.
-fn walk(fd: i32) {
+fn walk(rt: &impl Print, file: &File) -> io::Result<()> {
     let mut list = [0u32; LIST_WORDS];
     let mut answer = [0u32; LIST_WORDS];
     let mut bytes = [0u8; CARD_BYTES + blocks::BLOCK_BYTES];
     let mut whole = [0u8; CARD_BYTES];
     fill(&mut list);
-    append_all(fd, &list, &mut bytes);
+    append_all(file, &list, &mut bytes)?;
     cards::write(&list, &mut whole);
-    compare(fd, &whole, &mut bytes, &mut answer);
-    all_cuts(fd, &list, &whole, &mut bytes, &mut answer);
+    compare(rt, file, &whole, &mut bytes, &mut answer)?;
+    all_cuts(rt, file, &list, &whole, &mut bytes, &mut answer)
 }
 
-fn main() {
-    let path = b"card";
-    libc::close(os::open_overwrite(path));
-    let fd = os::open_update(path);
-    if fd < 0 {
-        os::fail(path);
-        return;
-    }
-    walk(fd);
-    libc::close(fd);
+fn main(rt: HostRuntime) -> io::Result<()> {
+    let mut options = OpenOptions::new();
+    options.read(true).write(true).create(true).truncate(true);
+    let file = options.open(&rt, "card")?;
+    walk(&rt, &file)
 }

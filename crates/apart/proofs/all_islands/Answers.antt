@@ -9,26 +9,21 @@ use Rattle.apart.proofs.Whole.{below_none, below_more, kept-none, kept_trans, ro
 use Rattle.apart.proofs.all_islands.Goals as goal
 
 pub loop-t-init : goal.loop-t-init
-loop-t-init c = let s = c in (omega arith, below_none _ _ _ s.requires.0 _, refl, kept-none _ _ _ _)
+loop-t-init c = (omega arith, below_none _ _ _ c.requires.0 _, refl, kept-none _ _ _ _)
 
 pub one_island-requires : goal.one_island-requires
 one_island-requires c =
-    let i = c in
-    let v = i.loop-t.invariant in
-    let s = i in
-    (omega (arith, i.loop-t-test.true), s.requires.0, s.requires.1, room-kept _ _ _ _ _ _ _ _ _ _ _ v.1.past.size v.2 v.3 s.requires.2)
+    let v = c.loop-t.invariant in
+    (omega (arith, c.loop-t-test.true), c.requires.0, c.requires.1, room-kept _ _ _ _ _ _ _ _ _ _ _ v.1.past.size v.2 v.3 c.requires.2)
 
 pub loop-t-smaller : goal.loop-t-smaller
-loop-t-smaller c = let i = c in omega (arith, i.loop-t-test.true)
+loop-t-smaller c = omega (arith, c.loop-t-test.true)
 
 pub loop-t-preserved : goal.loop-t-preserved
 loop-t-preserved c =
-    let o = c in
-    let i = o in
-    let v = i.loop-t.invariant in
-    let s = i in
-    let e = o.one_island.ensures in
-    (omega (arith, i.loop-t-test.true), below_more _ _ _ s.requires.0 _ _ _ _ v.1 e.0, e.1 ∙ v.2, kept_trans _ _ _ _ _ _ _ _ _ _ v.3 e.2)
+    let v = c.loop-t.invariant in
+    let e = c.one_island.ensures in
+    (omega (arith, c.loop-t-test.true), below_more _ _ _ c.requires.0 _ _ _ _ v.1 e.0, e.1 ∙ v.2, kept_trans _ _ _ _ _ _ _ _ _ _ v.3 e.2)
 
 pub shape_of-own_sizes : goal.shape_of-own_sizes
 shape_of-own_sizes c = let v = c.loop-t.invariant in v.3.sizes.size

@@ -11,12 +11,11 @@ pub loop-j-init : goal.loop-j-init
 loop-j-init c = (omega arith, copied_none 0 _ _ _ _)
 
 pub bounds-ys-start : goal.bounds-ys-start
-bounds-ys-start c = let i = c in omega (arith, i.loop-j.invariant.1.size, i.loop-j-test.true, i.requires.1)
+bounds-ys-start c = omega (arith, c.loop-j.invariant.1.size, c.loop-j-test.true, c.requires.1)
 
 pub loop-j-preserved : goal.loop-j-preserved
 loop-j-preserved c =
-    let i = c in
-    (omega (arith, i.loop-j-test.true), copied_more 0 _ _ _ _ _ _ (omega (arith, i.loop-j-test.true, i.requires.1)) i.loop-j.invariant.1)
+    (omega (arith, c.loop-j-test.true), copied_more 0 _ _ _ _ _ _ (omega (arith, c.loop-j-test.true, c.requires.1)) c.loop-j.invariant.1)
 
 pub shape_of-ys : goal.shape_of-ys
 shape_of-ys c = c.loop-j.invariant.1.size

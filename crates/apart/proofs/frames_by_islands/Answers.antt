@@ -27,17 +27,14 @@ own s = let a = s.args in lists a.labels.now a.order.now a.own_sizes.now a.own_n
 -- past the first test there is no refusal of the table
 accepted : (c : At-Else-v-ne0) → let a = c.args in verdict (shown (handed a.sizes.now a.positions.now a.normals.now a.texture.now) a.threshold (length a.answer.now) (length a.work.now)) ≡ none
 accepted c =
-    let j = c in
-    let a = j.args in
-    no-refusal (shown (handed a.sizes.now a.positions.now a.normals.now a.texture.now) a.threshold (length a.answer.now) (length a.work.now)) (let e = ap (λ x. x.number) j.judge-v.ensures in omega (arith, e, c.if-v-ne0.false))
+    let a = c.args in
+    no-refusal (shown (handed a.sizes.now a.positions.now a.normals.now a.texture.now) a.threshold (length a.answer.now) (length a.work.now)) (let e = ap (λ x. x.number) c.judge-v.ensures in omega (arith, e, c.if-v-ne0.false))
 
 pub returns-then-v-ne0 : goal.returns-then-v-ne0
 returns-then-v-ne0 c =
-    let j = c in
-    let s = j in
-    let a = s.args in
-    let e = j.judge-v.ensures in
-    table-leaves (handed a.sizes.now a.positions.now a.normals.now a.texture.now) a.threshold a.answer.now a.work.now (own s.before.before.before.before.before.before.before.before.before.before.before.before.before.before.before.before) _ (c.said.ensures ∙ (λ i. record { number = (e i).number; place = (e i).place; slots = 0 })) (λ q. let n = ap (λ x. x.number) e in omega (arith, n, q, c.if-v-ne0.true))
+    let a = c.args in
+    let e = c.judge-v.ensures in
+    table-leaves (handed a.sizes.now a.positions.now a.normals.now a.texture.now) a.threshold a.answer.now a.work.now (own c.before.before.before.before.before.before.before.before.before.before.before.before.before.before.before.before) _ (c.said.ensures ∙ (λ i. record { number = (e i).number; place = (e i).place; slots = 0 })) (λ q. let n = ap (λ x. x.number) e in omega (arith, n, q, c.if-v-ne0.true))
 
 pub is_short-requires : goal.is_short-requires
 is_short-requires c = (fine _ (accepted c.before)).few
@@ -45,26 +42,16 @@ is_short-requires c = (fine _ (accepted c.before)).few
 pub returns-then-is_short : goal.returns-then-is_short
 unfolding short
 returns-then-is_short c =
-    let i = c in
-    let j = i in
-    let s = j in
-    let a = s.args in
-    nine-leaves (handed a.sizes.now a.positions.now a.normals.now a.texture.now) a.threshold a.answer.now a.work.now (own s.before.before.before.before.before.before.before.before.before.before.before.before.before.before.before.before.before.before) _ c.said-then-is_short.ensures (accepted j.before.before.before.before) (sym i.is_short.ensures ∙ c.if-is_short.true)
+    let a = c.args in
+    nine-leaves (handed a.sizes.now a.positions.now a.normals.now a.texture.now) a.threshold a.answer.now a.work.now (own c.before.before.before.before.before.before.before.before.before.before.before.before.before.before.before.before.before.before) _ c.said-then-is_short.ensures (accepted c.before.before.before.before) (sym c.is_short.ensures ∙ c.if-is_short.true)
 
 pub make_frames-slots-requires : goal.make_frames-slots-requires
 unfolding short
 make_frames-slots-requires c =
-    let x = c in
-    let i = x in
-    (accepted i.before.before.before.before.before.before.before.before.before.before, sym i.is_short.ensures ∙ x.if-is_short.false)
+    (accepted c.before.before.before.before.before.before.before.before.before.before, sym c.is_short.ensures ∙ c.if-is_short.false)
 
 pub returns : goal.returns
 unfolding short
 returns c =
-    let m = c in
-    let x = m in
-    let i = x in
-    let j = i in
-    let s = j in
-    let a = s.args in
-    leaving-same _ _ _ _ _ c.said-2.ensures ∙ m.make_frames-slots.ensures ∙ taken-leaves (handed a.sizes.now a.positions.now a.normals.now a.texture.now) a.threshold a.answer.now a.work.now (own s.before.before.before.before.before.before.before.before.before.before.before.before.before.before.before.before.before.before.before.before.before.before.before.before.before.before.before.before.before.before.before.before.before.before.before.before.before.before.before.before) (accepted j.before.before.before.before.before.before.before.before.before.before.before.before.before.before.before.before.before.before.before.before.before.before.before.before.before.before) (sym i.is_short.ensures ∙ x.if-is_short.false)
+    let a = c.args in
+    leaving-same _ _ _ _ _ c.said-2.ensures ∙ c.make_frames-slots.ensures ∙ taken-leaves (handed a.sizes.now a.positions.now a.normals.now a.texture.now) a.threshold a.answer.now a.work.now (own c.before.before.before.before.before.before.before.before.before.before.before.before.before.before.before.before.before.before.before.before.before.before.before.before.before.before.before.before.before.before.before.before.before.before.before.before.before.before.before.before) (accepted c.before.before.before.before.before.before.before.before.before.before.before.before.before.before.before.before.before.before.before.before.before.before.before.before.before.before) (sym c.is_short.ensures ∙ c.if-is_short.false)

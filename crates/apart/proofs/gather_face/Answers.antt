@@ -5,8 +5,4 @@ use Rattle.apart.proofs.gather_face.Goals as goal
 
 pub returns : goal.returns
 returns c =
-    let x = c in
-    let y = x in
-    let w = y in
-    let s = w in
-    (refl, laid-is _ _ _ _ _ _ _ _ _ _ _ s.requires.4 w.copy.ensures y.copy-2.ensures x.copy-3.ensures)
+    (refl, laid-is _ _ _ _ _ _ _ _ _ _ _ c.requires.4 c.copy.ensures c.copy-2.ensures c.copy-3.ensures)

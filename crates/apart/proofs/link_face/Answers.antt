@@ -22,10 +22,10 @@ pub overflow_cast-t : goal.overflow_cast-t
 overflow_cast-t c = omega (arith, c.shared_slice_known-1.given c.args.f)
 
 pub returns-then-count-t : goal.returns-then-count-t
-returns-then-count-t c = let s = c in (linked-skip _ _ _ _ c.if-count-t.true (linked s.before.before.before), past-none 0 _ _)
+returns-then-count-t c = (linked-skip _ _ _ _ c.if-count-t.true (linked c.before.before.before), past-none 0 _ _)
 
 pub bounds-order-count-2 : goal.bounds-order-count-2
 bounds-order-count-2 c = simp length-set (omega arith)
 
 pub returns : goal.returns
-returns c = let e = c in let s = e in (linked-more _ _ _ _ s.requires.0 e.if-count-t.false s.requires.2 (linked s.before.before.before.before), past-linked _ _ _ _ s.requires.0 e.if-count-t.false s.requires.2 (linked s.before.before.before.before))
+returns c = (linked-more _ _ _ _ c.requires.0 c.if-count-t.false c.requires.2 (linked c.before.before.before.before), past-linked _ _ _ _ c.requires.0 c.if-count-t.false c.requires.2 (linked c.before.before.before.before))

@@ -19,26 +19,19 @@ cleared c = subst (λ l. Past 0 (2 * c.args.count) c.args.order.now l) (sym c.cl
 
 pub loop-i-init : goal.loop-i-init
 loop-i-init c =
-    let f = c in
-    let s = f in
-    (omega arith, linked-none _ _ _ (λ x h. subst (λ l. lib.ListN.get_or l x 0 ≡ 0) (sym f.clear_first.ensures) (cleared-low 0 0 (2 * s.args.count) s.args.order.now x h)), past-none 0 _ _)
+    (omega arith, linked-none _ _ _ (λ x h. subst (λ l. lib.ListN.get_or l x 0 ≡ 0) (sym c.clear_first.ensures) (cleared-low 0 0 (2 * c.args.count) c.args.order.now x h)), past-none 0 _ _)
 
 pub link_face-requires : goal.link_face-requires
 link_face-requires c =
-    let i = c in
-    let l = i.loop-i in
-    let k = i in
-    let s = k in
-    let t = i.loop-i-test.true in
+    let l = c.loop-i in
+    let t = c.loop-i-test.true in
     let e : (l.i - 1) + 1 ≡ l.i = omega (arith, t) in
-    (omega (arith, l.invariant.0, t), s.requires.0, omega (arith, s.requires.1, (cleared k.before.before.before.before).size, l.invariant.2.size), s.requires.2, subst (λ n. Linked s.args.count (label_at s.args.labels.now) n l.order) (sym e) l.invariant.1)
+    (omega (arith, l.invariant.0, t), c.requires.0, omega (arith, c.requires.1, (cleared c.before.before.before.before).size, l.invariant.2.size), c.requires.2, subst (λ n. Linked c.args.count (label_at c.args.labels.now) n l.order) (sym e) l.invariant.1)
 
 pub loop-i-preserved : goal.loop-i-preserved
 loop-i-preserved c =
-    let f = c in
-    let i = f in
-    let l = i.loop-i in
-    (omega (arith, l.invariant.0, i.loop-i-test.true), f.link_face.ensures.0, past-trans 0 _ _ _ _ l.invariant.2 f.link_face.ensures.1)
+    let l = c.loop-i in
+    (omega (arith, l.invariant.0, c.loop-i-test.true), c.link_face.ensures.0, past-trans 0 _ _ _ _ l.invariant.2 c.link_face.ensures.1)
 
 pub shape_of-order : goal.shape_of-order
 shape_of-order c = c.loop-i.invariant.2.size ∙ (cleared c.before.before.before).size
@@ -46,7 +39,6 @@ shape_of-order c = c.loop-i.invariant.2.size ∙ (cleared c.before.before.before
 pub returns : goal.returns
 returns c =
     let l = c.loop-i in
-    let k = c in
-    let a = k.args in
+    let a = c.args in
     let e : l.i ≡ 0 = omega (arith, c.loop-i-test.false) in
-    (subst (λ n. Linked a.count (label_at a.labels.now) n l.order) e l.invariant.1, past-trans 0 _ _ _ _ (cleared k.before.before.before) l.invariant.2)
+    (subst (λ n. Linked a.count (label_at a.labels.now) n l.order) e l.invariant.1, past-trans 0 _ _ _ _ (cleared c.before.before.before) l.invariant.2)

@@ -13,7 +13,5 @@ slice_bounds-generate_tangent_space-end-2 c = simp length-take (omega arith)
 
 pub returns : goal.returns
 returns c =
-    let g = c in
-    let s = g in
-    let a = s.args in
-    made a.n a.k a.c a.threshold a.own_sizes.now a.own_numbers.now a.own_frames.now a.work.now s.requires (12 * a.n + 3 * a.c - 12 * a.n) (24 * a.n + 2 * a.c - 24 * a.n) (omega arith) (omega arith) _ _ _ g.generate_tangent_space.ensures
+    let a = c.args in
+    made a.n a.k a.c a.threshold a.own_sizes.now a.own_numbers.now a.own_frames.now a.work.now c.requires (12 * a.n + 3 * a.c - 12 * a.n) (24 * a.n + 2 * a.c - 24 * a.n) (omega arith) (omega arith) _ _ _ c.generate_tangent_space.ensures

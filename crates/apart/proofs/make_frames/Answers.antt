@@ -31,35 +31,26 @@ ends : (s : At-Start) → let a = s.args in Fine (shown (handed a.sizes.now a.po
 ends s = fine _ s.requires.0
 
 pub prepare-requires : goal.prepare-requires
-prepare-requires c = let s = c in ((fits s.before.before.before.before.before.before.before.before.before.before.before.before.before.before.before).0, (long s.before.before.before.before.before.before.before.before.before.before.before.before.before.before.before).labels, (long s.before.before.before.before.before.before.before.before.before.before.before.before.before.before.before).order, (ends s.before.before.before.before.before.before.before.before.before.before.before.before.before.before.before).work-fits)
+prepare-requires c = ((fits c.before.before.before.before.before.before.before.before.before.before.before.before.before.before.before).0, (long c.before.before.before.before.before.before.before.before.before.before.before.before.before.before.before).labels, (long c.before.before.before.before.before.before.before.before.before.before.before.before.before.before.before).order, (ends c.before.before.before.before.before.before.before.before.before.before.before.before.before.before.before).work-fits)
 
 pub all_islands-requires : goal.all_islands-requires
 all_islands-requires c =
-    let p = c in
-    let s = p in
-    let e = p.prepare.ensures in
-    (e.1, (fits s.before.before.before.before.before.before.before.before.before.before.before.before.before.before.before.before.before.before.before.before.before.before.before.before.before.before.before).1, room-first _ _ _ _ (own s.before.before.before.before.before.before.before.before.before.before.before.before.before.before.before.before.before.before.before.before.before.before.before.before.before.before.before) (ends s.before.before.before.before.before.before.before.before.before.before.before.before.before.before.before.before.before.before.before.before.before.before.before.before.before.before.before).answer-fits (ends s.before.before.before.before.before.before.before.before.before.before.before.before.before.before.before.before.before.before.before.before.before.before.before.before.before.before.before).work-fits e.3 (long s.before.before.before.before.before.before.before.before.before.before.before.before.before.before.before.before.before.before.before.before.before.before.before.before.before.before.before))
+    let e = c.prepare.ensures in
+    (e.1, (fits c.before.before.before.before.before.before.before.before.before.before.before.before.before.before.before.before.before.before.before.before.before.before.before.before.before.before.before).1, room-first _ _ _ _ (own c.before.before.before.before.before.before.before.before.before.before.before.before.before.before.before.before.before.before.before.before.before.before.before.before.before.before.before) (ends c.before.before.before.before.before.before.before.before.before.before.before.before.before.before.before.before.before.before.before.before.before.before.before.before.before.before.before).answer-fits (ends c.before.before.before.before.before.before.before.before.before.before.before.before.before.before.before.before.before.before.before.before.before.before.before.before.before.before.before).work-fits e.3 (long c.before.before.before.before.before.before.before.before.before.before.before.before.before.before.before.before.before.before.before.before.before.before.before.before.before.before.before))
 
 pub clear_own-requires : goal.clear_own-requires
 clear_own-requires c =
-    let i = c in
-    let p = i in
-    let s = p in
-    let k = i.all_islands.ensures.2 in
-    ((fits s.before.before.before.before.before.before.before.before.before.before.before.before.before.before.before.before.before.before.before.before.before.before.before.before.before.before.before.before.before.before.before.before.before.before.before.before.before.before.before.before.before.before).0.few, p.prepare.ensures.1.long, omega (arith, k.sizes.size, (long s.before.before.before.before.before.before.before.before.before.before.before.before.before.before.before.before.before.before.before.before.before.before.before.before.before.before.before.before.before.before.before.before.before.before.before.before.before.before.before.before.before.before).sizes), omega (arith, k.numbers.size, (long s.before.before.before.before.before.before.before.before.before.before.before.before.before.before.before.before.before.before.before.before.before.before.before.before.before.before.before.before.before.before.before.before.before.before.before.before.before.before.before.before.before.before).numbers), omega (arith, k.frames.size, (long s.before.before.before.before.before.before.before.before.before.before.before.before.before.before.before.before.before.before.before.before.before.before.before.before.before.before.before.before.before.before.before.before.before.before.before.before.before.before.before.before.before.before).frames))
+    let k = c.all_islands.ensures.2 in
+    ((fits c.before.before.before.before.before.before.before.before.before.before.before.before.before.before.before.before.before.before.before.before.before.before.before.before.before.before.before.before.before.before.before.before.before.before.before.before.before.before.before.before.before.before).0.few, c.prepare.ensures.1.long, omega (arith, k.sizes.size, (long c.before.before.before.before.before.before.before.before.before.before.before.before.before.before.before.before.before.before.before.before.before.before.before.before.before.before.before.before.before.before.before.before.before.before.before.before.before.before.before.before.before.before).sizes), omega (arith, k.numbers.size, (long c.before.before.before.before.before.before.before.before.before.before.before.before.before.before.before.before.before.before.before.before.before.before.before.before.before.before.before.before.before.before.before.before.before.before.before.before.before.before.before.before.before.before).numbers), omega (arith, k.frames.size, (long c.before.before.before.before.before.before.before.before.before.before.before.before.before.before.before.before.before.before.before.before.before.before.before.before.before.before.before.before.before.before.before.before.before.before.before.before.before.before.before.before.before.before).frames))
 
 pub shape_of-labels : goal.shape_of-labels
 shape_of-labels c = c.prepare.auto.labels
 
 pub returns : goal.returns
 returns c =
-    let o = c in
-    let i = o in
-    let p = i in
-    let s = p in
-    let a = s.args in
-    let e = p.prepare.ensures in
-    let f = i.all_islands.ensures in
-    let g = o.clear_own.ensures in
-    accepted-leaves (handed a.sizes.now a.positions.now a.normals.now a.texture.now) a.threshold a.answer.now a.work.now (own s.before.before.before.before.before.before.before.before.before.before.before.before.before.before.before.before.before.before.before.before.before.before.before.before.before.before.before.before.before.before.before.before.before.before.before.before.before.before.before.before.before.before.before.before.before.before.before.before.before.before.before.before) (ends s.before.before.before.before.before.before.before.before.before.before.before.before.before.before.before.before.before.before.before.before.before.before.before.before.before.before.before.before.before.before.before.before.before.before.before.before.before.before.before.before.before.before.before.before.before.before.before.before.before.before.before.before).answer-fits (long s.before.before.before.before.before.before.before.before.before.before.before.before.before.before.before.before.before.before.before.before.before.before.before.before.before.before.before.before.before.before.before.before.before.before.before.before.before.before.before.before.before.before.before.before.before.before.before.before.before.before.before.before)
-    _ _ _ _ _ _ _ _ _ _ _ _ _ (fits s.before.before.before.before.before.before.before.before.before.before.before.before.before.before.before.before.before.before.before.before.before.before.before.before.before.before.before.before.before.before.before.before.before.before.before.before.before.before.before.before.before.before.before.before.before.before.before.before.before.before.before.before).0.few c.slots_before.ensures.0 e.0 e.1 e.2 e.3 f.0 f.1 f.2 g.0 g.1 g.2 g.3
+    let a = c.args in
+    let e = c.prepare.ensures in
+    let f = c.all_islands.ensures in
+    let g = c.clear_own.ensures in
+    accepted-leaves (handed a.sizes.now a.positions.now a.normals.now a.texture.now) a.threshold a.answer.now a.work.now (own c.before.before.before.before.before.before.before.before.before.before.before.before.before.before.before.before.before.before.before.before.before.before.before.before.before.before.before.before.before.before.before.before.before.before.before.before.before.before.before.before.before.before.before.before.before.before.before.before.before.before.before.before) (ends c.before.before.before.before.before.before.before.before.before.before.before.before.before.before.before.before.before.before.before.before.before.before.before.before.before.before.before.before.before.before.before.before.before.before.before.before.before.before.before.before.before.before.before.before.before.before.before.before.before.before.before.before).answer-fits (long c.before.before.before.before.before.before.before.before.before.before.before.before.before.before.before.before.before.before.before.before.before.before.before.before.before.before.before.before.before.before.before.before.before.before.before.before.before.before.before.before.before.before.before.before.before.before.before.before.before.before.before.before)
+    _ _ _ _ _ _ _ _ _ _ _ _ _ (fits c.before.before.before.before.before.before.before.before.before.before.before.before.before.before.before.before.before.before.before.before.before.before.before.before.before.before.before.before.before.before.before.before.before.before.before.before.before.before.before.before.before.before.before.before.before.before.before.before.before.before.before.before).0.few c.slots_before.ensures.0 e.0 e.1 e.2 e.3 f.0 f.1 f.2 g.0 g.1 g.2 g.3

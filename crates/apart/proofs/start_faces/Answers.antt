@@ -31,26 +31,23 @@ pub loop-f-init : goal.loop-f-init
 loop-f-init c = let a = c.args in record { within = omega arith; corners = corners-none a.sizes.now; slots = slots-none a.sizes.now; few = omega arith; low = omega arith; begun = begun-none _ _; past = past-none 0 _ _ }
 
 pub bounds-order-n : goal.bounds-order-n
-bounds-order-n c = let g = c.loop-f.invariant in let s = c in omega (arith, g.past.size, s.requires.1, c.loop-f-test.true)
+bounds-order-n c = let g = c.loop-f.invariant in omega (arith, g.past.size, c.requires.1, c.loop-f-test.true)
 
 pub bounds-order-n-in-loop-f : goal.bounds-order-n-in-loop-f
-bounds-order-n-in-loop-f c = let g = c.loop-f.invariant in let s = c in simp length-set (omega (arith, g.past.size, s.requires.1, c.loop-f-test.true))
+bounds-order-n-in-loop-f c = let g = c.loop-f.invariant in simp length-set (omega (arith, g.past.size, c.requires.1, c.loop-f-test.true))
 
 pub overflow_cast-corners : goal.overflow_cast-corners
 overflow_cast-corners c = omega (arith, c.shared_slice_known-in-loop-f-1.given c.loop-f.f)
 
 pub overflow_add-corners : goal.overflow_add-corners
-overflow_add-corners c = let g = c.loop-f.invariant in let s = c in omega (arith, g.few, s.requires.0, c.loop-f-test.true, c.shared_slice_known-in-loop-f-1.given c.loop-f.f)
+overflow_add-corners c = let g = c.loop-f.invariant in omega (arith, g.few, c.requires.0, c.loop-f-test.true, c.shared_slice_known-in-loop-f-1.given c.loop-f.f)
 
 pub overflow_add-slots : goal.overflow_add-slots
-overflow_add-slots c = let l = c in let s = l in omega (arith, l.loop-f.invariant.low, s.requires.0, c.loop-f-test.true, c.slots_of.ensures.1)
+overflow_add-slots c = omega (arith, c.loop-f.invariant.low, c.requires.0, c.loop-f-test.true, c.slots_of.ensures.1)
 
 pub loop-f-preserved : goal.loop-f-preserved
 loop-f-preserved c =
-    let r = c in
-    let l = r in
-    let s = l in
-    going_more _ _ _ _ _ _ _ s.requires.1 r.loop-f-test.true (omega (arith, r.shared_slice_known-in-loop-f-1.given l.loop-f.f)) c.slots_of.ensures.0 c.slots_of.ensures.1 l.loop-f.invariant
+    going_more _ _ _ _ _ _ _ c.requires.1 c.loop-f-test.true (omega (arith, c.shared_slice_known-in-loop-f-1.given c.loop-f.f)) c.slots_of.ensures.0 c.slots_of.ensures.1 c.loop-f.invariant
 
 pub shape_of-order : goal.shape_of-order
 shape_of-order c = c.loop-f.invariant.past.size

@@ -66,17 +66,15 @@ next-by kind n m b k j r e g h = e ∙ (λ z. are_next kind (g z) b (h z))
 told : (c : At-After-are_next) → let a = c.args in c.are_next.result ≡ are_next a.kind a.total (first_torn a.long) (records_of a.kind a.records.now)
 unfolding first_torn
 told c =
-    let n = c in
-    let a = n.args in
-    next-by a.kind _ a.total (a.long / block_bytes) _ (records_of a.kind a.records.now) _ c.are_next.ensures (omega arith) n.records_of-count.ensures
+    let a = c.args in
+    next-by a.kind _ a.total (a.long / block_bytes) _ (records_of a.kind a.records.now) _ c.are_next.ensures (omega arith) c.records_of-count.ensures
 
 pub returns-then-not-writable : goal.returns-then-not-writable
 unfolding after_append not_added
 returns-then-not-writable c =
-    let t = c in
-    let a = t.args in
+    let a = c.args in
     ap (λ (r : Appended). after_append r a.lent.now) c.refused.ensures
-    ∙ sym (added-1 a.kind a.total a.long a.records.now a.lent.now (sym t.writable.ensures ∙ t.if-not-writable.true))
+    ∙ sym (added-1 a.kind a.total a.long a.records.now a.lent.now (sym c.writable.ensures ∙ c.if-not-writable.true))
 
 pub overflow_cast-count : goal.overflow_cast-count
 overflow_cast-count c = omega (arith, few c.before)
@@ -87,21 +85,16 @@ overflow_mul-made c = omega (arith, c.blocks_for-made.ensures.1, few c.before.be
 pub returns-then-lent-made : goal.returns-then-lent-made
 unfolding after_append not_added card_bytes
 returns-then-lent-made c =
-    let t = c in
-    let e = t in
-    let a = e.args in
+    let a = c.args in
     ap (λ (r : Appended). after_append r a.lent.now) c.refused-then-lent-made.ensures
-    ∙ sym (added-2 a.kind a.total a.long a.records.now a.lent.now (can e.before.before.before.before.before) (omega (arith, t.if-lent-made.true, made-is t.before.before.before)))
+    ∙ sym (added-2 a.kind a.total a.long a.records.now a.lent.now (can c.before.before.before.before.before) (omega (arith, c.if-lent-made.true, made-is c.before.before.before)))
 
 pub returns-then-overfull : goal.returns-then-overfull
 unfolding after_append not_added
 returns-then-overfull c =
-    let t = c in
-    let e = t in
-    let i = e in
-    let a = i.args in
+    let a = c.args in
     ap (λ (r : Appended). after_append r a.lent.now) c.refused-then-overfull.ensures
-    ∙ sym (added-3 a.kind a.total a.long a.records.now a.lent.now (can i.before.before.before.before.before.before.before) (room e.before.before.before.before) (sym t.overfull.ensures ∙ t.if-overfull.true))
+    ∙ sym (added-3 a.kind a.total a.long a.records.now a.lent.now (can c.before.before.before.before.before.before.before) (room c.before.before.before.before) (sym c.overfull.ensures ∙ c.if-overfull.true))
 
 -- the torn block's number is small
 first_fits : (c : At-Else-overfull) → let a = c.args in a.long / block_bytes ≤ word_values
@@ -116,36 +109,24 @@ are_next-requires c = first_fits c.before
 pub returns-then-not-are_next : goal.returns-then-not-are_next
 unfolding after_append not_added
 returns-then-not-are_next c =
-    let t = c in
-    let e = t in
-    let r = e in
+    let r = c in
     let i = r in
     let a = i.args in
     ap (λ (r : Appended). after_append r a.lent.now) c.refused-then-not-are_next.ensures
-    ∙ sym (added-by a.kind a.total a.long a.records.now a.lent.now (can i.before.before.before.before.before.before.before.before.before) (room r.before.before.before.before.before.before) (within e.before.before.before.before) false (sym (told t.before.before.before) ∙ t.if-not-are_next.true))
+    ∙ sym (added-by a.kind a.total a.long a.records.now a.lent.now (can i.before.before.before.before.before.before.before.before.before) (room r.before.before.before.before.before.before) (within c.before.before.before.before) false (sym (told c.before.before.before) ∙ c.if-not-are_next.true))
 
 pub put_blocks-requires : goal.put_blocks-requires
 unfolding first_torn
 put_blocks-requires c =
-    let t = c in
-    let e = t in
-    let r = e in
-    let i = r in
-    let a = i.args in
-    (omega (arith, made-is r.before.before.before.before.before.before.before), sym (told t.before.before.before) ∙ t.if-not-are_next.false, few-records a.kind a.records.now (can i.before.before.before.before.before.before.before.before.before), first_fits e.before.before.before.before, room r.before.before.before.before.before.before)
+    let a = c.args in
+    (omega (arith, made-is c.before.before.before.before.before.before.before), sym (told c.before.before.before) ∙ c.if-not-are_next.false, few-records a.kind a.records.now (can c.before.before.before.before.before.before.before.before.before), first_fits c.before.before.before.before, room c.before.before.before.before.before.before)
 
 pub returns : goal.returns
 unfolding after_append now_added first_torn place_of
 returns c =
-    let p = c in
-    let t = p in
-    let e = t in
-    let r = e in
-    let f = r in
-    let i = f in
-    let a = i.args in
-    (λ z. record { number = 0; blocks = made-is f.before.before.before.before.before.before.before.before.before.before z; at = block_bytes * (a.long / block_bytes); lent = p.put_blocks.ensures z })
-    ∙ sym (added-by a.kind a.total a.long a.records.now a.lent.now (can i.before.before.before.before.before.before.before.before.before.before.before.before) (room r.before.before.before.before.before.before.before.before.before) (within e.before.before.before.before.before.before.before) true (sym (told t.before.before.before.before.before.before) ∙ t.if-not-are_next.false))
+    let a = c.args in
+    (λ z. record { number = 0; blocks = made-is c.before.before.before.before.before.before.before.before.before.before z; at = block_bytes * (a.long / block_bytes); lent = c.put_blocks.ensures z })
+    ∙ sym (added-by a.kind a.total a.long a.records.now a.lent.now (can c.before.before.before.before.before.before.before.before.before.before.before.before) (room c.before.before.before.before.before.before.before.before.before) (within c.before.before.before.before.before.before.before) true (sym (told c.before.before.before.before.before.before) ∙ c.if-not-are_next.false))
 
 pub overflow_cast-result : goal.overflow_cast-result
 overflow_cast-result c = omega (arith, c.blocks_for-made.ensures.1, few c.before.before.before.before.before.before.before.before.before.before.before)

@@ -8,6 +8,5 @@ use Rattle.appends.proofs.are_next.Goals as goal
 pub returns : goal.returns
 unfolding are_next
 returns c =
-    let h = c in
-    let a = h.args in
-    λ z. ltb 0 a.count && (eqb (c.records_before.ensures.0 z + a.count) a.total || ltb (c.records_before.ensures.0 z + a.count) a.total && eqb (a.count % h.records_held-held.ensures.0 z) 0)
+    let a = c.args in
+    λ z. ltb 0 a.count && (eqb (c.records_before.ensures.0 z + a.count) a.total || ltb (c.records_before.ensures.0 z + a.count) a.total && eqb (a.count % c.records_held-held.ensures.0 z) 0)

@@ -16,7 +16,6 @@ returns-then-overfull c =
 pub returns : goal.returns
 unfolding after_next first_torn place_of
 returns c =
-    let e = c in
-    let a = e.args in
+    let a = c.args in
     next-is a.kind a.total a.long _ _ _ c.wanted.ensures (omega arith) (omega arith)
-    ∙ sym (following-by a.kind a.total a.long false (sym e.overfull.ensures ∙ e.if-overfull.false))
+    ∙ sym (following-by a.kind a.total a.long false (sym c.overfull.ensures ∙ c.if-overfull.false))

@@ -34,9 +34,8 @@ theirs s = follows s.args.kind s.args.total s.args.b (records_of s.args.kind s.a
 -- and few
 few : (c : At-After-put_block-arg-1) → c.loop-i.i < word_values
 few c =
-    let s = c in
-    let a = s.args in
-    omega (arith, s.requires.0, s.requires.2, blocks-le a.kind (records_of a.kind a.records.now), c.loop-i-test.true)
+    let a = c.args in
+    omega (arith, c.requires.0, c.requires.2, blocks-le a.kind (records_of a.kind a.records.now), c.loop-i-test.true)
 
 pub overflow_add-b : goal.overflow_add-b
 overflow_add-b c = omega (arith, few c.before, c.requires.3)
@@ -48,31 +47,27 @@ pub put_block-requires : goal.put_block-requires
 unfolding card_bytes
 put_block-requires c =
     let l = c.loop-i in
-    let s = c in
-    let a = s.args in
-    let h : l.i < blocks_for a.kind (records_of a.kind a.records.now) = omega (arith, s.requires.0, c.loop-i-test.true) in
-    (omega (arith, h, s.requires.4, l.invariant.2), next-called a.kind a.total a.b (records_of a.kind a.records.now) l.i (theirs s.before.before.before.before.before.before) h, next-fit a.kind a.total a.b a.records.now (theirs s.before.before.before.before.before.before) l.i h)
+    let a = c.args in
+    let h : l.i < blocks_for a.kind (records_of a.kind a.records.now) = omega (arith, c.requires.0, c.loop-i-test.true) in
+    (omega (arith, h, c.requires.4, l.invariant.2), next-called a.kind a.total a.b (records_of a.kind a.records.now) l.i (theirs c.before.before.before.before.before.before) h, next-fit a.kind a.total a.b a.records.now (theirs c.before.before.before.before.before.before) l.i h)
 
 pub loop-i-preserved : goal.loop-i-preserved
 loop-i-preserved c =
-    let p = c in
-    let l = p.loop-i in
-    let s = p in
-    let a = s.args in (
+    let l = c.loop-i in
+    let a = c.args in (
       omega arith,
-      p.put_block.ensures
+      c.put_block.ensures
           ∙ joined-stored a.lent.now l.lent 0 (block_bytes * l.i) (λ k. block_of a.kind a.total (a.b + k) (part (room_words * k) (used_words a.kind a.total (a.b + k)) a.records.now)) l.i
-          (omega (arith, length_from a.kind a.total a.b a.records.now (theirs s.before.before.before.before.before.before.before.before.before) l.i (omega (arith, s.requires.0, l.invariant.0)))) l.invariant.1,
-      p.put_block.auto.card ∙ l.invariant.2,
+          (omega (arith, length_from a.kind a.total a.b a.records.now (theirs c.before.before.before.before.before.before.before.before.before) l.i (omega (arith, c.requires.0, l.invariant.0)))) l.invariant.1,
+      c.put_block.auto.card ∙ l.invariant.2,
     )
 
 pub returns : goal.returns
 unfolding card_bytes blocks_from
 returns c =
     let l = c.loop-i in
-    let s = c in
-    let a = s.args in
+    let a = c.args in
     let k = blocks_for a.kind (records_of a.kind a.records.now) in
     joined-front a.lent.now l.lent (λ i. block_of a.kind a.total (a.b + i) (part (room_words * i) (used_words a.kind a.total (a.b + i)) a.records.now)) l.i k (block_bytes * k) l.invariant.1
-    (le_antisymm l.invariant.0 c.loop-i-test.false ∙ s.requires.0) (length_from a.kind a.total a.b a.records.now (theirs s.before.before.before.before.before) k (omega arith))
-    s.requires.4
+    (le_antisymm l.invariant.0 c.loop-i-test.false ∙ c.requires.0) (length_from a.kind a.total a.b a.records.now (theirs c.before.before.before.before.before) k (omega arith))
+    c.requires.4

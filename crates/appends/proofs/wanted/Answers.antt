@@ -6,12 +6,10 @@ use Rattle.appends.proofs.wanted.Goals as goal
 
 pub returns-then-blocks_for-b : goal.returns-then-blocks_for-b
 returns-then-blocks_for-b c =
-    let b = c in
-    let a = b.args in
-    sym (used-none a.kind a.total a.b (omega (arith, c.if-blocks_for-b.true, b.blocks_for.ensures.0)))
+    let a = c.args in
+    sym (used-none a.kind a.total a.b (omega (arith, c.if-blocks_for-b.true, c.blocks_for.ensures.0)))
 
 pub records_used-requires : goal.records_used-requires
 records_used-requires c =
-    let b = c in
-    let a = b.args in
-    called a.kind a.total a.b (omega (arith, c.if-blocks_for-b.false, b.blocks_for.ensures.0))
+    let a = c.args in
+    called a.kind a.total a.b (omega (arith, c.if-blocks_for-b.false, c.blocks_for.ensures.0))

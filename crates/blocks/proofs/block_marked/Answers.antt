@@ -11,15 +11,11 @@ use Rattle.blocks.proofs.block_marked.Goals as goal
 
 pub records_marked-requires : goal.records_marked-requires
 records_marked-requires c =
-    let w = c in
-    let s = w in
-    let a = s.args in
-    let product : w.record_words.result * c.records_used.result ≡ used_words a.kind a.total a.b = (λ z. w.record_words.ensures.0 z * c.records_used.ensures.0 z) ∙ sym (words_are a.kind a.total a.b) in
-    (omega (arith, product, used-words-le a.kind a.total a.b, s.requires.0), w.record_words.ensures.1)
+    let a = c.args in
+    let product : c.record_words.result * c.records_used.result ≡ used_words a.kind a.total a.b = (λ z. c.record_words.ensures.0 z * c.records_used.ensures.0 z) ∙ sym (words_are a.kind a.total a.b) in
+    (omega (arith, product, used-words-le a.kind a.total a.b, c.requires.0), c.record_words.ensures.1)
 
 pub returns : goal.returns
 returns c =
-    let u = c in
-    let w = u in
-    let a = w.args in
-    c.records_marked.ensures ∙ (λ z. every_below (u.records_used.ensures.0 z) (λ r. leb (word_at a.card.now (a.p + w.record_words.ensures.0 z * r)) 1))
+    let a = c.args in
+    c.records_marked.ensures ∙ (λ z. every_below (c.records_used.ensures.0 z) (λ r. leb (word_at a.card.now (a.p + c.record_words.ensures.0 z * r)) 1))

@@ -42,10 +42,9 @@ every-same n m f r e h = e ∙ ap (λ (k : ℕ). every_below k f) h
 
 emptied-is : (c : At-After-emptied) → let a = c.args in c.emptied.result ≡ emptied a.kind a.total a.b (block_at a.b a.card.now)
 emptied-is c =
-    let u = c in
-    let a = u.args in
-    every-same _ (room_words - u.used_words-count.result) _ _ c.emptied.ensures (omega (arith, u.used_words-count.ensures.1))
-    ∙ (ap (λ (k : ℕ). every_below (room_words - k) (λ i. eqb (word_at a.card.now (block_words * a.b + header_words + k + i)) 0)) u.used_words-count.ensures.0
+    let a = c.args in
+    every-same _ (room_words - c.used_words-count.result) _ _ c.emptied.ensures (omega (arith, c.used_words-count.ensures.1))
+    ∙ (ap (λ (k : ℕ). every_below (room_words - k) (λ i. eqb (word_at a.card.now (block_words * a.b + header_words + k + i)) 0)) c.used_words-count.ensures.0
     ∙ emptied-words a.kind a.total a.b a.card.now)
 
 pub returns-then-card-b : goal.returns-then-card-b
@@ -55,34 +54,24 @@ returns-then-card-b c =
 
 pub returns-then-not-headed : goal.returns-then-not-headed
 returns-then-not-headed c =
-    let i = c in
-    let a = i.args in
-    bad-header a.kind a.total a.b a.card.now (omega (arith, i.if-card-b.false)) (sym (headed-is c.before.before) ∙ c.if-not-headed.true)
+    let a = c.args in
+    bad-header a.kind a.total a.b a.card.now (omega (arith, c.if-card-b.false)) (sym (headed-is c.before.before) ∙ c.if-not-headed.true)
 
 pub returns-then-not-block_marked : goal.returns-then-not-block_marked
 returns-then-not-block_marked c =
-    let e = c in
-    let i = e in
-    let a = i.args in
-    bad-mark a.kind a.total a.b a.card.now (omega (arith, i.if-card-b.false)) (sym (headed-is e.before.before.before.before) ∙ e.if-not-headed.false) (sym (marked-is c.before.before) ∙ c.if-not-block_marked.true)
+    let a = c.args in
+    bad-mark a.kind a.total a.b a.card.now (omega (arith, c.if-card-b.false)) (sym (headed-is c.before.before.before.before) ∙ c.if-not-headed.false) (sym (marked-is c.before.before) ∙ c.if-not-block_marked.true)
 
 pub returns-then-not-emptied : goal.returns-then-not-emptied
 returns-then-not-emptied c =
-    let m = c in
-    let e = m in
-    let i = e in
-    let a = i.args in
-    bad-rest a.kind a.total a.b a.card.now (omega (arith, i.if-card-b.false)) (sym (headed-is e.before.before.before.before.before.before) ∙ e.if-not-headed.false) (sym (marked-is m.before.before.before.before) ∙ m.if-not-block_marked.false)
+    let a = c.args in
+    bad-rest a.kind a.total a.b a.card.now (omega (arith, c.if-card-b.false)) (sym (headed-is c.before.before.before.before.before.before) ∙ c.if-not-headed.false) (sym (marked-is c.before.before.before.before) ∙ c.if-not-block_marked.false)
     (sym (emptied-is c.before.before) ∙ c.if-not-emptied.true)
 
 pub returns : goal.returns
 unfolding block_at
 returns c =
-    let z = c in
-    let m = z in
-    let e = m in
-    let i = e in
-    let a = i.args in
+    let a = c.args in
     c.checked.ensures
-    ∙ by-sum a.kind a.total a.b a.card.now (omega (arith, i.if-card-b.false)) (sym (headed-is e.before.before.before.before.before.before.before) ∙ e.if-not-headed.false) (sym (marked-is m.before.before.before.before.before) ∙ m.if-not-block_marked.false)
-    (sym (emptied-is z.before.before.before) ∙ z.if-not-emptied.false)
+    ∙ by-sum a.kind a.total a.b a.card.now (omega (arith, c.if-card-b.false)) (sym (headed-is c.before.before.before.before.before.before.before) ∙ c.if-not-headed.false) (sym (marked-is c.before.before.before.before.before) ∙ c.if-not-block_marked.false)
+    (sym (emptied-is c.before.before.before) ∙ c.if-not-emptied.false)

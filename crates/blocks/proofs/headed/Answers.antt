@@ -11,13 +11,7 @@ use Rattle.blocks.proofs.headed.Goals as goal
 pub returns : goal.returns
 unfolding every_below
 returns c =
-    let g = c in
-    let f = g in
-    let e = f in
-    let d = e in
-    let b = d in
-    let a = b in
-    let x = a.args in
+    let x = c.args in
     let h = x.h in
-    let first = a.word_at.ensures ∙ ap (word_at x.card.now) (sym (add-zero x.p)) in
-    λ z. eqb (first z) (get_or h 0 0) && eqb (b.word_at-2.ensures z) (get_or h 1 0) && eqb (d.word_at-3.ensures z) (get_or h 2 0) && eqb (e.word_at-4.ensures z) (get_or h 3 0) && eqb (f.word_at-5.ensures z) (get_or h 4 0) && eqb (g.word_at-6.ensures z) (get_or h 5 0) && eqb (c.word_at-7.ensures z) (get_or h 6 0)
+    let first = c.word_at.ensures ∙ ap (word_at x.card.now) (sym (add-zero x.p)) in
+    λ z. eqb (first z) (get_or h 0 0) && eqb (c.word_at-2.ensures z) (get_or h 1 0) && eqb (c.word_at-3.ensures z) (get_or h 2 0) && eqb (c.word_at-4.ensures z) (get_or h 3 0) && eqb (c.word_at-5.ensures z) (get_or h 4 0) && eqb (c.word_at-6.ensures z) (get_or h 5 0) && eqb (c.word_at-7.ensures z) (get_or h 6 0)

@@ -20,6 +20,5 @@ header_is kind n b w0 w1 w2 w3 w4 w5 w6 e0 e1 e2 e3 e4 e5 e6 = λ z. e0 z ∷ e1
 
 pub returns : goal.returns
 returns c =
-    let u = c in
-    let a = u.args in
-    header_is a.kind a.total a.b _ _ _ _ _ _ _ (omega arith) (omega (arith, u.records_used-used.ensures)) (omega arith) (omega (arith, c.kind_word.ensures)) (omega arith) (omega arith) (omega arith)
+    let a = c.args in
+    header_is a.kind a.total a.b _ _ _ _ _ _ _ (omega arith) (omega (arith, c.records_used-used.ensures)) (omega arith) (omega (arith, c.kind_word.ensures)) (omega arith) (omega arith) (omega arith)

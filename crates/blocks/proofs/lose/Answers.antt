@@ -27,8 +27,7 @@ loop-r-init c =
 -- record r is among the words of the list
 inside : (c : At-After-lose_one-arg-1) → let a = c.args in a.p + a.wide * c.loop-r.r + a.wide ≤ length a.answer.now
 inside c =
-    let s = c in
-    omega (arith, one_of s.args.wide c.loop-r.r s.args.count c.loop-r-test.true, s.requires.0)
+    omega (arith, one_of c.args.wide c.loop-r.r c.args.count c.loop-r-test.true, c.requires.0)
 
 pub overflow_mul-wide : goal.overflow_mul-wide
 overflow_mul-wide c = omega (arith, inside c)
@@ -41,12 +40,11 @@ lose_one-requires c = (omega (arith, inside c, c.loop-r.invariant.2), c.requires
 
 pub loop-r-preserved : goal.loop-r-preserved
 loop-r-preserved c =
-    let p = c in
-    let l = p.loop-r in
-    let a = p.args in (
+    let l = c.loop-r in
+    let a = c.args in (
       omega arith,
-      p.lose_one.ensures ∙ joined-stored a.answer.now l.answer a.p (a.p + a.wide * l.r) (λ _. spec.lost_words a.wide) l.r (ap (λ k. a.p + k) (sym (length-joined l.r a.wide (λ _. spec.lost_words a.wide) (λ i h. length-lost a.wide p.requires.1)))) l.invariant.1,
-      p.lose_one.auto.answer ∙ l.invariant.2,
+      c.lose_one.ensures ∙ joined-stored a.answer.now l.answer a.p (a.p + a.wide * l.r) (λ _. spec.lost_words a.wide) l.r (ap (λ k. a.p + k) (sym (length-joined l.r a.wide (λ _. spec.lost_words a.wide) (λ i h. length-lost a.wide c.requires.1)))) l.invariant.1,
+      c.lose_one.auto.answer ∙ l.invariant.2,
     )
 
 pub returns : goal.returns

@@ -26,25 +26,19 @@ product c =
 
 pub overflow_mul-wide : goal.overflow_mul-wide
 overflow_mul-wide c =
-    let w = c in
-    let a = w.args in
-    omega (arith, product w.before.before.before.before, used-words-le a.kind a.total a.b)
+    let a = c.args in
+    omega (arith, product c.before.before.before.before, used-words-le a.kind a.total a.b)
 
 pub get_words-requires : goal.get_words-requires
 get_words-requires c =
-    let g = c in
-    let w = g in
-    let s = w in
-    let a = s.args in
-    let there = good-there a.kind a.total a.b a.card.now (sym g.good.ensures ∙ c.if-good.true) in
-    (omega (arith, there, product w.before.before.before.before, used-words-le a.kind a.total a.b), omega (arith, product w.before.before.before.before, words-fit a.kind a.total a.b s.requires.0, s.requires.1))
+    let a = c.args in
+    let there = good-there a.kind a.total a.b a.card.now (sym c.good.ensures ∙ c.if-good.true) in
+    (omega (arith, there, product c.before.before.before.before, used-words-le a.kind a.total a.b), omega (arith, product c.before.before.before.before, words-fit a.kind a.total a.b c.requires.0, c.requires.1))
 
 pub lose-requires : goal.lose-requires
 lose-requires c =
-    let w = c in
-    let s = w in
-    let a = s.args in
-    (omega (arith, product w.before.before.before.before, words-fit a.kind a.total a.b s.requires.0, s.requires.1), w.record_words-wide.ensures.1)
+    let a = c.args in
+    (omega (arith, product c.before.before.before.before, words-fit a.kind a.total a.b c.requires.0, c.requires.1), c.record_words-wide.ensures.1)
 
 -- words that were read, by their place
 got-by : (l u : List ℕ) (p : ℕ) (bs : List ℕ) (k m n : ℕ) → u ≡ sets l p (words_at bs k n) → k ≡ m → u ≡ sets l p (words_at bs m n)
@@ -52,17 +46,13 @@ got-by l u p bs k m n e h = e ∙ ap (λ (j : ℕ). sets l p (words_at bs j n)) 
 
 pub returns-then-good : goal.returns-then-good
 returns-then-good c =
-    let g = c in
-    let w = g in
-    let a = w.args in
+    let a = c.args in
     got-by _ _ _ _ _ (block_words * a.b + header_words) _ c.get_words.ensures (omega arith)
-    ∙ ap (sets a.answer.now (room_words * a.b)) (ap (words_at a.card.now (block_words * a.b + header_words)) (product w.before.before.before.before.before.before.before) ∙ sym (read-good a.kind a.total a.b a.card.now (sym g.good.ensures ∙ c.if-good.true)))
+    ∙ ap (sets a.answer.now (room_words * a.b)) (ap (words_at a.card.now (block_words * a.b + header_words)) (product c.before.before.before.before.before.before.before) ∙ sym (read-good a.kind a.total a.b a.card.now (sym c.good.ensures ∙ c.if-good.true)))
 
 pub returns-else-good : goal.returns-else-good
 returns-else-good c =
-    let g = c in
-    let w = g in
-    let a = w.args in
+    let a = c.args in
     c.lose.ensures
     ∙ ap (sets a.answer.now (room_words * a.b))
-    ((λ z. joined (w.records_used-count.ensures.0 z) (λ _. lost_words (w.record_words-wide.ensures.0 z))) ∙ sym (read-lost a.kind a.total a.b a.card.now (sym g.good.ensures ∙ c.if-good.false)))
+    ((λ z. joined (c.records_used-count.ensures.0 z) (λ _. lost_words (c.record_words-wide.ensures.0 z))) ∙ sym (read-lost a.kind a.total a.b a.card.now (sym c.good.ensures ∙ c.if-good.false)))

@@ -26,8 +26,7 @@ loop-r-init c =
 -- record r is among the words of the card
 inside : (c : At-In-loop-r) → let a = c.args in a.p + a.wide * c.loop-r.r < a.p + a.wide * a.count
 inside c =
-    let s = c in
-    omega (arith, one_of s.args.wide c.loop-r.r s.args.count c.loop-r-test.true, s.requires.1)
+    omega (arith, one_of c.args.wide c.loop-r.r c.args.count c.loop-r-test.true, c.requires.1)
 
 pub overflow_mul-wide : goal.overflow_mul-wide
 overflow_mul-wide c = omega (arith, inside c.before, c.requires.0)

@@ -10,13 +10,9 @@ records_before-requires c = omega (arith, block-below c.args.kind c.args.total c
 pub returns-then-left-held : goal.returns-then-left-held
 unfolding records_used
 returns-then-left-held c =
-    let h = c in
-    let s = h in
-    (omega (arith, c.if-left-held.true, h.records_held-held.ensures, h.records_before.ensures), omega (arith, c.if-left-held.true, h.records_held-held.ensures), block-below s.args.kind s.args.total s.args.b s.requires)
+    (omega (arith, c.if-left-held.true, c.records_held-held.ensures, c.records_before.ensures), omega (arith, c.if-left-held.true, c.records_held-held.ensures), block-below c.args.kind c.args.total c.args.b c.requires)
 
 pub returns : goal.returns
 unfolding records_used
 returns c =
-    let h = c in
-    let s = h in
-    (omega (arith, c.if-left-held.false, h.records_held-held.ensures, h.records_before.ensures), omega (arith, h.records_held-held.ensures), block-below s.args.kind s.args.total s.args.b s.requires)
+    (omega (arith, c.if-left-held.false, c.records_held-held.ensures, c.records_before.ensures), omega (arith, c.records_held-held.ensures), block-below c.args.kind c.args.total c.args.b c.requires)

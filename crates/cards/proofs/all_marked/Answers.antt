@@ -23,8 +23,7 @@ loop-r-init c = (omega arith, every-none (λ k. leb (get_or c.args.answer.now (c
 -- record r is among the words of the list
 inside : (c : At-In-loop-r) → let a = c.args in a.wide * c.loop-r.r < length a.answer.now
 inside c =
-    let s = c in
-    omega (arith, one_of s.args.wide c.loop-r.r s.args.count c.loop-r-test.true, s.requires)
+    omega (arith, one_of c.args.wide c.loop-r.r c.args.count c.loop-r-test.true, c.requires)
 
 pub overflow_mul-wide : goal.overflow_mul-wide
 overflow_mul-wide c = omega (arith, inside c.before)

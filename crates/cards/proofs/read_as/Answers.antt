@@ -19,9 +19,8 @@ At-Else-records_of-total = lts.Else1 tie.the-claims reads.Pre reads.Post
 pub returns-then-records_of-total : goal.returns-then-records_of-total
 unfolding after_read records_of
 returns-then-records_of-total c =
-    let n = c in
-    let a = n.args in
-    sym (got-2 a.kind a.total a.card.now a.answer.now (words-out a.kind (length a.answer.now) a.total (omega (arith, c.if-records_of-total.true, n.records_of.ensures))))
+    let a = c.args in
+    sym (got-2 a.kind a.total a.card.now a.answer.now (words-out a.kind (length a.answer.now) a.total (omega (arith, c.if-records_of-total.true, c.records_of.ensures))))
 
 -- the records have room
 room : (c : At-Else-records_of-total) → let a = c.args in record_words a.kind * a.total ≤ length a.answer.now
@@ -36,7 +35,5 @@ read_blocks-requires c = room c.before.before
 pub returns : goal.returns
 unfolding after_read
 returns c =
-    let r = c in
-    let e = r in
-    let a = e.args in
-    (λ z. record { number = 0; past = c.bytes_past.ensures z; answer = r.read_blocks.ensures z }) ∙ sym (got-0 a.kind a.total a.card.now a.answer.now (room e.before.before.before.before.before.before))
+    let a = c.args in
+    (λ z. record { number = 0; past = c.bytes_past.ensures z; answer = c.read_blocks.ensures z }) ∙ sym (got-0 a.kind a.total a.card.now a.answer.now (room c.before.before.before.before.before.before))

@@ -19,28 +19,23 @@ loop-b-init c =
 pub read_block-requires : goal.read_block-requires
 read_block-requires c =
     let l = c.loop-b in
-    let f = c in
-    let s = f in
-    (called s.args.kind s.args.total l.b (omega (arith, f.blocks_for-b-end.ensures.0, c.loop-b-test.true)), omega (arith, s.requires, l.invariant.2))
+    (called c.args.kind c.args.total l.b (omega (arith, c.blocks_for-b-end.ensures.0, c.loop-b-test.true)), omega (arith, c.requires, l.invariant.2))
 
 pub loop-b-preserved : goal.loop-b-preserved
 loop-b-preserved c =
-    let p = c in
-    let l = p.loop-b in
-    let f = p in
-    let a = f.args in (
+    let l = c.loop-b in
+    let a = c.args in (
       omega arith,
-      p.read_block.ensures
+      c.read_block.ensures
           ∙ joined-stored a.answer.now l.answer 0 (room_words * l.b) (λ k. records_read a.kind a.total k a.card.now) l.b
-          (omega (arith, length_before a.kind a.total l.b a.card.now (omega (arith, f.blocks_for-b-end.ensures.0, p.loop-b-test.true)))) l.invariant.1,
-      p.read_block.auto.answer ∙ l.invariant.2,
+          (omega (arith, length_before a.kind a.total l.b a.card.now (omega (arith, c.blocks_for-b-end.ensures.0, c.loop-b-test.true)))) l.invariant.1,
+      c.read_block.auto.answer ∙ l.invariant.2,
     )
 
 pub returns : goal.returns
 unfolding readings
 returns c =
     let l = c.loop-b in
-    let f = c in
-    let a = f.args in
+    let a = c.args in
     joined-front a.answer.now l.answer (λ b. records_read a.kind a.total b a.card.now) l.b (blocks_for a.kind a.total) (record_words a.kind * a.total) l.invariant.1
-    (le_antisymm l.invariant.0 c.loop-b-test.false ∙ f.blocks_for-b-end.ensures.0) (length-readings a.kind a.total a.card.now) f.requires
+    (le_antisymm l.invariant.0 c.loop-b-test.false ∙ c.blocks_for-b-end.ensures.0) (length-readings a.kind a.total a.card.now) c.requires

@@ -26,9 +26,8 @@ left c = ap (λ (w : ℕ). length c.args.answer.now % w) c.record_words-wide.ens
 
 pub returns-then-answer-wide-ne0 : goal.returns-then-answer-wide-ne0
 returns-then-answer-wide-ne0 c =
-    let w = c in
-    let a = w.args in
-    cannot-part a.kind a.answer.now (λ e. omega (arith, c.if-answer-wide-ne0.true, left w.before.before, e))
+    let a = c.args in
+    cannot-part a.kind a.answer.now (λ e. omega (arith, c.if-answer-wide-ne0.true, left c.before.before, e))
 
 -- past the first test: whole records
 whole : (c : At-Else-answer-wide-ne0) → let a = c.args in length a.answer.now % record_words a.kind ≡ 0
@@ -36,27 +35,20 @@ whole c = omega (arith, c.if-answer-wide-ne0.false, left c.before)
 
 pub returns-then-count-ge4294967296 : goal.returns-then-count-ge4294967296
 returns-then-count-ge4294967296 c =
-    let e = c in
-    let a = e.args in
-    cannot-many a.kind a.answer.now (whole e.before.before.before) (omega (arith, c.if-count-ge4294967296.true, c.records_of-count.ensures))
+    let a = c.args in
+    cannot-many a.kind a.answer.now (whole c.before.before.before) (omega (arith, c.if-count-ge4294967296.true, c.records_of-count.ensures))
 
 pub all_marked-requires : goal.all_marked-requires
 unfolding records_of
 all_marked-requires c =
-    let n = c in
-    let w = n in
-    let a = w.args in
+    let a = c.args in
     let inside = words-in a.kind (length a.answer.now) (records_of a.kind a.answer.now) (omega arith) in
-    let product : w.record_words-wide.result * n.records_of-count.result ≡ record_words a.kind * records_of a.kind a.answer.now = λ z. w.record_words-wide.ensures.0 z * n.records_of-count.ensures z in
-    (omega (arith, product, inside), w.record_words-wide.ensures.1)
+    let product : c.record_words-wide.result * c.records_of-count.result ≡ record_words a.kind * records_of a.kind a.answer.now = λ z. c.record_words-wide.ensures.0 z * c.records_of-count.ensures z in
+    (omega (arith, product, inside), c.record_words-wide.ensures.1)
 
 pub returns : goal.returns
 returns c =
-    let e = c in
-    let n = e in
-    let i = n in
-    let w = i in
-    let a = w.args in
+    let a = c.args in
     c.all_marked.ensures
-    ∙ ((λ z. every_below (n.records_of-count.ensures z) (λ r. leb (get_or a.answer.now (w.record_words-wide.ensures.0 z * r) 0) 1))
-    ∙ sym (marked-decides a.kind a.answer.now (whole i.before.before.before.before) (omega (arith, e.if-count-ge4294967296.false, n.records_of-count.ensures))))
+    ∙ ((λ z. every_below (c.records_of-count.ensures z) (λ r. leb (get_or a.answer.now (c.record_words-wide.ensures.0 z * r) 0) 1))
+    ∙ sym (marked-decides a.kind a.answer.now (whole c.before.before.before.before) (omega (arith, c.if-count-ge4294967296.false, c.records_of-count.ensures))))

@@ -57,27 +57,18 @@ bytes-are c =
 pub returns-then-card-bytes : goal.returns-then-card-bytes
 unfolding after_write not_written
 returns-then-card-bytes c =
-    let f = c in
-    let e = f in
-    let a = e.args in
-    sym (wrote-2 a.kind a.answer.now a.card.now (can e.before.before.before.before) (omega (arith, c.if-card-bytes.true, bytes-are f.before.before)))
+    let a = c.args in
+    sym (wrote-2 a.kind a.answer.now a.card.now (can c.before.before.before.before) (omega (arith, c.if-card-bytes.true, bytes-are c.before.before)))
 
 pub write_blocks-requires : goal.write_blocks-requires
 unfolding records_of
 write_blocks-requires c =
-    let e = c in
-    let f = e in
-    let n = f in
-    let a = n.args in
-    (words-in a.kind (length a.answer.now) n.records_of-total.result (omega (arith, n.records_of-total.ensures)), subst (λ (k : ℕ). card_bytes a.kind k ≤ length a.card.now) (sym n.records_of-total.ensures) (omega (arith, e.if-card-bytes.false, bytes-are f.before.before.before)))
+    let a = c.args in
+    (words-in a.kind (length a.answer.now) c.records_of-total.result (omega (arith, c.records_of-total.ensures)), subst (λ (k : ℕ). card_bytes a.kind k ≤ length a.card.now) (sym c.records_of-total.ensures) (omega (arith, c.if-card-bytes.false, bytes-are c.before.before.before)))
 
 pub returns : goal.returns
 unfolding after_write card_written card_of
 returns c =
-    let w = c in
-    let e = w in
-    let f = e in
-    let n = f in
-    let a = n.args in
-    (λ z. record { number = 0; bytes = bytes-are f.before.before.before.before.before.before z; card = (w.write_blocks.ensures ∙ ap (λ (k : ℕ). blocks_of a.kind (blocks_for a.kind k) k a.answer.now ++ drop (card_bytes a.kind k) a.card.now) n.records_of-total.ensures) z })
-    ∙ sym (wrote-0 a.kind a.answer.now a.card.now (can n.before.before.before.before.before.before.before.before) (omega (arith, e.if-card-bytes.false, bytes-are f.before.before.before.before.before.before)))
+    let a = c.args in
+    (λ z. record { number = 0; bytes = bytes-are c.before.before.before.before.before.before z; card = (c.write_blocks.ensures ∙ ap (λ (k : ℕ). blocks_of a.kind (blocks_for a.kind k) k a.answer.now ++ drop (card_bytes a.kind k) a.card.now) c.records_of-total.ensures) z })
+    ∙ sym (wrote-0 a.kind a.answer.now a.card.now (can c.before.before.before.before.before.before.before.before) (omega (arith, c.if-card-bytes.false, bytes-are c.before.before.before.before.before.before)))

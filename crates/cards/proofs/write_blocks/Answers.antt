@@ -37,33 +37,27 @@ pub put_block-requires : goal.put_block-requires
 unfolding card_bytes
 put_block-requires c =
     let l = c.loop-b in
-    let f = c in
-    let a = f.args in
-    let k = called a.kind a.total l.b (omega (arith, blocks-are f.before.before.before.before, c.loop-b-test.true)) in
-    (omega (arith, blocks-are f.before.before.before.before, f.requires.1, l.invariant.2), k, omega (arith, words-fit a.kind a.total l.b k, f.requires.0))
+    let a = c.args in
+    let k = called a.kind a.total l.b (omega (arith, blocks-are c.before.before.before.before, c.loop-b-test.true)) in
+    (omega (arith, blocks-are c.before.before.before.before, c.requires.1, l.invariant.2), k, omega (arith, words-fit a.kind a.total l.b k, c.requires.0))
 
 pub loop-b-preserved : goal.loop-b-preserved
 unfolding blocks_of records_in
 loop-b-preserved c =
-    let p = c in
-    let l = p.loop-b in
-    let f = p in
-    let s = f in
-    let a = s.args in (
+    let l = c.loop-b in
+    let a = c.args in (
       omega arith,
-      p.put_block.ensures
+      c.put_block.ensures
           ∙ joined-stored a.card.now l.card 0 (block_bytes * l.b) (λ b. block_of a.kind a.total b (records_in a.kind a.total b a.answer.now)) l.b
-          (omega (arith, length-blocks a.kind l.b a.total a.answer.now s.requires.0 (omega (arith, blocks-are f.before.before.before.before.before.before.before, l.invariant.0)))) l.invariant.1,
-      p.put_block.auto.card ∙ l.invariant.2,
+          (omega (arith, length-blocks a.kind l.b a.total a.answer.now c.requires.0 (omega (arith, blocks-are c.before.before.before.before.before.before.before, l.invariant.0)))) l.invariant.1,
+      c.put_block.auto.card ∙ l.invariant.2,
     )
 
 pub returns : goal.returns
 unfolding card_bytes blocks_of
 returns c =
     let l = c.loop-b in
-    let f = c in
-    let s = f in
-    let kind = s.args.kind in
-    let n = s.args.total in
-    joined-front s.args.card.now l.card (λ b. block_of kind n b (records_in kind n b s.args.answer.now)) l.b (blocks_for kind n) (block_bytes * blocks_for kind n) l.invariant.1
-    (le_antisymm l.invariant.0 c.loop-b-test.false ∙ blocks-are f.before.before.before) (length-blocks kind (blocks_for kind n) n s.args.answer.now s.requires.0 (omega arith)) s.requires.1
+    let kind = c.args.kind in
+    let n = c.args.total in
+    joined-front c.args.card.now l.card (λ b. block_of kind n b (records_in kind n b c.args.answer.now)) l.b (blocks_for kind n) (block_bytes * blocks_for kind n) l.invariant.1
+    (le_antisymm l.invariant.0 c.loop-b-test.false ∙ blocks-are c.before.before.before) (length-blocks kind (blocks_for kind n) n c.args.answer.now c.requires.0 (omega arith)) c.requires.1

@@ -10,19 +10,14 @@ loop-t-init c = let a = c.args in (omega arith, none_done a.rows a.k a.positions
 
 pub contribute_triangle-requires : goal.contribute_triangle-requires
 contribute_triangle-requires c =
-    let i = c in
-    let l = i.loop-t in
-    let s = i in
-    (i.table-cosines.ensures, s.requires.0, s.requires.1, omega (arith, s.requires.2, i.loop-t-test.true), omega (arith, s.requires.3, l.invariant.1.only.size))
+    let l = c.loop-t in
+    (c.table-cosines.ensures, c.requires.0, c.requires.1, omega (arith, c.requires.2, c.loop-t-test.true), omega (arith, c.requires.3, l.invariant.1.only.size))
 
 pub loop-t-preserved : goal.loop-t-preserved
 loop-t-preserved c =
-    let t = c in
-    let i = t in
-    let l = i.loop-t in
-    let s = i in
-    let a = s.args in
-    (omega (arith, i.loop-t-test.true), one_more a.rows a.k a.positions.now a.normals.now a.tris a.work.now s.requires.1 l.t _ _ (omega (arith, s.requires.2, i.loop-t-test.true)) i.loop-t-test.true l.invariant.1 t.contribute_triangle.ensures)
+    let l = c.loop-t in
+    let a = c.args in
+    (omega (arith, c.loop-t-test.true), one_more a.rows a.k a.positions.now a.normals.now a.tris a.work.now c.requires.1 l.t _ _ (omega (arith, c.requires.2, c.loop-t-test.true)) c.loop-t-test.true l.invariant.1 c.contribute_triangle.ensures)
 
 pub shape_of-work : goal.shape_of-work
 shape_of-work c = c.loop-t.invariant.1.only.size

@@ -26,13 +26,10 @@ shape_of-work c = simp length-set (omega arith)
 
 pub returns : goal.returns
 returns c =
-    let s = c in
-    let p = c in
-    let q = c in
-    let a = s.args in
+    let a = c.args in
     let n = a.rows in
     let r = a.r in
-    stored-as n r a.s a.t a.opening a.work.now s.requires.0 s.requires.1 _
-    ((λ z. set (q.put_vector-2.ensures.0 z) (opening_column * n + r) (c.word-a.ensures z))
-    ∙ ap (λ (k : List ℕ). set (set (set (set k (tx_column * n + r) (word a.t.x)) (ty_column * n + r) (word a.t.y)) (tz_column * n + r) (word a.t.z)) (opening_column * n + r) (word a.opening)) p.put_vector.ensures.0)
-    p.put_vector.ensures.1 q.put_vector-2.ensures.1 (held s.before.before.before.before.before.before.before.before.before.before)
+    stored-as n r a.s a.t a.opening a.work.now c.requires.0 c.requires.1 _
+    ((λ z. set (c.put_vector-2.ensures.0 z) (opening_column * n + r) (c.word-a.ensures z))
+    ∙ ap (λ (k : List ℕ). set (set (set (set k (tx_column * n + r) (word a.t.x)) (ty_column * n + r) (word a.t.y)) (tz_column * n + r) (word a.t.z)) (opening_column * n + r) (word a.opening)) c.put_vector.ensures.0)
+    c.put_vector.ensures.1 c.put_vector-2.ensures.1 (held c.before.before.before.before.before.before.before.before.before.before)

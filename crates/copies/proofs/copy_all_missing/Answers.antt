@@ -13,18 +13,15 @@ loop-t-init c = let a = c.args in (up_to-none (missing_copied a.rows a.positions
 
 pub copy_missing-requires : goal.copy_missing-requires
 copy_missing-requires c =
-    let s = c in
-    (omega (arith, s.requires.0, c.loop-t-test.true), s.requires.1)
+    (omega (arith, c.requires.0, c.loop-t-test.true), c.requires.1)
 
 pub loop-t-preserved : goal.loop-t-preserved
 unfolding missings_copied
 loop-t-preserved c =
-    let t = c in
-    let i = t in
-    let l = i.loop-t in
-    let a = i.args in
+    let l = c.loop-t in
+    let a = c.args in
     let turn = missing_copied a.rows a.positions.now a.work.now in
-    (t.copy_missing.ensures ∙ ap (turn l.t) l.invariant.0 ∙ up_to-more l.t turn a.answer.now, omega (arith, i.loop-t-test.true), t.copy_missing.auto.answer ∙ l.invariant.2)
+    (c.copy_missing.ensures ∙ ap (turn l.t) l.invariant.0 ∙ up_to-more l.t turn a.answer.now, omega (arith, c.loop-t-test.true), c.copy_missing.auto.answer ∙ l.invariant.2)
 
 pub shape_of-answer : goal.shape_of-answer
 shape_of-answer c = c.loop-t.invariant.2

@@ -11,16 +11,10 @@ overflow_cast-first c = let a = c.args in omega (arith, c.shared_slice_known-2-1
 
 pub returns-then-first-sound : goal.returns-then-first-sound
 returns-then-first-sound c =
-    let k = c in
-    let b = k in
-    let l = b in
-    let a = l.args in
-    corner-copied a.rows a.sound a.work.now a.r a.answer.now _ _ refl l.slot_at-to.ensures _ _ (omega (arith, b.if-first-sound.true)) k.slot_at-from.ensures k.copy.ensures
+    let a = c.args in
+    corner-copied a.rows a.sound a.work.now a.r a.answer.now _ _ refl c.slot_at-to.ensures _ _ (omega (arith, c.if-first-sound.true)) c.slot_at-from.ensures c.copy.ensures
 
 pub returns : goal.returns
 returns c =
-    let k = c in
-    let b = k in
-    let l = b in
-    let a = l.args in
-    corner-cleared a.rows a.sound a.work.now a.r a.answer.now _ _ refl l.slot_at-to.ensures _ (omega (arith, b.if-first-sound.false)) k.clear.ensures
+    let a = c.args in
+    corner-cleared a.rows a.sound a.work.now a.r a.answer.now _ _ refl c.slot_at-to.ensures _ (omega (arith, c.if-first-sound.false)) c.clear.ensures

@@ -7,7 +7,5 @@ use Rattle.copies.proofs.copy_frames.Goals as goal
 pub returns : goal.returns
 unfolding frames_copied
 returns c =
-    let m = c in
-    let b = m in
-    let a = b.args in
-    copied-frames a.rows a.sound a.all a.positions.now a.work.now a.answer.now _ (m.copy_all_missing.ensures ∙ ap (missings_copied a.rows a.positions.now a.work.now a.sound) b.copy_degenerate.ensures)
+    let a = c.args in
+    copied-frames a.rows a.sound a.all a.positions.now a.work.now a.answer.now _ (c.copy_all_missing.ensures ∙ ap (missings_copied a.rows a.positions.now a.work.now a.sound) c.copy_degenerate.ensures)

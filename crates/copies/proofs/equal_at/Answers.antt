@@ -7,7 +7,6 @@ use Rattle.copies.proofs.equal_at.Goals as goal
 
 pub returns : goal.returns
 returns c =
-    let m = c in
-    let a = m.args in
-    let gone = missed-same _ _ _ _ m.missed_of-gone.ensures.0 m.corner_at.ensures in
+    let a = c.args in
+    let gone = missed-same _ _ _ _ c.missed_of-gone.ensures.0 c.corner_at.ensures in
     (c.kept_at.ensures.0 ∙ ap (kept_at a.rows a.positions.now a.work.now a.t) (c.place_at.ensures ∙ ap (vector_at a.positions.now) gone), c.kept_at.ensures.1)

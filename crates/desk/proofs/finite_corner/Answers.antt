@@ -5,9 +5,7 @@ use Rattle.desk.proofs.finite_corner.Goals as goal
 pub returns-then-is_finite : goal.returns-then-is_finite
 unfolding finite_corner
 returns-then-is_finite c =
-    let b = c in
-    let a = b in
-    rw (← a.finite_vector.ensures, a.if-finite_vector.true, ← a.finite_vector-then-finite_vector.ensures, b.if-finite_vector-2.true, ← b.is_finite.ensures, c.if-is_finite.true, ← c.is_finite-then-is_finite.ensures)
+    rw (← c.finite_vector.ensures, c.if-finite_vector.true, ← c.finite_vector-then-finite_vector.ensures, c.if-finite_vector-2.true, ← c.is_finite.ensures, c.if-is_finite.true, ← c.is_finite-then-is_finite.ensures)
 
 pub returns-else-is_finite : goal.returns-else-is_finite
 unfolding finite_corner

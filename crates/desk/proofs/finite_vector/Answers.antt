@@ -5,7 +5,7 @@ use Rattle.desk.proofs.finite_vector.Goals as goal
 pub returns-then-is_finite-2 : goal.returns-then-is_finite-2
 unfolding finite_vector
 returns-then-is_finite-2 c =
-    let b = c in rw (← b.is_finite.ensures, b.if-is_finite.true, ← b.is_finite-then-is_finite.ensures, c.if-is_finite-2.true, ← c.is_finite-then-is_finite-2.ensures)
+    rw (← c.is_finite.ensures, c.if-is_finite.true, ← c.is_finite-then-is_finite.ensures, c.if-is_finite-2.true, ← c.is_finite-then-is_finite-2.ensures)
 
 pub returns-else-is_finite-2 : goal.returns-else-is_finite-2
 unfolding finite_vector

@@ -10,11 +10,10 @@ loop-left-init c = (refl, refl, refl)
 
 pub loop-left-preserved : goal.loop-left-preserved
 loop-left-preserved c =
-    let k = c in
-    let l = k.loop-left in
-    let h = k.loop-left-test.true in
+    let l = c.loop-left in
+    let h = c.loop-left-test.true in
     let s = c.flaws_with-flaws.ensures in
-    (omega arith, goes_on finite_corner _ _ _ _ _ _ _ _ _ h k.corner_at.ensures s.0 l.invariant.1, goes_on has_normal _ _ _ _ _ _ _ _ _ h k.corner_at.ensures s.1 l.invariant.2)
+    (omega arith, goes_on finite_corner _ _ _ _ _ _ _ _ _ h c.corner_at.ensures s.0 l.invariant.1, goes_on has_normal _ _ _ _ _ _ _ _ _ h c.corner_at.ensures s.1 l.invariant.2)
 
 pub returns : goal.returns
 returns c =

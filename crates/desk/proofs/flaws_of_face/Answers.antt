@@ -20,15 +20,13 @@ looked-at a b u o e f = f ∙ ap (λ (x : Bool). found (unless_found b (cond x o
 
 pub returns-then-slots_of-eq0 : goal.returns-then-slots_of-eq0
 returns-then-slots_of-eq0 c =
-    let s = c in
-    let n = s.args.size in
-    let z : slots_of n ≡ 0 = omega (arith, s.slots_of.ensures.0, c.if-slots_of-eq0.true) in
+    let n = c.args.size in
+    let z : slots_of n ≡ 0 = omega (arith, c.slots_of.ensures.0, c.if-slots_of-eq0.true) in
     let e : used n ≡ false = takes_none n z in
     (passed_over _ _ _ e, passed_over _ _ _ e)
 
 pub returns : goal.returns
 returns c =
-    let s = c in
-    let n = s.args.size in
-    let e : used n ≡ true = takes-some n (λ h. omega (arith, h, s.slots_of.ensures.0, c.if-slots_of-eq0.false)) in
+    let n = c.args.size in
+    let e : used n ≡ true = takes-some n (λ h. omega (arith, h, c.slots_of.ensures.0, c.if-slots_of-eq0.false)) in
     (looked-at _ _ _ _ e c.flaws_in.ensures.0, looked-at _ _ _ _ e c.flaws_in.ensures.1)

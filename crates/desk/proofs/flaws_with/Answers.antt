@@ -13,5 +13,4 @@ asked b x y i e = ap (λ (z : Bool). found (unless_found b (cond z none (some i)
 
 pub returns : goal.returns
 returns c =
-    let l = c in
-    (l.lowest-bad.ensures ∙ asked _ _ _ _ l.finite_corner.ensures, c.lowest-bare.ensures ∙ asked _ _ _ _ c.has_normal.ensures)
+    (c.lowest-bad.ensures ∙ asked _ _ _ _ c.finite_corner.ensures, c.lowest-bare.ensures ∙ asked _ _ _ _ c.has_normal.ensures)

@@ -62,9 +62,7 @@ not-misfit c = misfit-is c.before ∙ c.if-unfit.false
 
 pub returns-then-unfit : goal.returns-then-unfit
 returns-then-unfit c =
-    let t = c in
-    let e = t in
-    c.said-then-unfit.ensures ∙ row2 (asked e.before.before.before.before.before.before) (not-many e.before.before.before.before.before) (misfit-is t.before.before.before ∙ t.if-unfit.true)
+    c.said-then-unfit.ensures ∙ row2 (asked c.before.before.before.before.before.before) (not-many c.before.before.before.before.before) (misfit-is c.before.before.before ∙ c.if-unfit.true)
 
 -- ---- the tests of the other rows, all of them made
 
@@ -109,41 +107,30 @@ all_fit e = not-misfit e.before.before.before.before
 
 -- row 3 does not
 finite-threshold : (c : At-Else-third-ne0) → IsFinite (shown_to c.before) true
-finite-threshold c = let e = c in not_third (shown_to e.before) e.unfit_threshold-third.result (third-is e.before) (omega (arith, c.if-third-ne0.false, four-small e.before))
+finite-threshold c = not_third (shown_to c.before) c.unfit_threshold-third.result (third-is c.before) (omega (arith, c.if-third-ne0.false, four-small c.before))
 
 pub returns-then-third-ne0 : goal.returns-then-third-ne0
 returns-then-third-ne0 c =
-    let t = c in
-    let e = t in
-    c.said-then-third-ne0.ensures ∙ third (shown_to e.before.before.before) e.unfit_threshold-third.result (third-is e.before.before.before) (λ z. omega (arith, z, t.if-third-ne0.true)) (few-faces e.before.before.before) (all_fit e.before.before.before)
+    c.said-then-third-ne0.ensures ∙ third (shown_to c.before.before.before) c.unfit_threshold-third.result (third-is c.before.before.before) (λ z. omega (arith, z, c.if-third-ne0.true)) (few-faces c.before.before.before) (all_fit c.before.before.before)
 
 -- nor does row 4
 none-bad : (c : At-Else-four-ne0) → Lowest (shown_to c.before.before) none
-none-bad c = let e = c in no-corner 3 _ e.said_at-fourth.result (fourth-is e.before.before) (omega (arith, c.if-four-ne0.false, seven-small e.before.before))
+none-bad c = no-corner 3 _ c.said_at-fourth.result (fourth-is c.before.before) (omega (arith, c.if-four-ne0.false, seven-small c.before.before))
 
 pub returns-then-four-ne0 : goal.returns-then-four-ne0
 returns-then-four-ne0 c =
-    let d = c in
-    let e = d in
-    let r = at-corner 4 _ e.said_at-fourth.result (fourth-is e.before.before.before) (λ z. omega (arith, z, c.if-four-ne0.true)) in
-    r.2 ∙ row4 (shown_to e.before.before.before) (few-faces e.before.before.before) (all_fit e.before.before.before) (finite-threshold d.before.before) r.0 r.1
+    let r = at-corner 4 _ c.said_at-fourth.result (fourth-is c.before.before.before) (λ z. omega (arith, z, c.if-four-ne0.true)) in
+    r.2 ∙ row4 (shown_to c.before.before.before) (few-faces c.before.before.before) (all_fit c.before.before.before) (finite-threshold c.before.before) r.0 r.1
 
 -- nor does row 7
 none_bare : (c : At-Else-seven-ne0) → Bare (shown_to c.before.before.before) none
-none_bare c = let e = c in no-corner 6 _ e.said_at-seventh.result (seventh-is e.before.before.before) (omega (arith, c.if-seven-ne0.false, seven-small e.before.before.before, seven-only e.before.before.before, lists-small e.before.before.before))
+none_bare c = no-corner 6 _ c.said_at-seventh.result (seventh-is c.before.before.before) (omega (arith, c.if-seven-ne0.false, seven-small c.before.before.before, seven-only c.before.before.before, lists-small c.before.before.before))
 
 pub returns-then-seven-ne0 : goal.returns-then-seven-ne0
 returns-then-seven-ne0 c =
-    let b = c in
-    let d = b in
-    let e = d in
-    let r = at-corner 7 _ e.said_at-seventh.result (seventh-is e.before.before.before.before) (λ z. omega (arith, z, c.if-seven-ne0.true)) in
-    r.2 ∙ row7 (shown_to e.before.before.before.before) (few-faces e.before.before.before.before) (all_fit e.before.before.before.before) (finite-threshold d.before.before.before) (none-bad b.before.before) r.0 r.1
+    let r = at-corner 7 _ c.said_at-seventh.result (seventh-is c.before.before.before.before) (λ z. omega (arith, z, c.if-seven-ne0.true)) in
+    r.2 ∙ row7 (shown_to c.before.before.before.before) (few-faces c.before.before.before.before) (all_fit c.before.before.before.before) (finite-threshold c.before.before.before) (none-bad c.before.before) r.0 r.1
 
 pub returns : goal.returns
 returns c =
-    let l = c in
-    let b = l in
-    let d = b in
-    let e = d in
-    c.said-2.ensures ∙ ap (λ (n : ℕ). said n 0) (lists-is e.before.before.before.before.before) ∙ rows56 (shown_to e.before.before.before.before.before) (few-faces e.before.before.before.before.before) (all_fit e.before.before.before.before.before) (finite-threshold d.before.before.before.before) (none-bad b.before.before.before) (none_bare l.before.before)
+    c.said-2.ensures ∙ ap (λ (n : ℕ). said n 0) (lists-is c.before.before.before.before.before) ∙ rows56 (shown_to c.before.before.before.before.before) (few-faces c.before.before.before.before.before) (all_fit c.before.before.before.before.before) (finite-threshold c.before.before.before.before) (none-bad c.before.before.before) (none_bare c.before.before)

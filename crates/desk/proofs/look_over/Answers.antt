@@ -12,34 +12,31 @@ use Rattle.desk.proofs.look_over.Goals as goal
 
 pub loop-f-init : goal.loop-f-init
 loop-f-init c =
-    let a = c in
-    (a.requires, omega arith, omega arith, omega arith, corners-none a.args.sizes.now, slots-none a.args.sizes.now, at_once _, at_once _)
+    (c.requires, omega arith, omega arith, omega arith, corners-none c.args.sizes.now, slots-none c.args.sizes.now, at_once _, at_once _)
 
 pub flaws_of_face-flaws-requires : goal.flaws_of_face-flaws-requires
 flaws_of_face-flaws-requires c = omega (arith, c.shared_slice_known-in-loop-f-1.given c.loop-f.f)
 
 pub overflow_cast-corners : goal.overflow_cast-corners
-overflow_cast-corners c = let b = c in omega (arith, b.shared_slice_known-in-loop-f-1.given b.loop-f.f)
+overflow_cast-corners c = omega (arith, c.shared_slice_known-in-loop-f-1.given c.loop-f.f)
 
 pub overflow_add-corners : goal.overflow_add-corners
-overflow_add-corners c = let b = c in omega (arith, b.shared_slice_known-in-loop-f-1.given b.loop-f.f)
+overflow_add-corners c = omega (arith, c.shared_slice_known-in-loop-f-1.given c.loop-f.f)
 
 pub loop-f-preserved : goal.loop-f-preserved
 loop-f-preserved c =
-    let b = c in
-    let k = b in
-    let l = k.loop-f in
-    let a = k.args in
+    let l = c.loop-f in
+    let a = c.args in
     let sizes = a.sizes.now in
-    let h = k.loop-f-test.true in (
+    let h = c.loop-f-test.true in (
       l.invariant.0,
       omega arith,
-      omega (arith, k.shared_slice_known-in-loop-f-1.given l.f),
+      omega (arith, c.shared_slice_known-in-loop-f-1.given l.f),
       omega arith,
       omega (arith, l.invariant.4, corners-more sizes l.f h),
       (λ i. l.invariant.5 i + c.slots_of.ensures.0 i) ∙ sym (slots-more sizes l.f h),
-      next-face finite_corner _ _ _ sizes _ _ l.f l.corners _ _ h b.flaws_of_face-flaws.ensures.0 l.invariant.6 (omega arith) (omega arith),
-      next-face has_normal _ _ _ sizes _ _ l.f l.corners _ _ h b.flaws_of_face-flaws.ensures.1 l.invariant.7 (omega arith) (omega arith),
+      next-face finite_corner _ _ _ sizes _ _ l.f l.corners _ _ h c.flaws_of_face-flaws.ensures.0 l.invariant.6 (omega arith) (omega arith),
+      next-face has_normal _ _ _ sizes _ _ l.f l.corners _ _ h c.flaws_of_face-flaws.ensures.1 l.invariant.7 (omega arith) (omega arith),
     )
 
 pub returns : goal.returns

@@ -14,16 +14,16 @@ pub loop-i-init : goal.loop-i-init
 loop-i-init c = (omega arith, front-none _ _, refl)
 
 pub overflow_mul-list : goal.overflow_mul-list
-overflow_mul-list c = let s = c in let p = s.requires in omega (arith, p.2, column-ends s.args.column columns s.args.rows p.1)
+overflow_mul-list c = let p = c.requires in omega (arith, p.2, column-ends c.args.column columns c.args.rows p.1)
 
 pub overflow_add-list : goal.overflow_add-list
-overflow_add-list c = let s = c in let p = s.requires in omega (arith, c.loop-i-test.true, p.0, p.2, column-ends s.args.column columns s.args.rows p.1)
+overflow_add-list c = let p = c.requires in omega (arith, c.loop-i-test.true, p.0, p.2, column-ends c.args.column columns c.args.rows p.1)
 
 pub offset_bounds-work-column : goal.offset_bounds-work-column
-offset_bounds-work-column c = let s = c in let p = s.requires in omega (arith, c.loop-i-test.true, p.0, p.2, column-ends s.args.column columns s.args.rows p.1)
+offset_bounds-work-column c = let p = c.requires in omega (arith, c.loop-i-test.true, p.0, p.2, column-ends c.args.column columns c.args.rows p.1)
 
 pub bounds-work-column : goal.bounds-work-column
-bounds-work-column c = let s = c in let p = s.requires in omega (arith, c.loop-i-test.true, p.0, p.2, column-ends s.args.column columns s.args.rows p.1)
+bounds-work-column c = let p = c.requires in omega (arith, c.loop-i-test.true, p.0, p.2, column-ends c.args.column columns c.args.rows p.1)
 
 pub loop-i-preserved : goal.loop-i-preserved
 loop-i-preserved c =

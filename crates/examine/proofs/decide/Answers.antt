@@ -27,38 +27,28 @@ room : (s : At-Start) → columns * rows_of (length s.args.sizes.now) ≤ length
 room s = omega (arith, (known s).work-fits)
 
 pub overflow_mul-rows : goal.overflow_mul-rows
-overflow_mul-rows c = let s = c in omega (arith, (known s.before.before.before.before.before.before.before.before.before).few)
+overflow_mul-rows c = omega (arith, (known c.before.before.before.before.before.before.before.before.before).few)
 
 pub link_mesh-counts-requires : goal.link_mesh-counts-requires
-link_mesh-counts-requires c = let s = c in ((known s.before.before.before.before.before.before.before.before.before.before).few, room s.before.before.before.before.before.before.before.before.before.before)
+link_mesh-counts-requires c = ((known c.before.before.before.before.before.before.before.before.before.before).few, room c.before.before.before.before.before.before.before.before.before.before)
 
 pub examine_all-o-requires : goal.examine_all-o-requires
 examine_all-o-requires c =
-    let m = c in
-    let s = m in
-    let t = s.args in
-    let K = m.link_mesh-counts.ensures in
-    (linked-fit _ _ _ _ _ K, omega (arith, room s.before.before.before.before.before.before.before.before.before.before.before.before.before.before, K.only.size), omega (arith, (known s.before.before.before.before.before.before.before.before.before.before.before.before.before.before).few), sharp-left (handed t.sizes.now t.positions.now t.normals.now t.texture.now) (some-triangle (corner_at t.positions.now t.normals.now t.texture.now 0)) _ _ t.work.now _ K (known s.before.before.before.before.before.before.before.before.before.before.before.before.before.before).good)
+    let t = c.args in
+    let K = c.link_mesh-counts.ensures in
+    (linked-fit _ _ _ _ _ K, omega (arith, room c.before.before.before.before.before.before.before.before.before.before.before.before.before.before, K.only.size), omega (arith, (known c.before.before.before.before.before.before.before.before.before.before.before.before.before.before).few), sharp-left (handed t.sizes.now t.positions.now t.normals.now t.texture.now) (some-triangle (corner_at t.positions.now t.normals.now t.texture.now 0)) _ _ t.work.now _ K (known c.before.before.before.before.before.before.before.before.before.before.before.before.before.before).good)
 
 pub overflow_mul-sizes : goal.overflow_mul-sizes
 overflow_mul-sizes c =
-    let s = c in
-    omega (arith, (known s.before.before.before.before.before.before.before.before.before.before.before.before.before.before.before.before.before.before).few)
+    omega (arith, (known c.before.before.before.before.before.before.before.before.before.before.before.before.before.before.before.before.before.before).few)
 
 pub clear_first-requires : goal.clear_first-requires
 clear_first-requires c =
-    let e = c in
-    let m = e in
-    let s = m in
-    omega (arith, (known s.before.before.before.before.before.before.before.before.before.before.before.before.before.before.before.before.before.before).work-fits, m.link_mesh-counts.ensures.only.size, e.examine_all-o.ensures.only.size)
+    omega (arith, (known c.before.before.before.before.before.before.before.before.before.before.before.before.before.before.before.before.before.before).work-fits, c.link_mesh-counts.ensures.only.size, c.examine_all-o.ensures.only.size)
 
 pub returns : goal.returns
 returns c =
-    let y = c in
-    let e = y in
-    let m = e in
-    let s = m in
-    let t = s.args in
-    let K = m.link_mesh-counts.ensures in
-    let r = e.examine_all-o.ensures in
-    record { decides = decides (handed t.sizes.now t.positions.now t.normals.now t.texture.now) _ _ t.work.now _ t.given.now t.groups.now t.ways.now _ _ K (known s.before.before.before.before.before.before.before.before.before.before.before.before.before.before.before.before.before.before.before.before.before).good r.verdict; clears = cleared t.sizes.now t.work.now _ _ (r.only.rest ∙ K.only.rest) y.clear_first.ensures }
+    let t = c.args in
+    let K = c.link_mesh-counts.ensures in
+    let r = c.examine_all-o.ensures in
+    record { decides = decides (handed t.sizes.now t.positions.now t.normals.now t.texture.now) _ _ t.work.now _ t.given.now t.groups.now t.ways.now _ _ K (known c.before.before.before.before.before.before.before.before.before.before.before.before.before.before.before.before.before.before.before.before.before).good r.verdict; clears = cleared t.sizes.now t.work.now _ _ (r.only.rest ∙ K.only.rest) c.clear_first.ensures }

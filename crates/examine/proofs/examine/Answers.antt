@@ -13,21 +13,15 @@ use Rattle.examine.proofs.examine.Goals as goal
 
 pub returns-then-v-ne0 : goal.returns-then-v-ne0
 returns-then-v-ne0 c =
-    let j = c in
-    let t = j.args in
-    examines-refused (handed t.sizes.now t.positions.now t.normals.now t.texture.now) t.links.now t.groups.now t.orientations.now t.work.now _ _ j.ask-v.ensures (λ h. c.if-v-ne0.true (omega (arith, h))) refl
+    let t = c.args in
+    examines-refused (handed t.sizes.now t.positions.now t.normals.now t.texture.now) t.links.now t.groups.now t.orientations.now t.work.now _ _ c.ask-v.ensures (λ h. c.if-v-ne0.true (omega (arith, h))) refl
 
 pub decide-o-requires : goal.decide-o-requires
 decide-o-requires c =
-    let i = c in
-    let j = i in
-    let t = j.args in
-    no-refusal (shown (handed t.sizes.now t.positions.now t.normals.now t.texture.now) zeroᶠ longest (length t.work.now)) (omega (arith, ap (λ (x : Verdict). x.number) j.ask-v.ensures, i.if-v-ne0.false))
+    let t = c.args in
+    no-refusal (shown (handed t.sizes.now t.positions.now t.normals.now t.texture.now) zeroᶠ longest (length t.work.now)) (omega (arith, ap (λ (x : Verdict). x.number) c.ask-v.ensures, c.if-v-ne0.false))
 
 pub returns : goal.returns
 returns c =
-    let d = c in
-    let i = d in
-    let j = i in
-    let t = j.args in
-    examines-decided (handed t.sizes.now t.positions.now t.normals.now t.texture.now) t.links.now t.groups.now t.orientations.now t.work.now _ _ (no-refusal (shown (handed t.sizes.now t.positions.now t.normals.now t.texture.now) zeroᶠ longest (length t.work.now)) (omega (arith, ap (λ (x : Verdict). x.number) j.ask-v.ensures, i.if-v-ne0.false))) (record { number = refl; decides = d.decide-o.ensures.decides; work = d.decide-o.ensures.clears })
+    let t = c.args in
+    examines-decided (handed t.sizes.now t.positions.now t.normals.now t.texture.now) t.links.now t.groups.now t.orientations.now t.work.now _ _ (no-refusal (shown (handed t.sizes.now t.positions.now t.normals.now t.texture.now) zeroᶠ longest (length t.work.now)) (omega (arith, ap (λ (x : Verdict). x.number) c.ask-v.ensures, c.if-v-ne0.false))) (record { number = refl; decides = c.decide-o.ensures.decides; work = c.decide-o.ensures.clears })

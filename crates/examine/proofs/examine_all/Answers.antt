@@ -22,27 +22,22 @@ examine_links-b-requires c =
 
 pub returns-then-b-ne0 : goal.returns-then-b-ne0
 returns-then-b-ne0 c =
-    let k = c in
-    let p = k.requires in
-    let t = k.args in
-    record { verdict = stop-links t.rows t.tris t.work.now t.given.now t.groups.now t.ways.now _ _ k.examine_lengths-a.ensures k.if-a-ne0.false _ _ k.examine_links-b.ensures.verdict c.if-b-ne0.true; only = only-more step_columns all_columns _ _ _ refl k.examine_links-b.ensures.only }
+    let p = c.requires in
+    let t = c.args in
+    record { verdict = stop-links t.rows t.tris t.work.now t.given.now t.groups.now t.ways.now _ _ c.examine_lengths-a.ensures c.if-a-ne0.false _ _ c.examine_links-b.ensures.verdict c.if-b-ne0.true; only = only-more step_columns all_columns _ _ _ refl c.examine_links-b.ensures.only }
 
 pub examine_groups-requires : goal.examine_groups-requires
 examine_groups-requires c =
-    let k = c in
-    let i = k in
-    let e = i in
-    let p = e.requires in
-    let t = e.args in
-    let l = long-lists t.rows t.tris t.work.now t.given.now t.groups.now t.ways.now _ _ e.examine_lengths-a.ensures i.if-a-ne0.false in
-    let o = k.examine_links-b.ensures.only in
-    (p.0, omega (arith, p.1, o.size), p.2, omega (arith, l.links), omega (arith, l.groups), omega (arith, l.ways), links-clear t.rows t.tris t.work.now t.given.now t.groups.now t.ways.now _ _ e.examine_lengths-a.ensures i.if-a-ne0.false _ _ k.examine_links-b.ensures.verdict c.if-b-ne0.false _ p.0 o)
+    let p = c.requires in
+    let t = c.args in
+    let l = long-lists t.rows t.tris t.work.now t.given.now t.groups.now t.ways.now _ _ c.examine_lengths-a.ensures c.if-a-ne0.false in
+    let o = c.examine_links-b.ensures.only in
+    (p.0, omega (arith, p.1, o.size), p.2, omega (arith, l.links), omega (arith, l.groups), omega (arith, l.ways), links-clear t.rows t.tris t.work.now t.given.now t.groups.now t.ways.now _ _ c.examine_lengths-a.ensures c.if-a-ne0.false _ _ c.examine_links-b.ensures.verdict c.if-b-ne0.false _ p.0 o)
 
 pub returns : goal.returns
 returns c =
-    let k = c in
-    let p = k.requires in
-    let t = k.args in
-    let o = k.examine_links-b.ensures.only in
+    let p = c.requires in
+    let t = c.args in
+    let o = c.examine_links-b.ensures.only in
     let r = c.examine_groups.ensures in
-    record { verdict = end-groups t.rows t.tris t.work.now t.given.now t.groups.now t.ways.now _ _ k.examine_lengths-a.ensures k.if-a-ne0.false _ _ k.examine_links-b.ensures.verdict c.if-b-ne0.false _ p.0 o _ _ r.verdict; only = only-trans all_columns _ _ _ _ (only-more step_columns all_columns _ _ _ refl o) (only-more group_columns all_columns _ _ _ refl r.only) }
+    record { verdict = end-groups t.rows t.tris t.work.now t.given.now t.groups.now t.ways.now _ _ c.examine_lengths-a.ensures c.if-a-ne0.false _ _ c.examine_links-b.ensures.verdict c.if-b-ne0.false _ p.0 o _ _ r.verdict; only = only-trans all_columns _ _ _ _ (only-more step_columns all_columns _ _ _ refl o) (only-more group_columns all_columns _ _ _ refl r.only) }

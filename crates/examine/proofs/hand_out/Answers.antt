@@ -26,76 +26,57 @@ room : (s : At-Start) → columns * rows_of (length s.args.sizes.now) ≤ length
 room s = omega (arith, (known s).work-fits)
 
 pub group_mesh-counts-requires : goal.group_mesh-counts-requires
-group_mesh-counts-requires c = let s = c in ((known s.before.before.before.before.before.before.before.before.before.before).few, room s.before.before.before.before.before.before.before.before.before.before)
+group_mesh-counts-requires c = ((known c.before.before.before.before.before.before.before.before.before.before).few, room c.before.before.before.before.before.before.before.before.before.before)
 
 pub overflow_mul-n : goal.overflow_mul-n
 overflow_mul-n c =
-    let g = c in
-    let s = g in
-    let n = grouped-fit _ _ _ _ g.group_mesh-counts.ensures in
-    omega (arith, n, (known s.before.before.before.before.before.before.before.before.before.before.before.before.before).few)
+    let n = grouped-fit _ _ _ _ c.group_mesh-counts.ensures in
+    omega (arith, n, (known c.before.before.before.before.before.before.before.before.before.before.before.before.before).few)
 
 pub copy_out-requires : goal.copy_out-requires
 copy_out-requires c =
-    let g = c in
-    let s = g in
-    let n = grouped-fit _ _ _ _ g.group_mesh-counts.ensures in
-    (n, omega arith, omega (arith, room s.before.before.before.before.before.before.before.before.before.before.before.before.before.before, g.group_mesh-counts.ensures.only.size), omega (arith, n, s.requires.1))
+    let n = grouped-fit _ _ _ _ c.group_mesh-counts.ensures in
+    (n, omega arith, omega (arith, room c.before.before.before.before.before.before.before.before.before.before.before.before.before.before, c.group_mesh-counts.ensures.only.size), omega (arith, n, c.requires.1))
 
 pub overflow_mul-n-2 : goal.overflow_mul-n-2
 overflow_mul-n-2 c =
-    let g = c in
-    let s = g in
-    let n = grouped-fit _ _ _ _ g.group_mesh-counts.ensures in
-    omega (arith, n, (known s.before.before.before.before.before.before.before.before.before.before.before.before.before.before.before.before.before).few)
+    let n = grouped-fit _ _ _ _ c.group_mesh-counts.ensures in
+    omega (arith, n, (known c.before.before.before.before.before.before.before.before.before.before.before.before.before.before.before.before.before).few)
 
 pub copy_out-requires-2 : goal.copy_out-requires-2
 copy_out-requires-2 c =
-    let g = c in
-    let s = g in
-    let n = grouped-fit _ _ _ _ g.group_mesh-counts.ensures in
-    (n, omega arith, omega (arith, room s.before.before.before.before.before.before.before.before.before.before.before.before.before.before.before.before.before.before, g.group_mesh-counts.ensures.only.size), omega (arith, n, s.requires.2))
+    let n = grouped-fit _ _ _ _ c.group_mesh-counts.ensures in
+    (n, omega arith, omega (arith, room c.before.before.before.before.before.before.before.before.before.before.before.before.before.before.before.before.before.before, c.group_mesh-counts.ensures.only.size), omega (arith, n, c.requires.2))
 
 pub copy_out-requires-3 : goal.copy_out-requires-3
 copy_out-requires-3 c =
-    let g = c in
-    let s = g in
-    let n = grouped-fit _ _ _ _ g.group_mesh-counts.ensures in
-    (omega (arith, n), omega arith, omega (arith, room s.before.before.before.before.before.before.before.before.before.before.before.before.before.before.before.before.before.before.before.before.before.before, g.group_mesh-counts.ensures.only.size), omega (arith, n, s.requires.3))
+    let n = grouped-fit _ _ _ _ c.group_mesh-counts.ensures in
+    (omega (arith, n), omega arith, omega (arith, room c.before.before.before.before.before.before.before.before.before.before.before.before.before.before.before.before.before.before.before.before.before.before, c.group_mesh-counts.ensures.only.size), omega (arith, n, c.requires.3))
 
 pub overflow_mul-sizes : goal.overflow_mul-sizes
-overflow_mul-sizes c = let s = c in omega (arith, (known s.before.before.before.before.before.before.before.before.before.before.before.before.before.before.before.before.before.before.before.before.before.before.before.before.before.before).few)
+overflow_mul-sizes c = omega (arith, (known c.before.before.before.before.before.before.before.before.before.before.before.before.before.before.before.before.before.before.before.before.before.before.before.before.before.before).few)
 
 pub clear_first-requires : goal.clear_first-requires
 clear_first-requires c =
-    let g = c in
-    let s = g in
-    let n = grouped-fit _ _ _ _ g.group_mesh-counts.ensures in
-    omega (arith, (known s.before.before.before.before.before.before.before.before.before.before.before.before.before.before.before.before.before.before.before.before.before.before.before.before.before.before).work-fits, g.group_mesh-counts.ensures.only.size)
+    let n = grouped-fit _ _ _ _ c.group_mesh-counts.ensures in
+    omega (arith, (known c.before.before.before.before.before.before.before.before.before.before.before.before.before.before.before.before.before.before.before.before.before.before.before.before.before.before).work-fits, c.group_mesh-counts.ensures.only.size)
 
 pub overflow_cast-result : goal.overflow_cast-result
 overflow_cast-result c =
-    let g = c in
-    let s = g in
-    let n = grouped-fit _ _ _ _ g.group_mesh-counts.ensures in
-    omega (arith, n, (known s.before.before.before.before.before.before.before.before.before.before.before.before.before.before.before.before.before.before.before.before.before.before.before.before.before.before.before.before.before).few)
+    let n = grouped-fit _ _ _ _ c.group_mesh-counts.ensures in
+    omega (arith, n, (known c.before.before.before.before.before.before.before.before.before.before.before.before.before.before.before.before.before.before.before.before.before.before.before.before.before.before.before.before.before).few)
 
 pub returns : goal.returns
 returns c =
-    let y = c in
-    let o = y in
-    let b = o in
-    let l = b in
-    let g = l in
-    let K = g.group_mesh-counts.ensures in
-    let t = g.args in
+    let K = c.group_mesh-counts.ensures in
+    let t = c.args in
     record {
-      counts = g.group_mesh-counts.result;
+      counts = c.group_mesh-counts.result;
       v = _;
       left = K;
       sound = refl;
-      links = l.copy_out.ensures;
-      groups = b.copy_out-2.ensures;
-      ways = o.copy_out-3.ensures;
-      work = cleared t.sizes.now t.work.now _ _ K.only.rest y.clear_first.ensures;
+      links = c.copy_out.ensures;
+      groups = c.copy_out-2.ensures;
+      ways = c.copy_out-3.ensures;
+      work = cleared t.sizes.now t.work.now _ _ K.only.rest c.clear_first.ensures;
     }

@@ -14,41 +14,26 @@ use Rattle.examine.proofs.own_links.Goals as goal
 
 pub returns-then-said-ne0 : goal.returns-then-said-ne0
 returns-then-said-ne0 c =
-    let j = c in
-    let t = j.args in
-    hands-refused (handed t.sizes.now t.positions.now t.normals.now t.texture.now) t.links.now t.groups.now t.orientations.now t.work.now _ _ j.ask-said.ensures (λ h. c.if-said-ne0.true (omega (arith, h))) refl
+    let t = c.args in
+    hands-refused (handed t.sizes.now t.positions.now t.normals.now t.texture.now) t.links.now t.groups.now t.orientations.now t.work.now _ _ c.ask-said.ensures (λ h. c.if-said-ne0.true (omega (arith, h))) refl
 
 pub short-requires : goal.short-requires
 short-requires c =
-    let i = c in
-    let j = i in
-    let t = j.args in
-    (fine (shown (handed t.sizes.now t.positions.now t.normals.now t.texture.now) zeroᶠ longest (length t.work.now)) (no-refusal (shown (handed t.sizes.now t.positions.now t.normals.now t.texture.now) zeroᶠ longest (length t.work.now)) (omega (arith, ap (λ (x : Verdict). x.number) j.ask-said.ensures, i.if-said-ne0.false)))).few
+    let t = c.args in
+    (fine (shown (handed t.sizes.now t.positions.now t.normals.now t.texture.now) zeroᶠ longest (length t.work.now)) (no-refusal (shown (handed t.sizes.now t.positions.now t.normals.now t.texture.now) zeroᶠ longest (length t.work.now)) (omega (arith, ap (λ (x : Verdict). x.number) c.ask-said.ensures, c.if-said-ne0.false)))).few
 
 pub returns-then-short : goal.returns-then-short
 returns-then-short c =
-    let h = c in
-    let i = h in
-    let j = i in
-    let t = j.args in
-    hands-short (handed t.sizes.now t.positions.now t.normals.now t.texture.now) t.links.now t.groups.now t.orientations.now t.work.now _ h.short.ensures (no-refusal (shown (handed t.sizes.now t.positions.now t.normals.now t.texture.now) zeroᶠ longest (length t.work.now)) (omega (arith, ap (λ (x : Verdict). x.number) j.ask-said.ensures, i.if-said-ne0.false))) _ c.if-short.true refl
+    let t = c.args in
+    hands-short (handed t.sizes.now t.positions.now t.normals.now t.texture.now) t.links.now t.groups.now t.orientations.now t.work.now _ c.short.ensures (no-refusal (shown (handed t.sizes.now t.positions.now t.normals.now t.texture.now) zeroᶠ longest (length t.work.now)) (omega (arith, ap (λ (x : Verdict). x.number) c.ask-said.ensures, c.if-said-ne0.false))) _ c.if-short.true refl
 
 pub hand_out-sound-requires : goal.hand_out-sound-requires
 hand_out-sound-requires c =
-    let k = c in
-    let h = k in
-    let i = h in
-    let j = i in
-    let t = j.args in
-    let l = long-enough _ _ _ _ (sym h.short.ensures ∙ k.if-short.false) in
-    (no-refusal (shown (handed t.sizes.now t.positions.now t.normals.now t.texture.now) zeroᶠ longest (length t.work.now)) (omega (arith, ap (λ (x : Verdict). x.number) j.ask-said.ensures, i.if-said-ne0.false)), l.0, l.1, l.2)
+    let t = c.args in
+    let l = long-enough _ _ _ _ (sym c.short.ensures ∙ c.if-short.false) in
+    (no-refusal (shown (handed t.sizes.now t.positions.now t.normals.now t.texture.now) zeroᶠ longest (length t.work.now)) (omega (arith, ap (λ (x : Verdict). x.number) c.ask-said.ensures, c.if-said-ne0.false)), l.0, l.1, l.2)
 
 pub returns : goal.returns
 returns c =
-    let d = c in
-    let k = d in
-    let h = k in
-    let i = h in
-    let j = i in
-    let t = j.args in
-    hands-given (handed t.sizes.now t.positions.now t.normals.now t.texture.now) t.links.now t.groups.now t.orientations.now t.work.now _ h.short.ensures (no-refusal (shown (handed t.sizes.now t.positions.now t.normals.now t.texture.now) zeroᶠ longest (length t.work.now)) (omega (arith, ap (λ (x : Verdict). x.number) j.ask-said.ensures, i.if-said-ne0.false))) _ _ _ _ _ k.if-short.false (record { number = refl; place = refl; handed = d.hand_out-sound.ensures })
+    let t = c.args in
+    hands-given (handed t.sizes.now t.positions.now t.normals.now t.texture.now) t.links.now t.groups.now t.orientations.now t.work.now _ c.short.ensures (no-refusal (shown (handed t.sizes.now t.positions.now t.normals.now t.texture.now) zeroᶠ longest (length t.work.now)) (omega (arith, ap (λ (x : Verdict). x.number) c.ask-said.ensures, c.if-said-ne0.false))) _ _ _ _ _ c.if-short.false (record { number = refl; place = refl; handed = c.hand_out-sound.ensures })

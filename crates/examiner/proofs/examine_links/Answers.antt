@@ -20,9 +20,8 @@ module _ (s : At-Start) where
 
 pub returns-then-a-n : goal.returns-then-a-n
 returns-then-a-n c =
-    let s = c in
-    let a = s.args in
-    record { verdict = on-wide a.tris (vertex s.before.before.before.before.before.before) a.given.now _ _ _ c.first_wide-a.ensures c.if-a-n.true c.said.ensures.0 c.said.ensures.1; only = only_none _ _ _ }
+    let a = c.args in
+    record { verdict = on-wide a.tris (vertex c.before.before.before.before.before.before) a.given.now _ _ _ c.first_wide-a.ensures c.if-a-n.true c.said.ensures.0 c.said.ensures.1; only = only_none _ _ _ }
 
 pub first_crooked-b-requires : goal.first_crooked-b-requires
 first_crooked-b-requires c =
@@ -31,9 +30,8 @@ first_crooked-b-requires c =
 
 pub returns-then-b-n : goal.returns-then-b-n
 returns-then-b-n c =
-    let s = c in
-    let a = s.args in
-    record { verdict = on-crooked a.tris (vertex s.before.before.before.before.before.before.before.before) a.given.now _ _ _ c.first_wide-a.ensures c.if-a-n.false _ c.first_crooked-b.ensures c.if-b-n.true c.said-then-b-n.ensures.0 c.said-then-b-n.ensures.1; only = only_none _ _ _ }
+    let a = c.args in
+    record { verdict = on-crooked a.tris (vertex c.before.before.before.before.before.before.before.before) a.given.now _ _ _ c.first_wide-a.ensures c.if-a-n.false _ c.first_crooked-b.ensures c.if-b-n.true c.said-then-b-n.ensures.0 c.said-then-b-n.ensures.1; only = only_none _ _ _ }
 
 pub first_one_sided-c-requires : goal.first_one_sided-c-requires
 first_one_sided-c-requires c =
@@ -42,20 +40,15 @@ first_one_sided-c-requires c =
 
 pub returns-then-c-n : goal.returns-then-c-n
 returns-then-c-n c =
-    let s = c in
-    let a = s.args in
-    record { verdict = on-one-sided a.tris (vertex s.before.before.before.before.before.before.before.before.before.before) a.given.now _ _ _ c.first_wide-a.ensures c.if-a-n.false _ c.first_crooked-b.ensures c.if-b-n.false _ c.first_one_sided-c.ensures c.if-c-n.true c.said-then-c-n.ensures.0 c.said-then-c-n.ensures.1; only = only_none _ _ _ }
+    let a = c.args in
+    record { verdict = on-one-sided a.tris (vertex c.before.before.before.before.before.before.before.before.before.before) a.given.now _ _ _ c.first_wide-a.ensures c.if-a-n.false _ c.first_crooked-b.ensures c.if-b-n.false _ c.first_one_sided-c.ensures c.if-c-n.true c.said-then-c-n.ensures.0 c.said-then-c-n.ensures.1; only = only_none _ _ _ }
 
 pub returns-then-d-n : goal.returns-then-d-n
 returns-then-d-n c =
-    let l = c in
-    let s = l in
-    let a = s.args in
-    record { verdict = on-left-over a.tris (vertex s.before.before.before.before.before.before.before.before.before.before.before.before.before.before.before) a.given.now _ _ _ l.first_wide-a.ensures l.if-a-n.false _ l.first_crooked-b.ensures l.if-b-n.false _ l.first_one_sided-c.ensures l.if-c-n.false _ l.first_left-d.ensures.lowest (omega (arith, c.if-d-n.true)) c.said-then-d-n.ensures.0 c.said-then-d-n.ensures.1; only = l.first_left-d.ensures.only }
+    let a = c.args in
+    record { verdict = on-left-over a.tris (vertex c.before.before.before.before.before.before.before.before.before.before.before.before.before.before.before) a.given.now _ _ _ c.first_wide-a.ensures c.if-a-n.false _ c.first_crooked-b.ensures c.if-b-n.false _ c.first_one_sided-c.ensures c.if-c-n.false _ c.first_left-d.ensures.lowest (omega (arith, c.if-d-n.true)) c.said-then-d-n.ensures.0 c.said-then-d-n.ensures.1; only = c.first_left-d.ensures.only }
 
 pub returns : goal.returns
 returns c =
-    let l = c in
-    let s = l in
-    let a = s.args in
-    record { verdict = on_none a.tris (vertex s.before.before.before.before.before.before.before.before.before.before.before.before.before.before.before) a.given.now _ _ _ l.first_wide-a.ensures l.if-a-n.false _ l.first_crooked-b.ensures l.if-b-n.false _ l.first_one_sided-c.ensures l.if-c-n.false _ l.first_left-d.ensures.lowest (omega (arith, c.if-d-n.false)) c.said-2.ensures.0 c.said-2.ensures.1; only = l.first_left-d.ensures.only }
+    let a = c.args in
+    record { verdict = on_none a.tris (vertex c.before.before.before.before.before.before.before.before.before.before.before.before.before.before.before) a.given.now _ _ _ c.first_wide-a.ensures c.if-a-n.false _ c.first_crooked-b.ensures c.if-b-n.false _ c.first_one_sided-c.ensures c.if-c-n.false _ c.first_left-d.ensures.lowest (omega (arith, c.if-d-n.false)) c.said-2.ensures.0 c.said-2.ensures.1; only = c.first_left-d.ensures.only }

@@ -8,20 +8,14 @@ use Rattle.examiner.proofs.first_left.Goals as goal
 
 pub scan_all-requires : goal.scan_all-requires
 scan_all-requires c =
-    let b = c in
-    let k = b in
-    let s = k in
-    let a = s.args in
-    let p = s.requires in
-    let words : (r : ℕ) → r < a.rows → cell a.rows vertex_column r a.work.now < 4294967296 = λ r h. omega (arith, k.slice_known-1.given (vertex_column * a.rows + r)) in
-    let O = order_is a.rows a.tris a.work.now _ p.0 p.1 p.2 words b.order_sides.ensures p.4 in
-    (p.0, long_after a.rows a.tris a.work.now _ p.0 p.1 p.2 words b.order_sides.ensures, p.2, p.3, λ x h. O.below x h)
+    let a = c.args in
+    let p = c.requires in
+    let words : (r : ℕ) → r < a.rows → cell a.rows vertex_column r a.work.now < 4294967296 = λ r h. omega (arith, c.slice_known-1.given (vertex_column * a.rows + r)) in
+    let O = order_is a.rows a.tris a.work.now _ p.0 p.1 p.2 words c.order_sides.ensures p.4 in
+    (p.0, long_after a.rows a.tris a.work.now _ p.0 p.1 p.2 words c.order_sides.ensures, p.2, p.3, λ x h. O.below x h)
 
 pub returns : goal.returns
 returns c =
-    let b = c in
-    let k = b in
-    let s = k in
-    let a = s.args in
-    let p = s.requires in
-    let words : (r : ℕ) → r < a.rows → cell a.rows vertex_column r a.work.now < 4294967296 = λ r h. omega (arith, k.slice_known-1.given (vertex_column * a.rows + r)) in record { lowest = c.scan_all.ensures _ _ (reads-are a.rows a.tris a.work.now _ p.0 p.1 p.2 words b.order_sides.ensures) (order_is a.rows a.tris a.work.now _ p.0 p.1 p.2 words b.order_sides.ensures p.4); only = only_step a.rows a.tris a.work.now _ p.0 p.1 p.2 words b.order_sides.ensures }
+    let a = c.args in
+    let p = c.requires in
+    let words : (r : ℕ) → r < a.rows → cell a.rows vertex_column r a.work.now < 4294967296 = λ r h. omega (arith, c.slice_known-1.given (vertex_column * a.rows + r)) in record { lowest = c.scan_all.ensures _ _ (reads-are a.rows a.tris a.work.now _ p.0 p.1 p.2 words c.order_sides.ensures) (order_is a.rows a.tris a.work.now _ p.0 p.1 p.2 words c.order_sides.ensures p.4); only = only_step a.rows a.tris a.work.now _ p.0 p.1 p.2 words c.order_sides.ensures }

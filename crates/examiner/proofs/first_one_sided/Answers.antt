@@ -9,8 +9,7 @@ loop-r-init c = (omega arith, none-zero _)
 
 pub one_sided-requires : goal.one_sided-requires
 one_sided-requires c =
-    let s = c in
-    (c.loop-r-test.true, s.requires.0, s.requires.1, not-lt _ _ (s.requires.2 _ c.loop-r-test.true))
+    (c.loop-r-test.true, c.requires.0, c.requires.1, not-lt _ _ (c.requires.2 _ c.loop-r-test.true))
 
 pub returns-then-one_sided : goal.returns-then-one_sided
 returns-then-one_sided c = let l = c.loop-r in lowest-here _ _ l.r c.loop-r-test.true l.invariant.1 (c.one_sided.ensures.holds c.if-one_sided.true)

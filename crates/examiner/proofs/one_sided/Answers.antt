@@ -9,12 +9,10 @@ returns-then-word-eq0 c = told-not (not-one-sided _ _ _ c.word_at-word.ensures c
 
 pub returns-then-back-r : goal.returns-then-back-r
 returns-then-back-r c =
-    let e = c in
-    let a = e.args in
-    told (one-sided-here a.given.now a.r e.word_at-word.result c.word_at-back.result e.word_at-word.ensures e.if-word-eq0.false c.word_at-back.ensures (λ h. c.if-back-r.true (omega (arith, h))))
+    let a = c.args in
+    told (one-sided-here a.given.now a.r c.word_at-word.result c.word_at-back.result c.word_at-word.ensures c.if-word-eq0.false c.word_at-back.ensures (λ h. c.if-back-r.true (omega (arith, h))))
 
 pub returns : goal.returns
 returns c =
-    let e = c in
-    let a = e.args in
-    told-not (mutual-here a.given.now a.r e.word_at-word.result c.word_at-back.result e.word_at-word.ensures e.if-word-eq0.false c.word_at-back.ensures (omega (arith, c.if-back-r.false)))
+    let a = c.args in
+    told-not (mutual-here a.given.now a.r c.word_at-word.result c.word_at-back.result c.word_at-word.ensures c.if-word-eq0.false c.word_at-back.ensures (omega (arith, c.if-back-r.false)))

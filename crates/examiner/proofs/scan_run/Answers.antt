@@ -6,24 +6,18 @@ use Rattle.examiner.proofs.scan_run.Goals as goal
 
 pub returns-then-v-u : goal.returns-then-v-u
 returns-then-v-u c =
-    let v = c in
-    let s = v in
-    let a = s.args in
-    let p = s.requires in
-    record { low = (omega (arith, p.1), p.2); turn = alike-turn a.rows (3 * a.tris) a.work.now a.given.now a.a a.s.first a.s.best a.r p.0 p.5 p.1 p.6 p.7 p.8 _ _ v.vertex_at-v.ensures v.vertex_at-u.ensures c.if-v-u.true }
+    let a = c.args in
+    let p = c.requires in
+    record { low = (omega (arith, p.1), p.2); turn = alike-turn a.rows (3 * a.tris) a.work.now a.given.now a.a a.s.first a.s.best a.r p.0 p.5 p.1 p.6 p.7 p.8 _ _ c.vertex_at-v.ensures c.vertex_at-u.ensures c.if-v-u.true }
 
 pub returns-then-best-first : goal.returns-then-best-first
 returns-then-best-first c =
-    let v = c in
-    let s = v in
-    let a = s.args in
-    let p = s.requires in
+    let a = c.args in
+    let p = c.requires in
     record { low = (omega (arith, p.1), p.2); turn = kept-turn a.rows (3 * a.tris) a.work.now a.given.now a.a a.s.first a.s.best a.r p.0 p.5 p.1 p.6 p.7 p.8 c.if-best-first.true }
 
 pub returns : goal.returns
 returns c =
-    let v = c in
-    let s = v in
-    let a = s.args in
-    let p = s.requires in
-    record { low = (omega (arith, p.1), omega (arith, p.1)); turn = lower-turn a.rows (3 * a.tris) a.work.now a.given.now a.a a.s.first a.s.best a.r p.0 p.5 p.1 p.6 p.7 p.8 _ _ v.vertex_at-v.ensures v.vertex_at-u.ensures c.if-v-u.false (omega (arith, c.if-best-first.false)) }
+    let a = c.args in
+    let p = c.requires in
+    record { low = (omega (arith, p.1), omega (arith, p.1)); turn = lower-turn a.rows (3 * a.tris) a.work.now a.given.now a.a a.s.first a.s.best a.r p.0 p.5 p.1 p.6 p.7 p.8 _ _ c.vertex_at-v.ensures c.vertex_at-u.ensures c.if-v-u.false (omega (arith, c.if-best-first.false)) }

@@ -18,10 +18,9 @@ returns-then-word_at-ne0 c =
 
 pub returns-then-s-tris : goal.returns-then-s-tris
 returns-then-s-tris c =
-    let o = c in
-    let a = o.args in
-    let p = o.requires in
-    record { low = (omega (arith, o.order_at-r.ensures, p.6 a.a p.0), p.2); turn = first-turn a.rows (3 * a.tris) a.work.now a.given.now a.a a.s.first a.s.best _ p.0 o.order_at-r.ensures _ c.word_at.ensures c.if-word_at-ne0.false c.if-s-tris.true }
+    let a = c.args in
+    let p = c.requires in
+    record { low = (omega (arith, c.order_at-r.ensures, p.6 a.a p.0), p.2); turn = first-turn a.rows (3 * a.tris) a.work.now a.given.now a.a a.s.first a.s.best _ p.0 c.order_at-r.ensures _ c.word_at.ensures c.if-word_at-ne0.false c.if-s-tris.true }
 
 pub same_ends-requires : goal.same_ends-requires
 same_ends-requires c =
@@ -30,18 +29,14 @@ same_ends-requires c =
 
 pub returns-then-not-same_ends : goal.returns-then-not-same_ends
 returns-then-not-same_ends c =
-    let t = c in
-    let o = t in
-    let a = o.args in
-    let p = o.requires in
-    let k : o.order_at-r.result < 3 * a.tris = omega (arith, o.order_at-r.ensures, p.6 a.a p.0) in
-    record { low = (omega (arith, k), p.2); turn = next-turn a.rows (3 * a.tris) a.work.now a.given.now a.a a.s.first a.s.best _ p.0 o.order_at-r.ensures (omega (arith, p.1, t.if-s-tris.false)) k (sym t.word_at.ensures ∙ t.if-word_at-ne0.false) _ c.same_ends.ensures c.if-not-same_ends.true }
+    let a = c.args in
+    let p = c.requires in
+    let k : c.order_at-r.result < 3 * a.tris = omega (arith, c.order_at-r.ensures, p.6 a.a p.0) in
+    record { low = (omega (arith, k), p.2); turn = next-turn a.rows (3 * a.tris) a.work.now a.given.now a.a a.s.first a.s.best _ p.0 c.order_at-r.ensures (omega (arith, p.1, c.if-s-tris.false)) k (sym c.word_at.ensures ∙ c.if-word_at-ne0.false) _ c.same_ends.ensures c.if-not-same_ends.true }
 
 pub scan_run-requires : goal.scan_run-requires
 scan_run-requires c =
-    let t = c in
-    let o = t in
-    let a = o.args in
-    let p = o.requires in
-    let k : o.order_at-r.result < 3 * a.tris = omega (arith, o.order_at-r.ensures, p.6 a.a p.0) in
-    (p.0, omega (arith, p.1, t.if-s-tris.false), p.2, p.3, p.4, o.order_at-r.ensures, k, sym t.word_at.ensures ∙ t.if-word_at-ne0.false, sym c.same_ends.ensures ∙ c.if-not-same_ends.false)
+    let a = c.args in
+    let p = c.requires in
+    let k : c.order_at-r.result < 3 * a.tris = omega (arith, c.order_at-r.ensures, p.6 a.a p.0) in
+    (p.0, omega (arith, p.1, c.if-s-tris.false), p.2, p.3, p.4, c.order_at-r.ensures, k, sym c.word_at.ensures ∙ c.if-word_at-ne0.false, sym c.same_ends.ensures ∙ c.if-not-same_ends.false)

@@ -16,14 +16,11 @@ At-Start = lts.Start tie.the-claims reads.Pre reads.Post
 
 pub vertex_at-b-requires : goal.vertex_at-b-requires
 vertex_at-b-requires c =
-    let s = c in
-    (omega (arith, c.end_of-f.ensures, end_lt s.args.q s.args.tris s.requires.1, s.requires.2), s.requires.3)
+    (omega (arith, c.end_of-f.ensures, end_lt c.args.q c.args.tris c.requires.1, c.requires.2), c.requires.3)
 
 pub vertex_at-c-requires : goal.vertex_at-c-requires
 vertex_at-c-requires c =
-    let e = c in
-    let s = e in
-    (omega (arith, e.end_of-e.ensures, end_lt s.args.r s.args.tris s.requires.0, s.requires.2), s.requires.3)
+    (omega (arith, c.end_of-e.ensures, end_lt c.args.r c.args.tris c.requires.0, c.requires.2), c.requires.3)
 
 module _ (s : At-Start) where
   abbrev vertex : ℕ → ℕ
@@ -31,22 +28,12 @@ module _ (s : At-Start) where
 
 pub returns-then-a-b : goal.returns-then-a-b
 returns-then-a-b c =
-    let w = c in
-    let e = w in
-    let s = e in
-    told (unlike-start (vertex s.before.before.before.before.before.before.before.before.before) s.args.r s.args.q _ w.vertex_at-a.result w.vertex_at-b.result w.vertex_at-a.ensures w.vertex_at-b.ensures e.end_of-f.ensures (λ h. c.if-a-b.true (omega (arith, h))))
+    told (unlike-start (vertex c.before.before.before.before.before.before.before.before.before) c.args.r c.args.q _ c.vertex_at-a.result c.vertex_at-b.result c.vertex_at-a.ensures c.vertex_at-b.ensures c.end_of-f.ensures (λ h. c.if-a-b.true (omega (arith, h))))
 
 pub returns-then-c-d : goal.returns-then-c-d
 returns-then-c-d c =
-    let v = c in
-    let e = v in
-    let s = e in
-    told (unlike-end (vertex s.before.before.before.before.before.before.before.before.before.before) s.args.r s.args.q _ v.vertex_at-c.result v.vertex_at-d.result v.vertex_at-c.ensures v.vertex_at-d.ensures e.end_of-e.ensures (λ h. c.if-c-d.true (omega (arith, h))))
+    told (unlike-end (vertex c.before.before.before.before.before.before.before.before.before.before) c.args.r c.args.q _ c.vertex_at-c.result c.vertex_at-d.result c.vertex_at-c.ensures c.vertex_at-d.ensures c.end_of-e.ensures (λ h. c.if-c-d.true (omega (arith, h))))
 
 pub returns : goal.returns
 returns c =
-    let v = c in
-    let w = v in
-    let e = w in
-    let s = e in
-    told-not (alike (vertex s.before.before.before.before.before.before.before.before.before.before) s.args.r s.args.q _ _ w.vertex_at-a.result w.vertex_at-b.result v.vertex_at-c.result v.vertex_at-d.result e.end_of-e.ensures e.end_of-f.ensures w.vertex_at-a.ensures w.vertex_at-b.ensures v.vertex_at-c.ensures v.vertex_at-d.ensures (omega (arith, c.if-a-b.false)) (omega (arith, c.if-c-d.false)))
+    told-not (alike (vertex c.before.before.before.before.before.before.before.before.before.before) c.args.r c.args.q _ _ c.vertex_at-a.result c.vertex_at-b.result c.vertex_at-c.result c.vertex_at-d.result c.end_of-e.ensures c.end_of-f.ensures c.vertex_at-a.ensures c.vertex_at-b.ensures c.vertex_at-c.ensures c.vertex_at-d.ensures (omega (arith, c.if-a-b.false)) (omega (arith, c.if-c-d.false)))

@@ -14,7 +14,4 @@ returns-then-a-b c = told-not (λ f. c.if-a-b.true (c.word_at-a.ensures ∙ (f.s
 
 pub returns : goal.returns
 returns c =
-    let b = c in
-    let i = b in
-    let j = i in
-    told (record { near = sym j.any_at.ensures ∙ j.if-any_at-ne0.false; far = sym i.any_at-2.ensures ∙ i.if-any_at-ne0-2.false; same = sym b.word_at-a.ensures ∙ (c.if-a-b.false ∙ b.word_at-b.ensures) })
+    told (record { near = sym c.any_at.ensures ∙ c.if-any_at-ne0.false; far = sym c.any_at-2.ensures ∙ c.if-any_at-ne0-2.false; same = sym c.word_at-a.ensures ∙ (c.if-a-b.false ∙ c.word_at-b.ensures) })

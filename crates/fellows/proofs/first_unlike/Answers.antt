@@ -12,7 +12,7 @@ pub unlike_at-requires : goal.unlike_at-requires
 unlike_at-requires c = let p = c.requires in (c.loop-r-test.true, p.0, p.1, p.3, p.4, p.5)
 
 pub returns-then-unlike_at : goal.returns-then-unlike_at
-returns-then-unlike_at c = let t = c in let s = t in let a = s.args in lowest-unlike a.rows (3 * a.tris) a.work.now a.groups.now a.ways.now a.corner s.requires.5 _ t.loop-r.invariant t.loop-r-test.true (c.unlike_at.ensures.holds c.if-unlike_at.true)
+returns-then-unlike_at c = let a = c.args in lowest-unlike a.rows (3 * a.tris) a.work.now a.groups.now a.ways.now a.corner c.requires.5 _ c.loop-r.invariant c.loop-r-test.true (c.unlike_at.ensures.holds c.if-unlike_at.true)
 
 pub overflow_step-r : goal.overflow_step-r
 overflow_step-r c = omega (arith, c.loop-r-test.true)
@@ -21,7 +21,7 @@ pub loop-r-smaller : goal.loop-r-smaller
 loop-r-smaller c = omega (arith, c.loop-r-test.true)
 
 pub loop-r-preserved : goal.loop-r-preserved
-loop-r-preserved c = let t = c in passed-more _ _ _ t.loop-r.invariant t.loop-r-test.true (c.unlike_at.ensures.fails c.if-unlike_at.false)
+loop-r-preserved c = passed-more _ _ _ c.loop-r.invariant c.loop-r-test.true (c.unlike_at.ensures.fails c.if-unlike_at.false)
 
 pub returns : goal.returns
-returns c = let s = c in let a = s.args in no-unlike a.rows (3 * a.tris) a.work.now a.groups.now a.ways.now a.corner s.requires.5 _ c.loop-r.invariant c.loop-r-test.false
+returns c = let a = c.args in no-unlike a.rows (3 * a.tris) a.work.now a.groups.now a.ways.now a.corner c.requires.5 _ c.loop-r.invariant c.loop-r-test.false

@@ -11,5 +11,4 @@ returns-then-word_at-ne0 c = told-not (λ k. c.if-word_at-ne0.true (c.word_at.en
 
 pub returns : goal.returns
 returns c =
-    let e = c in
-    told (record { firm = sym e.any_at.ensures ∙ e.if-any_at-ne0.false; free = sym c.word_at.ensures ∙ c.if-word_at-ne0.false })
+    told (record { firm = sym c.any_at.ensures ∙ c.if-any_at-ne0.false; free = sym c.word_at.ensures ∙ c.if-word_at-ne0.false })

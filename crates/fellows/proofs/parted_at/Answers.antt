@@ -10,26 +10,18 @@ returns-then-word-eq0 c = told-not (not-linked _ _ _ _ _ _ _ c.word_at-word.ensu
 
 pub returns-then-not-firm_pair : goal.returns-then-not-firm_pair
 returns-then-not-firm_pair c =
-    let f = c in
-    let i = f in
-    told-not (not-firm _ _ _ _ _ _ _ i.word_at-word.ensures i.if-word-eq0.false (f.firm_pair.ensures.fails c.if-not-firm_pair.true))
+    told-not (not-firm _ _ _ _ _ _ _ c.word_at-word.ensures c.if-word-eq0.false (c.firm_pair.ensures.fails c.if-not-firm_pair.true))
 
 pub ends_apart-requires : goal.ends_apart-requires
 ends_apart-requires c =
-    let f = c in
-    let i = f in
-    let s = i in
-    let p = s.requires in
-    let k = f.firm_pair.ensures.holds c.if-not-firm_pair.false in
-    let w = i.word_at-word.ensures in
-    let q : i.word_at-word.result - 1 < 3 * s.args.tris = omega (arith, w, p.7, i.if-word-eq0.false) in
+    let p = c.requires in
+    let k = c.firm_pair.ensures.holds c.if-not-firm_pair.false in
+    let w = c.word_at-word.ensures in
+    let q : c.word_at-word.result - 1 < 3 * c.args.tris = omega (arith, w, p.7, c.if-word-eq0.false) in
     (p.0, q, omega (arith, p.1, p.3), p.5, (λ z. p.8 _ p.0 (record { firm = k.near; free = z })), (λ z. p.8 _ q (record { firm = k.far; free = z })))
 
 pub returns : goal.returns
 returns c =
-    let e = c in
-    let f = e in
-    let i = f in
-    let p = i.requires in
-    let w = i.word_at-word.ensures in
-    parted-tells _ _ _ _ _ _ _ w i.if-word-eq0.false _ (omega (arith, w, p.7)) (f.firm_pair.ensures.holds e.if-not-firm_pair.false) c.ends_apart.ensures
+    let p = c.requires in
+    let w = c.word_at-word.ensures in
+    parted-tells _ _ _ _ _ _ _ w c.if-word-eq0.false _ (omega (arith, w, p.7)) (c.firm_pair.ensures.holds c.if-not-firm_pair.false) c.ends_apart.ensures

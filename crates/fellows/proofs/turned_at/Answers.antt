@@ -9,11 +9,8 @@ returns-then-any_at-ne0 c = told-not (λ k. c.if-any_at-ne0.true (c.any_at.ensur
 
 pub returns-then-theirs-ours : goal.returns-then-theirs-ours
 returns-then-theirs-ours c =
-    let w = c in
-    let e = w in
-    told (record { firm = sym e.any_at.ensures ∙ e.if-any_at-ne0.false; differs = λ z. c.if-theirs-ours.true (omega (arith, w.word_at-theirs.ensures, z, w.way_at-ours.ensures)) })
+    told (record { firm = sym c.any_at.ensures ∙ c.if-any_at-ne0.false; differs = λ z. c.if-theirs-ours.true (omega (arith, c.word_at-theirs.ensures, z, c.way_at-ours.ensures)) })
 
 pub returns : goal.returns
 returns c =
-    let w = c in
-    told-not (λ k. k.differs (omega (arith, w.word_at-theirs.ensures, c.if-theirs-ours.false, w.way_at-ours.ensures)))
+    told-not (λ k. k.differs (omega (arith, c.word_at-theirs.ensures, c.if-theirs-ours.false, c.way_at-ours.ensures)))

@@ -23,18 +23,13 @@ value_at-a-requires c =
 
 pub returns-then-a-b : goal.returns-then-a-b
 returns-then-a-b c =
-    let b = c in
-    let f = b in
-    let i = f in
-    let a = i.args in
+    let a = c.args in
     told (record {
-      some = λ z. i.if-word_at-eq0.false (i.word_at.ensures ∙ z);
-      differs = λ e. c.if-a-b.true (b.value_at-a.ensures ∙ (ap (λ (x : ℕ). shared a.rows a.work.now a.ways.now a.corner (x - 1)) f.first_at-f.ensures ∙ (e ∙ sym b.value_at-b.ensures)));
+      some = λ z. c.if-word_at-eq0.false (c.word_at.ensures ∙ z);
+      differs = λ e. c.if-a-b.true (c.value_at-a.ensures ∙ (ap (λ (x : ℕ). shared a.rows a.work.now a.ways.now a.corner (x - 1)) c.first_at-f.ensures ∙ (e ∙ sym c.value_at-b.ensures)));
     })
 
 pub returns : goal.returns
 returns c =
-    let b = c in
-    let f = b in
-    let a = f.args in
-    told-not (λ u. u.differs (ap (λ (x : ℕ). shared a.rows a.work.now a.ways.now a.corner (x - 1)) (sym f.first_at-f.ensures) ∙ (sym b.value_at-a.ensures ∙ (c.if-a-b.false ∙ b.value_at-b.ensures))))
+    let a = c.args in
+    told-not (λ u. u.differs (ap (λ (x : ℕ). shared a.rows a.work.now a.ways.now a.corner (x - 1)) (sym c.first_at-f.ensures) ∙ (sym c.value_at-a.ensures ∙ (c.if-a-b.false ∙ c.value_at-b.ensures))))

@@ -15,11 +15,11 @@ abbrev At-After-run_first-f : Type 0
 At-After-run_first-f = lts.After-run_first tie.the-claims reads.Pre reads.Post tie.handed_clauses
 
 pub run_first-f-requires : goal.run_first-f-requires
-run_first-f-requires c = let s = c in (omega (arith, c.order_at-r.ensures, s.requires.6), s.requires.1, s.requires.5)
+run_first-f-requires c = (omega (arith, c.order_at-r.ensures, c.requires.6), c.requires.1, c.requires.5)
 
 -- the row that is stored is one of the n
 low : (c : At-After-run_first-f) → c.run_first-f.result < c.args.n
-low c = let s = c in runs-low _ _ _ _ _ (omega (arith, c.order_at-r.ensures, s.requires.6)) c.run_first-f.ensures
+low c = runs-low _ _ _ _ _ (omega (arith, c.order_at-r.ensures, c.requires.6)) c.run_first-f.ensures
 
 pub overflow_add-work : goal.overflow_add-work
 overflow_add-work c = let p = c.requires in omega (arith, low c.before, p.2, p.4)

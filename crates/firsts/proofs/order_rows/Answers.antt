@@ -4,10 +4,5 @@ use Rattle.firsts.proofs.order_rows.Goals as goal
 
 pub returns : goal.returns
 returns c =
-    let z = c in
-    let y = z in
-    let x = y in
-    let e = x in
-    let s = e in
-    let p = s.requires in
-    orders s.args.rows s.args.n s.args.groups.now s.args.work.now _ _ _ _ p.0 p.1 p.2 e.clear.ensures x.put_words.ensures y.put_rows.ensures z.sort.ensures
+    let p = c.requires in
+    orders c.args.rows c.args.n c.args.groups.now c.args.work.now _ _ _ _ p.0 p.1 p.2 c.clear.ensures c.put_words.ensures c.put_rows.ensures c.sort.ensures

@@ -9,12 +9,11 @@ loop-a-init c = let p = c.requires in (omega arith, heading-none _ _ _ _ p.0 p.1
 
 pub head_turn-first-requires : goal.head_turn-first-requires
 head_turn-first-requires c =
-    let t = c in
-    let l = t.loop-a in
-    let p = t.requires in
-    let k = p.4.below _ t.loop-a-test.true in
-    let o = order-stands _ _ _ _ p.0 p.1 p.4 _ _ _ l.invariant.1 _ t.loop-a-test.true in
-    (t.loop-a-test.true, l.invariant.1.low, p.0, omega (arith, p.1, l.invariant.1.only.size), p.2, p.3, omega (arith, k, o))
+    let l = c.loop-a in
+    let p = c.requires in
+    let k = p.4.below _ c.loop-a-test.true in
+    let o = order-stands _ _ _ _ p.0 p.1 p.4 _ _ _ l.invariant.1 _ c.loop-a-test.true in
+    (c.loop-a-test.true, l.invariant.1.low, p.0, omega (arith, p.1, l.invariant.1.only.size), p.2, p.3, omega (arith, k, o))
 
 pub overflow_step-a : goal.overflow_step-a
 overflow_step-a c = omega (arith, c.loop-a-test.true)
@@ -24,16 +23,13 @@ loop-a-smaller c = omega (arith, c.loop-a-test.true)
 
 pub loop-a-preserved : goal.loop-a-preserved
 loop-a-preserved c =
-    let h = c in
-    let t = h in
-    let l = t.loop-a in
-    let s = t in
-    let p = s.requires in
-    let a = s.args in
-    let n = t.loop-a-test.true in
+    let l = c.loop-a in
+    let p = c.requires in
+    let a = c.args in
+    let n = c.loop-a-test.true in
     let o = order-stands a.rows a.n a.groups.now a.work.now p.0 p.1 p.4 _ _ _ l.invariant.1 _ n in
-    let r = runs-right a.rows a.n a.groups.now a.work.now p.0 p.1 p.4 _ _ _ _ _ n l.invariant.1 o h.head_turn-first.ensures.runs in
-    (omega (arith, n), heading-more a.rows a.n a.groups.now a.work.now p.0 p.1 p.4 _ _ _ _ _ _ n l.invariant.1 o r h.head_turn-first.ensures.puts)
+    let r = runs-right a.rows a.n a.groups.now a.work.now p.0 p.1 p.4 _ _ _ _ _ n l.invariant.1 o c.head_turn-first.ensures.runs in
+    (omega (arith, n), heading-more a.rows a.n a.groups.now a.work.now p.0 p.1 p.4 _ _ _ _ _ _ n l.invariant.1 o r c.head_turn-first.ensures.puts)
 
 pub shape_of-work : goal.shape_of-work
 shape_of-work c = c.loop-a.invariant.1.only.size

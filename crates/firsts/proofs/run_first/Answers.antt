@@ -8,14 +8,11 @@ pub returns-then-first-n : goal.returns-then-first-n
 returns-then-first-n c = begins (λ l al. omega (arith, l, c.if-first-n.true))
 
 pub word_at-requires : goal.word_at-requires
-word_at-requires c = let s = c in omega (arith, c.if-first-n.false, s.requires.1, s.requires.2)
+word_at-requires c = omega (arith, c.if-first-n.false, c.requires.1, c.requires.2)
 
 pub returns-then-word_at : goal.returns-then-word_at
-returns-then-word_at c = let b = c in begins (λ l al. c.if-word_at.true (b.word_at.ensures ∙ (al ∙ sym b.word_at-2.ensures)))
+returns-then-word_at c = begins (λ l al. c.if-word_at.true (c.word_at.ensures ∙ (al ∙ sym c.word_at-2.ensures)))
 
 pub returns : goal.returns
 returns c =
-    let b = c in
-    let i = b in
-    let s = i in
-    goes_on (omega (arith, i.if-first-n.false, s.requires.1)) (sym b.word_at.ensures ∙ (c.if-word_at.false ∙ b.word_at-2.ensures))
+    goes_on (omega (arith, c.if-first-n.false, c.requires.1)) (sym c.word_at.ensures ∙ (c.if-word_at.false ∙ c.word_at-2.ensures))

@@ -8,8 +8,7 @@ use Rattle.flat.proofs.go_to.Goals as goal
 pub returns-in_default : goal.returns-in_default
 returns-in_default c =
     let enter = c.enter_at in
-    let start = c in
-    goes_back _ _ _ _ _ _ _ _ _ start.requires.0 start.requires.1 start.requires.2 _ _ enter.ensures.entry enter.ensures.work _ c.in_default.is c.back.ensures
+    goes_back _ _ _ _ _ _ _ _ _ c.requires.0 c.requires.1 c.requires.2 _ _ enter.ensures.entry enter.ensures.work _ c.in_default.is c.back.ensures
 
 pub overflow_add-work : goal.overflow_add-work
 overflow_add-work c =
@@ -29,6 +28,5 @@ overflow_add-result c =
 pub returns : goal.returns
 returns c =
     let enter = c.enter_at in
-    let start = c in
     let below : c.in-At.i < 3 = corner-below _ _ _ _ _ _ _ _ c.requires.0 c.requires.1 _ _ c.enter_at.ensures.entry c.enter_at.ensures.work _ c.in-At.is in
-    goes_to _ _ _ _ _ _ _ _ _ start.requires.0 start.requires.1 start.requires.2 _ _ enter.ensures.entry enter.ensures.work _ c.in-At.is _ _ _ _ (omega arith) (omega arith) (omega arith) (omega arith)
+    goes_to _ _ _ _ _ _ _ _ _ c.requires.0 c.requires.1 c.requires.2 _ _ enter.ensures.entry enter.ensures.work _ c.in-At.is _ _ _ _ (omega arith) (omega arith) (omega arith) (omega arith)

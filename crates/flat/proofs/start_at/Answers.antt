@@ -12,18 +12,15 @@ use Rattle.flat.proofs.start_at.Goals as goal
 
 pub returns-then-work-rows-ne0 : goal.returns-then-work-rows-ne0
 returns-then-work-rows-ne0 c =
-    let start = c in
-    record { turned = turned-any _ _ _ _ _ start.requires.0 start.requires.1 start.requires.2 c.if-work-rows-ne0.true; only = only_none _ _ _ }
+    record { turned = turned-any _ _ _ _ _ c.requires.0 c.requires.1 c.requires.2 c.if-work-rows-ne0.true; only = only_none _ _ _ }
 
 pub returns-then-work-rows-ne0-2 : goal.returns-then-work-rows-ne0-2
 returns-then-work-rows-ne0-2 c =
-    let start = c in
-    record { turned = turned-grouped _ _ _ _ _ start.requires.0 start.requires.1 start.requires.2 c.if-work-rows-ne0.false c.if-work-rows-ne0-2.true; only = only_none _ _ _ }
+    record { turned = turned-grouped _ _ _ _ _ c.requires.0 c.requires.1 c.requires.2 c.if-work-rows-ne0.false c.if-work-rows-ne0-2.true; only = only_none _ _ _ }
 
 pub walk_from-n-requires : goal.walk_from-n-requires
 walk_from-n-requires c =
-    let start = c in
-    (omega arith, ready-begun _ _ _ _ _ _ _ (omega (arith, start.requires.2.fits)) start.requires.2)
+    (omega arith, ready-begun _ _ _ _ _ _ _ (omega (arith, c.requires.2.fits)) c.requires.2)
 
 pub shape_of-work : goal.shape_of-work
 shape_of-work c =
@@ -32,7 +29,6 @@ shape_of-work c =
 
 pub returns : goal.returns
 returns c =
-    let start = c in
-    let a = start.args in
-    let R = start.requires.2 in
-    let step = c.walk_from-n in record { turned = turned-new _ _ _ _ _ start.requires.0 start.requires.1 R c.if-work-rows-ne0.false c.if-work-rows-ne0-2.false _ _ step.ensures.walked; only = only-trans _ _ _ _ _ (only-put flat_columns a.rows a.work.now a.work.now begin_column a.s.groups a.s.members refl (omega arith) (omega (arith, R.fits)) (only_none flat_columns a.rows a.work.now)) step.ensures.only }
+    let a = c.args in
+    let R = c.requires.2 in
+    let step = c.walk_from-n in record { turned = turned-new _ _ _ _ _ c.requires.0 c.requires.1 R c.if-work-rows-ne0.false c.if-work-rows-ne0-2.false _ _ step.ensures.walked; only = only-trans _ _ _ _ _ (only-put flat_columns a.rows a.work.now a.work.now begin_column a.s.groups a.s.members refl (omega arith) (omega (arith, R.fits)) (only_none flat_columns a.rows a.work.now)) step.ensures.only }

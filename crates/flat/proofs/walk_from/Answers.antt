@@ -7,8 +7,7 @@ use Rattle.flat.proofs.walk_from.Goals as goal
 
 pub go_to-s-requires : goal.go_to-s-requires
 go_to-s-requires c =
-    let start = c in
-    (start.requires.0, start.requires.1, none-stored start.args.rows start.args.tris start.args.work.now start.requires.1.long)
+    (c.requires.0, c.requires.1, none-stored c.args.rows c.args.tris c.args.work.now c.requires.1.long)
 
 pub loop-s-init : goal.loop-s-init
 loop-s-init c =
@@ -33,5 +32,4 @@ pub returns : goal.returns
 returns c =
     let I = c.loop-s.invariant in
     let G = c.go_to-s.ensures in
-    let start = c in
-    record { walked = goes_end _ _ _ _ _ _ _ _ _ _ _ _ start.requires.0 start.requires.1 G I c.loop-s-test.false; only = only-trans _ _ _ _ _ G.only I.only }
+    record { walked = goes_end _ _ _ _ _ _ _ _ _ _ _ _ c.requires.0 c.requires.1 G I c.loop-s-test.false; only = only-trans _ _ _ _ _ G.only I.only }

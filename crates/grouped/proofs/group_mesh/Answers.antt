@@ -7,15 +7,10 @@ use Rattle.grouped.proofs.group_mesh.Goals as goal
 
 pub group_sides-requires : goal.group_sides-requires
 group_sides-requires c =
-    let l = c in
-    let s = l in
-    let L = l.link_mesh-triangles.ensures in
-    (omega (arith, (left-room _ _ _ _ _ L).0), omega (arith, s.requires.1, L.only.size), omega (arith, s.requires.0), λ r h. omega (arith, L.range r (omega (arith, h))))
+    let L = c.link_mesh-triangles.ensures in
+    (omega (arith, (left-room _ _ _ _ _ L).0), omega (arith, c.requires.1, L.only.size), omega (arith, c.requires.0), λ r h. omega (arith, L.range r (omega (arith, h))))
 
 pub returns : goal.returns
 returns c =
-    let g = c in
-    let l = g in
-    let s = l in
-    let a = s.args in
-    joined (handed a.sizes.now a.positions.now a.normals.now a.texture.now) l.link_mesh-triangles.result.sound l.link_mesh-triangles.result.all g.group_sides.result a.work.now _ _ l.link_mesh-triangles.ensures g.group_sides.ensures
+    let a = c.args in
+    joined (handed a.sizes.now a.positions.now a.normals.now a.texture.now) c.link_mesh-triangles.result.sound c.link_mesh-triangles.result.all c.group_sides.result a.work.now _ _ c.link_mesh-triangles.ensures c.group_sides.ensures

@@ -50,21 +50,16 @@ returns-then-work-rows-ne0 c =
 pub returns-then-work-rows-ne0-2 : goal.returns-then-work-rows-ne0-2
 unfolding adopted untouched
 returns-then-work-rows-ne0-2 c =
-    let two = c in
-    let a = two.args in
-    simp (any-set two.before.before.before.before.before, free-1 two.before.before.before, ne_eqb (cell a.rows group_column (3 * a.t + 1) a.work.now) 0 (λ z. omega (arith, z, c.if-work-rows-ne0-2.true)))
+    let a = c.args in
+    simp (any-set c.before.before.before.before.before, free-1 c.before.before.before, ne_eqb (cell a.rows group_column (3 * a.t + 1) a.work.now) 0 (λ z. omega (arith, z, c.if-work-rows-ne0-2.true)))
 
 pub returns-then-work-rows-ne0-3 : goal.returns-then-work-rows-ne0-3
 unfolding adopted untouched
 returns-then-work-rows-ne0-3 c =
-    let three = c in
-    let two = three in
-    let a = two.args in
-    simp (any-set two.before.before.before.before.before.before.before, free-1 two.before.before.before.before.before, free-2 three.before.before.before, ne_eqb (cell a.rows group_column (3 * a.t + 2) a.work.now) 0 (λ z. omega (arith, z, c.if-work-rows-ne0-3.true)))
+    let a = c.args in
+    simp (any-set c.before.before.before.before.before.before.before, free-1 c.before.before.before.before.before, free-2 c.before.before.before, ne_eqb (cell a.rows group_column (3 * a.t + 2) a.work.now) 0 (λ z. omega (arith, z, c.if-work-rows-ne0-3.true)))
 
 pub returns : goal.returns
 unfolding adopted untouched
 returns c =
-    let three = c in
-    let two = three in
-    simp (any-set two.before.before.before.before.before.before, free-1 two.before.before.before.before, free-2 three.before.before, free-3 c)
+    simp (any-set c.before.before.before.before.before.before, free-1 c.before.before.before.before, free-2 c.before.before, free-3 c)

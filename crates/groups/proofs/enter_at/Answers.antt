@@ -15,17 +15,13 @@ returns-then-i-eq3 c = rw (← c.corner_of-i.ensures.0) (simp (eq-eqb _ _ c.if-i
 pub returns-then-work-rows-ne0 : goal.returns-then-work-rows-ne0
 unfolding enter
 returns-then-work-rows-ne0 c =
-    let else1 = c in
-    rw (← else1.corner_of-i.ensures.0) (simp (ne_eqb _ _ else1.if-i-eq3.false, ne_eqb _ _ c.if-work-rows-ne0.true) (record { entry = refl; work = refl }))
+    rw (← c.corner_of-i.ensures.0) (simp (ne_eqb _ _ c.if-i-eq3.false, ne_eqb _ _ c.if-work-rows-ne0.true) (record { entry = refl; work = refl }))
 
 pub returns-then-work-rows : goal.returns-then-work-rows
 unfolding enter
 returns-then-work-rows c =
-    let adopted = c in
-    let else2 = adopted in
-    let else1 = else2 in
-    let a = else1.args in
-    rw (← else1.corner_of-i.ensures.0, ← adopted.adopt.ensures) (simp (ne_eqb _ _ else1.if-i-eq3.false, eq-eqb _ _ else2.if-work-rows-ne0.false, ne_eqb (cell a.rows orientation_column a.t adopted.adopt.new.work) a.orient (λ z. omega (arith, z, c.if-work-rows.true))) (record { entry = refl; work = refl }))
+    let a = c.args in
+    rw (← c.corner_of-i.ensures.0, ← c.adopt.ensures) (simp (ne_eqb _ _ c.if-i-eq3.false, eq-eqb _ _ c.if-work-rows-ne0.false, ne_eqb (cell a.rows orientation_column a.t c.adopt.new.work) a.orient (λ z. omega (arith, z, c.if-work-rows.true))) (record { entry = refl; work = refl }))
 
 pub bounds-work-rows-4 : goal.bounds-work-rows-4
 bounds-work-rows-4 c = simp length-set (omega arith)
@@ -33,8 +29,5 @@ bounds-work-rows-4 c = simp length-set (omega arith)
 pub returns : goal.returns
 unfolding enter
 returns c =
-    let adopted = c in
-    let else2 = adopted in
-    let else1 = else2 in
-    let a = else1.args in
-    rw (← else1.corner_of-i.ensures.0, ← adopted.adopt.ensures) (simp (ne_eqb _ _ else1.if-i-eq3.false, eq-eqb _ _ else2.if-work-rows-ne0.false, eq-eqb (cell a.rows orientation_column a.t adopted.adopt.new.work) a.orient (omega (arith, c.if-work-rows.false))) (record { entry = refl; work = refl }))
+    let a = c.args in
+    rw (← c.corner_of-i.ensures.0, ← c.adopt.ensures) (simp (ne_eqb _ _ c.if-i-eq3.false, eq-eqb _ _ c.if-work-rows-ne0.false, eq-eqb (cell a.rows orientation_column a.t c.adopt.new.work) a.orient (omega (arith, c.if-work-rows.false))) (record { entry = refl; work = refl }))

@@ -23,8 +23,7 @@ returns-then-work-rows-ne0-2 c =
 
 pub corner_step-n-requires : goal.corner_step-n-requires
 corner_step-n-requires c =
-    let start = c in
-    (omega arith, ready-begun _ _ _ _ _ _ _ (omega (arith, start.requires.2.fits)) start.requires.2)
+    (omega arith, ready-begun _ _ _ _ _ _ _ (omega (arith, c.requires.2.fits)) c.requires.2)
 
 pub shape_of-work : goal.shape_of-work
 shape_of-work c =
@@ -34,9 +33,8 @@ shape_of-work c =
 pub returns : goal.returns
 unfolding turn
 returns c =
-    let start = c in
-    let a = start.args in
-    let R = start.requires.2 in
+    let a = c.args in
+    let R = c.requires.2 in
     let step = c.corner_step-n in
     let begun = begun-ungrouped a.rows a.s.members a.s.groups a.work.now (omega (arith, R.fits)) in
     record {

@@ -11,9 +11,8 @@ use Rattle.groups.proofs.walk_all.Goals as goal
 
 pub loop-k-init : goal.loop-k-init
 loop-k-init c =
-    let start = c in
-    let ready = ready-cleared start.args.rows start.args.tris start.args.work.now start.requires.0 start.requires.1 start.requires.2 start.requires.3 in
-    (omega arith, omega arith, subst (Ready start.args.rows start.args.tris 1 0) (sym c.clear.ensures) ready, up_to-none _ _, only_none _ _ _)
+    let ready = ready-cleared c.args.rows c.args.tris c.args.work.now c.requires.0 c.requires.1 c.requires.2 c.requires.3 in
+    (omega arith, omega arith, subst (Ready c.args.rows c.args.tris 1 0) (sym c.clear.ensures) ready, up_to-none _ _, only_none _ _ _)
 
 pub loop-k-preserved : goal.loop-k-preserved
 loop-k-preserved c =

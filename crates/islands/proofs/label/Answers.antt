@@ -33,48 +33,29 @@ overflow_mul-k-2 c = let f = few c.before.before.before.before in omega (arith, 
 
 pub unite_rows-requires : goal.unite_rows-requires
 unite_rows-requires c =
-    let k = c in
-    let s = k in
-    let w = k.weld.ensures.0 in
-    let f = few k.before.before.before.before.before in
-    let a = k.alone.ensures in
-    (omega (arith, f.0), omega (arith, f.1, w.only.size), omega (arith, a.beyond.size, s.requires.1), alone-down _ _ _ a, readable _ _ _ _ k.list_faces-k.ensures.0 w _ (omega arith))
+    let w = c.weld.ensures.0 in
+    let f = few c.before.before.before.before.before in
+    let a = c.alone.ensures in
+    (omega (arith, f.0), omega (arith, f.1, w.only.size), omega (arith, a.beyond.size, c.requires.1), alone-down _ _ _ a, readable _ _ _ _ c.list_faces-k.ensures.0 w _ (omega arith))
 
 pub settle-requires : goal.settle-requires
 settle-requires c =
-    let u = c in
-    let k = u in
-    (omega (arith, u.unite_rows.ensures.beyond.size, k.alone.ensures.beyond.size, k.requires.1), u.unite_rows.ensures.down)
+    (omega (arith, c.unite_rows.ensures.beyond.size, c.alone.ensures.beyond.size, c.requires.1), c.unite_rows.ensures.down)
 
 pub strike-requires : goal.strike-requires
 strike-requires c =
-    let t = c in
-    let u = t in
-    let k = u in
-    omega (arith, t.settle.ensures.beyond.size, u.unite_rows.ensures.beyond.size, k.alone.ensures.beyond.size, k.requires.1)
+    omega (arith, c.settle.ensures.beyond.size, c.unite_rows.ensures.beyond.size, c.alone.ensures.beyond.size, c.requires.1)
 
 -- both lists are as long as they were
 pub shape_of-labels : goal.shape_of-labels
 shape_of-labels c =
-    let x = c in
-    let t = x in
-    let u = t in
-    let k = u in
-    x.strike.ensures.beyond.size ∙ t.settle.ensures.beyond.size ∙ u.unite_rows.ensures.beyond.size ∙ k.alone.ensures.beyond.size
+    c.strike.ensures.beyond.size ∙ c.settle.ensures.beyond.size ∙ c.unite_rows.ensures.beyond.size ∙ c.alone.ensures.beyond.size
 
 pub shape_of-work : goal.shape_of-work
 shape_of-work c =
-    let x = c in
-    let t = x in
-    let u = t in
-    let k = u in
-    k.weld.ensures.0.only.size ∙ k.list_faces-k.ensures.1.size
+    c.weld.ensures.0.only.size ∙ c.list_faces-k.ensures.1.size
 
 pub returns : goal.returns
 returns c =
-    let x = c in
-    let t = x in
-    let u = t in
-    let k = u in
-    let w = k.weld.ensures.0 in
-    (labels-are _ _ _ _ k.list_faces-k.ensures.0 w _ _ _ _ _ _ k.requires.1 k.alone.ensures u.unite_rows.ensures t.settle.ensures x.strike.ensures (omega arith), w.only.size ∙ k.list_faces-k.ensures.1.size, w.only.rest ∙ k.list_faces-k.ensures.1.rest)
+    let w = c.weld.ensures.0 in
+    (labels-are _ _ _ _ c.list_faces-k.ensures.0 w _ _ _ _ _ _ c.requires.1 c.alone.ensures c.unite_rows.ensures c.settle.ensures c.strike.ensures (omega arith), w.only.size ∙ c.list_faces-k.ensures.1.size, w.only.rest ∙ c.list_faces-k.ensures.1.rest)

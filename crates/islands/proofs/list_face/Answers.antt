@@ -8,12 +8,8 @@ returns-then-slots_of-eq0 c = rw (unused-of _ _ c.slots_of.ensures.0 c.if-slots_
 
 pub add_face-requires : goal.add_face-requires
 add_face-requires c =
-    let e = c in
-    let s = e in
-    (s.requires.0, s.requires.1, s.requires.2, (used-three _ (used-of _ _ e.slots_of.ensures.0 e.if-slots_of-eq0.false)).0)
+    (c.requires.0, c.requires.1, c.requires.2, (used-three _ (used-of _ _ c.slots_of.ensures.0 c.if-slots_of-eq0.false)).0)
 
 pub returns : goal.returns
 returns c =
-    let a = c in
-    let e = a in
-    rw (used-of _ _ e.slots_of.ensures.0 e.if-slots_of-eq0.false) (refl, a.add_face.ensures)
+    rw (used-of _ _ c.slots_of.ensures.0 c.if-slots_of-eq0.false) (refl, c.add_face.ensures)

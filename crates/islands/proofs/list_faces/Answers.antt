@@ -46,7 +46,7 @@ going_more sizes w u v k k' base f size long h e small g b t p q =
 
 -- a size is a byte
 byte : (c : At-After-slice_known-in-loop-f-1) → let i = c in get_or i.args.sizes.now i.loop-f.f 0 < 256
-byte c = let r = c in omega (arith, r.shared_slice_known-in-loop-f-1.given r.loop-f.f)
+byte c = omega (arith, c.shared_slice_known-in-loop-f-1.given c.loop-f.f)
 
 pub loop-f-init : goal.loop-f-init
 loop-f-init c =
@@ -55,28 +55,23 @@ loop-f-init c =
     record { within = omega arith; sum = corners-none a.sizes.now; few = omega arith; listed = listed-none a.sizes.now (corner_row n a.work.now) (face_row n a.work.now); only = only_none list_columns n a.work.now }
 
 pub overflow_cast-f : goal.overflow_cast-f
-overflow_cast-f c = let i = c in omega (arith, i.loop-f-test.true, i.requires.0)
+overflow_cast-f c = omega (arith, c.loop-f-test.true, c.requires.0)
 
 pub list_face-k-requires : goal.list_face-k-requires
 list_face-k-requires c =
-    let i = c in
-    let g = i.loop-f.invariant in
-    let s = i in
-    (omega (arith, g.listed.few, i.loop-f-test.true), omega (arith, s.requires.1, g.only.size), omega (arith, g.few, i.loop-f-test.true, s.requires.0))
+    let g = c.loop-f.invariant in
+    (omega (arith, g.listed.few, c.loop-f-test.true), omega (arith, c.requires.1, g.only.size), omega (arith, g.few, c.loop-f-test.true, c.requires.0))
 
 pub overflow_cast-base : goal.overflow_cast-base
 overflow_cast-base c = omega (arith, byte c.before)
 
 pub overflow_add-base : goal.overflow_add-base
-overflow_add-base c = let i = c in omega (arith, byte c.before, i.loop-f.invariant.few, i.loop-f-test.true, i.requires.0)
+overflow_add-base c = omega (arith, byte c.before, c.loop-f.invariant.few, c.loop-f-test.true, c.requires.0)
 
 pub loop-f-preserved : goal.loop-f-preserved
 loop-f-preserved c =
-    let a = c in
-    let i = a in
-    let s = i in
-    let l = i.loop-f in
-    going_more _ _ _ _ _ _ _ _ _ s.requires.1 i.loop-f-test.true refl (byte c.before) l.invariant _ refl a.list_face-k.ensures.0 a.list_face-k.ensures.1
+    let l = c.loop-f in
+    going_more _ _ _ _ _ _ _ _ _ c.requires.1 c.loop-f-test.true refl (byte c.before) l.invariant _ refl c.list_face-k.ensures.0 c.list_face-k.ensures.1
 
 pub shape_of-work : goal.shape_of-work
 shape_of-work c = c.loop-f.invariant.only.size

@@ -10,15 +10,14 @@ pub loop-f-init : goal.loop-f-init
 loop-f-init c = (omega arith, striking-none _ _)
 
 pub bounds-labels-f : goal.bounds-labels-f
-bounds-labels-f c = let i = c in omega (arith, i.loop-f.invariant.1.beyond.size, i.loop-f-test.true, i.requires)
+bounds-labels-f c = omega (arith, c.loop-f.invariant.1.beyond.size, c.loop-f-test.true, c.requires)
 
 pub bounds-labels-f-in-loop-f : goal.bounds-labels-f-in-loop-f
-bounds-labels-f-in-loop-f c = let i = c in omega (arith, i.loop-f.invariant.1.beyond.size, i.loop-f-test.true, i.requires)
+bounds-labels-f-in-loop-f c = omega (arith, c.loop-f.invariant.1.beyond.size, c.loop-f-test.true, c.requires)
 
 pub loop-f-preserved : goal.loop-f-preserved
 loop-f-preserved c =
-    let i = c in
-    (omega (arith, i.loop-f-test.true), striking-more _ _ _ _ _ i.requires i.loop-f-test.true c.given.ensures i.loop-f.invariant.1)
+    (omega (arith, c.loop-f-test.true), striking-more _ _ _ _ _ c.requires c.loop-f-test.true c.given.ensures c.loop-f.invariant.1)
 
 pub shape_of-labels : goal.shape_of-labels
 shape_of-labels c = c.loop-f.invariant.1.beyond.size

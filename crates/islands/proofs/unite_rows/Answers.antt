@@ -12,18 +12,14 @@ loop-r-init c = (omega arith, woven-none _ _ _ _ c.requires.3)
 
 pub unite_row-requires : goal.unite_row-requires
 unite_row-requires c =
-    let i = c in
-    let l = i.loop-r in
-    let s = i in
-    let t = i.loop-r-test.true in
-    let v = s.requires.4.low l.r t in
-    (omega (arith, s.requires.0, t), s.requires.1, omega (arith, s.requires.2, l.invariant.1.beyond.size), l.invariant.1.down, v, s.requires.4.near l.r t, s.requires.4.near _ (omega (arith, v, t)))
+    let l = c.loop-r in
+    let t = c.loop-r-test.true in
+    let v = c.requires.4.low l.r t in
+    (omega (arith, c.requires.0, t), c.requires.1, omega (arith, c.requires.2, l.invariant.1.beyond.size), l.invariant.1.down, v, c.requires.4.near l.r t, c.requires.4.near _ (omega (arith, v, t)))
 
 pub loop-r-preserved : goal.loop-r-preserved
 loop-r-preserved c =
-    let u = c in
-    let i = u in
-    (omega (arith, i.loop-r-test.true), woven-more _ _ _ _ _ _ _ i.loop-r.invariant.1 u.unite_row.ensures)
+    (omega (arith, c.loop-r-test.true), woven-more _ _ _ _ _ _ _ c.loop-r.invariant.1 c.unite_row.ensures)
 
 pub shape_of-labels : goal.shape_of-labels
 shape_of-labels c = c.loop-r.invariant.1.beyond.size

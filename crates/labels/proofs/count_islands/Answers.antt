@@ -9,7 +9,7 @@ use Rattle.labels.proofs.Counting.{own-few, own-none, own-more}
 use Rattle.labels.proofs.count_islands.Goals as goal
 
 pub loop-f-init : goal.loop-f-init
-loop-f-init c = let s = c in (own-none _, omega arith, s.requires.0, s.requires.1)
+loop-f-init c = (own-none _, omega arith, c.requires.0, c.requires.1)
 
 pub offset_bounds-labels-f : goal.offset_bounds-labels-f
 offset_bounds-labels-f c = omega (arith, c.loop-f.invariant.1, c.loop-f.invariant.2, c.loop-f.invariant.3, c.loop-f-test)
@@ -19,9 +19,8 @@ counted-count-requires c = let l = c.loop-f in omega (arith, l.invariant.0, own-
 
 pub loop-f-preserved : goal.loop-f-preserved
 loop-f-preserved c =
-    let h = c in
-    let l = h.loop-f in
-    (own-more l.f h.args.labels.now _ _ l.invariant.0 c.counted-count.ensures, omega arith, l.invariant.2, l.invariant.3)
+    let l = c.loop-f in
+    (own-more l.f c.args.labels.now _ _ l.invariant.0 c.counted-count.ensures, omega arith, l.invariant.2, l.invariant.3)
 
 pub returns : goal.returns
 returns c =

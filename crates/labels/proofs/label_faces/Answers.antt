@@ -43,9 +43,8 @@ short s = ltb (length s.args.labels.now) (length s.args.sizes.now)
 -- past the first test the table has no row
 unrefused : (e : At-Else-v-ne0) → table e.before.before.before.before.before.before.before.before.before ≡ none
 unrefused e =
-    let j = e in
-    let a = j.args in
-    no-refusal (shown (handed a.sizes.now a.positions.now a.normals.now a.texture.now) zeroᶠ longest_answer (length a.work.now)) (sym (ap (λ x. x.number) j.judge-v.ensures) ∙ e.if-v-ne0.false)
+    let a = e.args in
+    no-refusal (shown (handed a.sizes.now a.positions.now a.normals.now a.texture.now) zeroᶠ longest_answer (length a.work.now)) (sym (ap (λ x. x.number) e.judge-v.ensures) ∙ e.if-v-ne0.false)
 
 -- past the second nothing is refused
 passing : (e : At-Else-labels-sizes) → let s = e in let a = s.args in labels_verdict (handed a.sizes.now a.positions.now a.normals.now a.texture.now) (length a.labels.now) (length a.work.now) ≡ none
@@ -55,27 +54,20 @@ passing e = let s = e in passes (table s.before.before.before.before.before.befo
 pub returns-then-v-ne0 : goal.returns-then-v-ne0
 unfolding labels_outcome labels_verdict
 returns-then-v-ne0 c =
-    let j = c in
-    let s = j in
-    let e = j.judge-v.ensures in
-    ap (λ r. left r s.args.labels.now s.args.work.now) (c.said.ensures ∙ (λ i. record { number = (e i).number; place = (e i).place; islands = 0 }))
-    ∙ refused (table s.before.before.before.before.before.before.before.before.before.before.before) (short s.before.before.before.before.before.before.before.before.before.before.before) (taken s.before.before.before.before.before.before.before.before.before.before.before) s.args.labels.now s.args.work.now (λ q. c.if-v-ne0.true (ap (λ x. x.number) e ∙ q))
+    let e = c.judge-v.ensures in
+    ap (λ r. left r c.args.labels.now c.args.work.now) (c.said.ensures ∙ (λ i. record { number = (e i).number; place = (e i).place; islands = 0 }))
+    ∙ refused (table c.before.before.before.before.before.before.before.before.before.before.before) (short c.before.before.before.before.before.before.before.before.before.before.before) (taken c.before.before.before.before.before.before.before.before.before.before.before) c.args.labels.now c.args.work.now (λ q. c.if-v-ne0.true (ap (λ x. x.number) e ∙ q))
 
 pub returns-then-labels-sizes : goal.returns-then-labels-sizes
 unfolding labels_outcome labels_verdict
 returns-then-labels-sizes c =
-    let e = c in
-    let s = e in
-    ap (λ r. left r s.args.labels.now s.args.work.now) c.said-then-labels-sizes.ensures
-    ∙ too_short (table s.before.before.before.before.before.before.before.before.before.before.before.before) (short s.before.before.before.before.before.before.before.before.before.before.before.before) (taken s.before.before.before.before.before.before.before.before.before.before.before.before) s.args.labels.now s.args.work.now (unrefused e.before.before.before) (lt-ltb (length s.args.labels.now) (length s.args.sizes.now) (omega (arith, c.if-labels-sizes.true)))
+    ap (λ r. left r c.args.labels.now c.args.work.now) c.said-then-labels-sizes.ensures
+    ∙ too_short (table c.before.before.before.before.before.before.before.before.before.before.before.before) (short c.before.before.before.before.before.before.before.before.before.before.before.before) (taken c.before.before.before.before.before.before.before.before.before.before.before.before) c.args.labels.now c.args.work.now (unrefused c.before.before.before) (lt-ltb (length c.args.labels.now) (length c.args.sizes.now) (omega (arith, c.if-labels-sizes.true)))
 
 pub number_faces-islands-requires : goal.number_faces-islands-requires
-number_faces-islands-requires c = let e = c in passing e.before.before.before
+number_faces-islands-requires c = passing c.before.before.before
 
 pub returns : goal.returns
 unfolding labels_outcome answered
 returns c =
-    let n = c in
-    let e = n in
-    let s = e in
-    left-same _ _ _ _ c.said-2.ensures ∙ (n.number_faces-islands.ensures ∙ ap (λ o. answered o (taken s.before.before.before.before.before.before.before.before.before.before.before.before.before.before.before.before.before.before.before) s.args.labels.now s.args.work.now) (sym (passing e.before.before.before.before.before.before.before.before.before)))
+    left-same _ _ _ _ c.said-2.ensures ∙ (c.number_faces-islands.ensures ∙ ap (λ o. answered o (taken c.before.before.before.before.before.before.before.before.before.before.before.before.before.before.before.before.before.before.before) c.args.labels.now c.args.work.now) (sym (passing c.before.before.before.before.before.before.before.before.before)))

@@ -35,21 +35,18 @@ pub overflow_mul-sizes : goal.overflow_mul-sizes
 overflow_mul-sizes c = let k = known c.before.before.before.before.before.before.before.before.before.before.before.before.before.before.before in omega (arith, k.0)
 
 pub clear_first-requires : goal.clear_first-requires
-clear_first-requires c = let e = c in let k = known e.before.before.before.before.before.before.before.before.before.before.before.before.before.before.before in omega (arith, k.2, e.label.ensures.1)
+clear_first-requires c = let k = known c.before.before.before.before.before.before.before.before.before.before.before.before.before.before.before in omega (arith, k.2, c.label.ensures.1)
 
 pub count_islands-requires : goal.count_islands-requires
 count_islands-requires c =
-    let e = c in
-    let k = known e.before.before.before.before.before.before.before.before.before.before.before.before.before.before.before.before.before.before in
-    (omega (arith, labels_length _ _ _ k.1 e.label.ensures.0), k.0)
+    let k = known c.before.before.before.before.before.before.before.before.before.before.before.before.before.before.before.before.before.before in
+    (omega (arith, labels_length _ _ _ k.1 c.label.ensures.0), k.0)
 
 pub returns : goal.returns
 unfolding left accepted_labels
 returns c =
-    let f = c in
-    let e = f in
-    let a = e.args in
-    let l = e.label.ensures in
+    let a = c.args in
+    let l = c.label.ensures in
     let n = counts-islands (handed a.sizes.now a.positions.now a.normals.now a.texture.now) a.labels.now _ _ l.0 c.count_islands.ensures in
-    let w = cleared-past (length a.sizes.now) a.work.now _ _ l.2 f.clear_first.ensures in
+    let w = cleared-past (length a.sizes.now) a.work.now _ _ l.2 c.clear_first.ensures in
     λ i. record { number = 0; place = 0; islands = n i; labels = l.0 i; work = w i }

@@ -8,30 +8,17 @@ use Rattle.legacy.proofs.link_old_mesh.Goals as goal
 
 pub name_rows-requires : goal.name_rows-requires
 name_rows-requires c =
-    let j = c in
-    let l = j in
-    let s = l in
-    let a = s.args in
-    let L = l.list_triangles-counts.ensures in
-    (omega (arith, s.requires.1, L.only.size, j.merge_rows.ensures.only.size), omega (arith, L.count, L.fits, sound-room _ _ _ _ _ L), omega (arith, s.requires.0), λ r h. tags-few _ _ _ _ _ _ _ (omega arith) (omega (arith, s.requires.1, L.only.size)) L j.merge_rows.ensures (some-triangle (corner_at a.positions.now a.normals.now a.texture.now 0)) r h)
+    let a = c.args in
+    let L = c.list_triangles-counts.ensures in
+    (omega (arith, c.requires.1, L.only.size, c.merge_rows.ensures.only.size), omega (arith, L.count, L.fits, sound-room _ _ _ _ _ L), omega (arith, c.requires.0), λ r h. tags-few _ _ _ _ _ _ _ (omega arith) (omega (arith, c.requires.1, L.only.size)) L c.merge_rows.ensures (some-triangle (corner_at a.positions.now a.normals.now a.texture.now 0)) r h)
 
 pub link_old_sides-requires : goal.link_old_sides-requires
 link_old_sides-requires c =
-    let k = c in
-    let j = k in
-    let l = j in
-    let s = l in
-    let L = l.list_triangles-counts.ensures in
-    (omega (arith, sound-room _ _ _ _ _ L), omega (arith, s.requires.1, L.only.size, j.merge_rows.ensures.only.size, k.name_rows.ensures.only.size), omega (arith, s.requires.0))
+    let L = c.list_triangles-counts.ensures in
+    (omega (arith, sound-room _ _ _ _ _ L), omega (arith, c.requires.1, L.only.size, c.merge_rows.ensures.only.size, c.name_rows.ensures.only.size), omega (arith, c.requires.0))
 
 pub returns : goal.returns
 returns c =
-    let e = c in
-    let k = e in
-    let j = k in
-    let l = j in
-    let p = l in
-    let s = p in
-    let a = s.args in
-    let L = l.list_triangles-counts.ensures in
-    left-old (handed a.sizes.now a.positions.now a.normals.now a.texture.now) l.list_triangles-counts.result.sound l.list_triangles-counts.result.all a.work.now _ _ _ _ (omega (arith, s.requires.1, L.only.size)) _ (omega arith) L j.merge_rows.ensures k.name_rows.ensures (λ ss d n N S W G. e.link_old_sides.ensures.linked ss d (omega (arith, n)) N S W G) (λ r h. omega (arith, e.link_old_sides.ensures.range r (omega (arith, h)))) e.link_old_sides.ensures.only (λ i. p.shared_slice_known-2-1.given i)
+    let a = c.args in
+    let L = c.list_triangles-counts.ensures in
+    left-old (handed a.sizes.now a.positions.now a.normals.now a.texture.now) c.list_triangles-counts.result.sound c.list_triangles-counts.result.all a.work.now _ _ _ _ (omega (arith, c.requires.1, L.only.size)) _ (omega arith) L c.merge_rows.ensures c.name_rows.ensures (λ ss d n N S W G. c.link_old_sides.ensures.linked ss d (omega (arith, n)) N S W G) (λ r h. omega (arith, c.link_old_sides.ensures.range r (omega (arith, h)))) c.link_old_sides.ensures.only (λ i. c.shared_slice_known-2-1.given i)

@@ -11,24 +11,19 @@ use Rattle.listing.proofs.add_one.Goals as goal
 
 pub store-requires : goal.store-requires
 store-requires c =
-    let s = c in
-    let a = s.args in
+    let a = c.args in
     let e : length (pick a.want (a.x ∷ [])) ≡ 1 = ap length (pick_yes a.want a.x c.if-x-want.true) in
-    (omega arith, s.requires.1, s.requires.2, s.requires.3)
+    (omega arith, c.requires.1, c.requires.2, c.requires.3)
 
 pub returns-then-x-want : goal.returns-then-x-want
 returns-then-x-want c =
-    let call = c in
-    let test = call in
-    let s = test in
-    let a = s.args in
-    let e : length (pick a.want (a.x ∷ [])) ≡ 1 = ap length (pick_yes a.want a.x test.if-x-want.true) in
-    let room : 3 * a.tris + 3 ≤ a.rows = omega (arith, s.requires.0) in
-    (ap (λ (n : ℕ). a.tris + n) (sym e), λ mesh eb es F. add-yes a.rows mesh a.want a.tris a.base a.slot a.x a.work.now _ test.if-x-want.true call.store.ensures.0 call.store.ensures.1 room s.requires.1 eb es F)
+    let a = c.args in
+    let e : length (pick a.want (a.x ∷ [])) ≡ 1 = ap length (pick_yes a.want a.x c.if-x-want.true) in
+    let room : 3 * a.tris + 3 ≤ a.rows = omega (arith, c.requires.0) in
+    (ap (λ (n : ℕ). a.tris + n) (sym e), λ mesh eb es F. add-yes a.rows mesh a.want a.tris a.base a.slot a.x a.work.now _ c.if-x-want.true c.store.ensures.0 c.store.ensures.1 room c.requires.1 eb es F)
 
 pub returns : goal.returns
 returns c =
-    let s = c in
-    let a = s.args in
+    let a = c.args in
     let e : length (pick a.want (a.x ∷ [])) ≡ 0 = ap length (pick_no a.want a.x c.if-x-want.false) in
     (omega arith, λ mesh eb es F. add-no a.rows mesh a.want a.tris a.x _ c.if-x-want.false)

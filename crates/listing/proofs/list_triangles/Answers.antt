@@ -7,29 +7,21 @@ use Rattle.listing.proofs.list_triangles.Goals as goal
 
 pub pass-sound-requires : goal.pass-sound-requires
 pass-sound-requires c =
-    let s = c in
-    let a = s.args in
-    (s.requires.0, s.requires.1, room-first (handed a.sizes.now a.positions.now a.normals.now a.texture.now))
+    let a = c.args in
+    (c.requires.0, c.requires.1, room-first (handed a.sizes.now a.positions.now a.normals.now a.texture.now))
 
 pub returns-then-pieces_in-sound : goal.returns-then-pieces_in-sound
 returns-then-pieces_in-sound c =
-    let one = c in
-    let s = one in
-    let a = s.args in
-    let none = none-broken (handed a.sizes.now a.positions.now a.normals.now a.texture.now) one.pass-sound.result c.pieces_in.result _ c.pieces_in.ensures (omega (arith, c.if-pieces_in-sound.true)) one.pass-sound.ensures.count in
-    listed (handed a.sizes.now a.positions.now a.normals.now a.texture.now) one.pass-sound.result one.pass-sound.result a.work.now _ _ one.pass-sound.ensures none
+    let a = c.args in
+    let none = none-broken (handed a.sizes.now a.positions.now a.normals.now a.texture.now) c.pass-sound.result c.pieces_in.result _ c.pieces_in.ensures (omega (arith, c.if-pieces_in-sound.true)) c.pass-sound.ensures.count in
+    listed (handed a.sizes.now a.positions.now a.normals.now a.texture.now) c.pass-sound.result c.pass-sound.result a.work.now _ _ c.pass-sound.ensures none
 
 pub pass-all-requires : goal.pass-all-requires
 pass-all-requires c =
-    let one = c in
-    let s = one in
-    let a = s.args in
-    (s.requires.0, omega (arith, s.requires.1, one.pass-sound.ensures.only.size), room-second (handed a.sizes.now a.positions.now a.normals.now a.texture.now) one.pass-sound.result one.pass-sound.ensures.count)
+    let a = c.args in
+    (c.requires.0, omega (arith, c.requires.1, c.pass-sound.ensures.only.size), room-second (handed a.sizes.now a.positions.now a.normals.now a.texture.now) c.pass-sound.result c.pass-sound.ensures.count)
 
 pub returns : goal.returns
 returns c =
-    let two = c in
-    let one = two in
-    let s = one in
-    let a = s.args in
-    listed (handed a.sizes.now a.positions.now a.normals.now a.texture.now) one.pass-sound.result two.pass-all.result a.work.now _ _ one.pass-sound.ensures two.pass-all.ensures
+    let a = c.args in
+    listed (handed a.sizes.now a.positions.now a.normals.now a.texture.now) c.pass-sound.result c.pass-all.result a.work.now _ _ c.pass-sound.ensures c.pass-all.ensures

@@ -14,17 +14,14 @@ loop-f-init c = (pieces_none c.args.sizes.now, omega arith, omega arith)
 
 pub overflow_add-sum : goal.overflow_add-sum
 overflow_add-sum c =
-    let i = c in
-    let l = i.loop-f in
-    let s = i in
-    omega (arith, l.invariant.2, l.invariant.1, c.pieces_of-sum.ensures.1, s.requires)
+    let l = c.loop-f in
+    omega (arith, l.invariant.2, l.invariant.1, c.pieces_of-sum.ensures.1, c.requires)
 
 pub loop-f-preserved : goal.loop-f-preserved
 loop-f-preserved c =
-    let i = c in
-    let l = i.loop-f in
-    let sizes = i.args.sizes.now in
-    let h : l.f < length sizes = i.loop-f-test.true in (
+    let l = c.loop-f in
+    let sizes = c.args.sizes.now in
+    let h : l.f < length sizes = c.loop-f-test.true in (
       ap (λ (n : ℕ). n + c.pieces_of-sum.result) l.invariant.0 ∙ (ap (λ (n : ℕ). piece_count (take l.f sizes) + n) c.pieces_of-sum.ensures.0 ∙ sym (pieces_more sizes l.f h)),
       omega (arith, h),
       omega (arith, l.invariant.2, c.pieces_of-sum.ensures.1),

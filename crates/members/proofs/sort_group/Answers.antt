@@ -6,16 +6,10 @@ use Rattle.members.proofs.sort_group.Goals as goal
 
 pub returns-then-to-from : goal.returns-then-to-from
 returns-then-to-from c =
-    let two = c in
-    let one = two in
-    let a = one.args in
-    sorts-idle a.rows one.begin_at-from.result two.begin_at-to.result _ _ a.work.now one.begin_at-from.ensures.0 (begin-by _ _ _ _ _ (a.q + 1) _ two.begin_at-to.ensures.0 (omega arith)) c.if-to-from.true
+    let a = c.args in
+    sorts-idle a.rows c.begin_at-from.result c.begin_at-to.result _ _ a.work.now c.begin_at-from.ensures.0 (begin-by _ _ _ _ _ (a.q + 1) _ c.begin_at-to.ensures.0 (omega arith)) c.if-to-from.true
 
 pub returns : goal.returns
 returns c =
-    let k = c in
-    let e = k in
-    let two = e in
-    let one = two in
-    let a = one.args in
-    sorts-part a.rows one.begin_at-from.result two.begin_at-to.result _ _ a.work.now _ one.begin_at-from.ensures.0 (begin-by _ _ _ _ _ (a.q + 1) _ two.begin_at-to.ensures.0 (omega arith)) e.if-to-from.false k.sort.ensures
+    let a = c.args in
+    sorts-part a.rows c.begin_at-from.result c.begin_at-to.result _ _ a.work.now _ c.begin_at-from.ensures.0 (begin-by _ _ _ _ _ (a.q + 1) _ c.begin_at-to.ensures.0 (omega arith)) c.if-to-from.false c.sort.ensures

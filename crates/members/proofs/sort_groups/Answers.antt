@@ -13,15 +13,12 @@ loop-q-init c = (omega arith, unsorted, refl)
 pub sort_group-requires : goal.sort_group-requires
 sort_group-requires c =
     let l = c.loop-q in
-    let s = c in
-    (c.loop-q-test.true, s.requires.0, s.requires.1, omega (arith, s.requires.2, l.invariant.2))
+    (c.loop-q-test.true, c.requires.0, c.requires.1, omega (arith, c.requires.2, l.invariant.2))
 
 pub loop-q-preserved : goal.loop-q-preserved
 loop-q-preserved c =
-    let k = c in
-    let t = k in
-    let l = t.loop-q in
-    (omega (arith, t.loop-q-test.true), more-sorting _ _ _ _ _ _ _ l.invariant.1 k.sort_group.ensures, k.sort_group.auto.work ∙ l.invariant.2)
+    let l = c.loop-q in
+    (omega (arith, c.loop-q-test.true), more-sorting _ _ _ _ _ _ _ l.invariant.1 c.sort_group.ensures, c.sort_group.auto.work ∙ l.invariant.2)
 
 pub shape_of-work : goal.shape_of-work
 shape_of-work c = c.loop-q.invariant.2

@@ -19,6 +19,4 @@ returns-then-sizes-gt-FACE_LIMIT c = caught-many (given c.before.before.before.b
 
 pub returns : goal.returns
 returns c =
-    let b = c in
-    let s = b in
-    c.unfit.ensures ∙ caught-few (given s.before.before.before.before.before.before.before.before) b.corners_before-corners.result b.if-sizes-gt-FACE_LIMIT.false (b.corners_before-corners.ensures.0 ∙ all-taken s.args.sizes.now b.if-sizes-gt-FACE_LIMIT.false)
+    c.unfit.ensures ∙ caught-few (given c.before.before.before.before.before.before.before.before) c.corners_before-corners.result c.if-sizes-gt-FACE_LIMIT.false (c.corners_before-corners.ensures.0 ∙ all-taken c.args.sizes.now c.if-sizes-gt-FACE_LIMIT.false)

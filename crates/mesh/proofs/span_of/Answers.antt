@@ -51,8 +51,7 @@ returns-then-caught c = stopped (given c.before.before.before.before.before.befo
 
 pub returns-then-face-sizes : goal.returns-then-face-sizes
 returns-then-face-sizes c =
-    let e = c in
-    past (given e.before.before.before.before.before.before.before.before) _ _ (sym e.caught.ensures ∙ e.if-caught.false) (omega (arith, c.if-face-sizes.true))
+    past (given c.before.before.before.before.before.before.before.before) _ _ (sym c.caught.ensures ∙ c.if-caught.false) (omega (arith, c.if-face-sizes.true))
 
 pub overflow_mul-from : goal.overflow_mul-from
 overflow_mul-from c = omega (arith, mul-le-mul c.width_of-width.ensures.1 c.corners_before.ensures.1)
@@ -65,7 +64,4 @@ overflow_mul-result c = omega (arith, mul-le-mul c.width_of-width.ensures.1 (byt
 
 pub returns : goal.returns
 returns c =
-    let w = c in
-    let p = w in
-    let e = p in
-    within (given e.before.before.before.before.before.before.before.before.before.before.before) _ _ (sym e.caught.ensures ∙ e.if-caught.false) (omega (arith, p.if-face-sizes.false)) _ _ w.width_of-width.ensures.0 c.corners_before.ensures.0
+    within (given c.before.before.before.before.before.before.before.before.before.before.before) _ _ (sym c.caught.ensures ∙ c.if-caught.false) (omega (arith, c.if-face-sizes.false)) _ _ c.width_of-width.ensures.0 c.corners_before.ensures.0

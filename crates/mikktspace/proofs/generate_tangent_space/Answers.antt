@@ -27,20 +27,17 @@ called s =
 pub returns-then-v-ne0 : goal.returns-then-v-ne0
 unfolding outcome
 returns-then-v-ne0 c =
-    let j = c in
-    let s = j in
-    let a = s.args in
-    let v = verdict (at_desk (called s.before.before.before.before.before.before.before.before.before.before.before)) in
-    let e = j.judge-v.ensures in
+    let a = c.args in
+    let v = verdict (at_desk (called c.before.before.before.before.before.before.before.before.before.before.before)) in
+    let e = c.judge-v.ensures in
     ap (λ r. left r a.answer.now a.work.now) (c.said.ensures ∙ (λ i. record { number = (e i).number; place = (e i).place; slots = 0 }))
-    ∙ refused v (accepted (called s.before.before.before.before.before.before.before.before.before.before.before)) a.answer.now a.work.now (λ q. c.if-v-ne0.true (omega (arith, ap (λ x. x.number) e, q)))
+    ∙ refused v (accepted (called c.before.before.before.before.before.before.before.before.before.before.before)) a.answer.now a.work.now (λ q. c.if-v-ne0.true (omega (arith, ap (λ x. x.number) e, q)))
 
 -- past the test no row applies
 passed : (i : At-Else-v-ne0) → verdict (at_desk (called i.before.before.before.before.before.before.before.before.before)) ≡ none
 passed i =
-    let j = i in
-    let x = at_desk (called j.before.before.before.before.before.before.before.before.before) in
-    no-refusal x (omega (arith, ap (λ x. x.number) j.judge-v.ensures, number_small x, i.if-v-ne0.false))
+    let x = at_desk (called i.before.before.before.before.before.before.before.before.before) in
+    no-refusal x (omega (arith, ap (λ x. x.number) i.judge-v.ensures, number_small x, i.if-v-ne0.false))
 
 pub make_frames-slots-requires : goal.make_frames-slots-requires
 make_frames-slots-requires c = passed c.before.before.before
@@ -48,10 +45,6 @@ make_frames-slots-requires c = passed c.before.before.before
 pub returns : goal.returns
 unfolding outcome answered
 returns c =
-    let m = c in
-    let i = m in
-    let j = i in
-    let s = j in
-    let a = s.args in
-    let z = accepted (called s.before.before.before.before.before.before.before.before.before.before.before.before.before.before.before.before.before.before) in
-    left-same _ _ _ _ c.said-2.ensures ∙ (m.make_frames-slots.ensures ∙ ap (λ o. answered o z a.answer.now a.work.now) (sym (passed i.before.before.before.before.before.before.before.before.before)))
+    let a = c.args in
+    let z = accepted (called c.before.before.before.before.before.before.before.before.before.before.before.before.before.before.before.before.before.before) in
+    left-same _ _ _ _ c.said-2.ensures ∙ (c.make_frames-slots.ensures ∙ ap (λ o. answered o z a.answer.now a.work.now) (sym (passed c.before.before.before.before.before.before.before.before.before)))

@@ -34,12 +34,10 @@ overflow_mul-rows c = omega (arith, (known c.before.before.before.before.before.
 
 pub clear_first-requires : goal.clear_first-requires
 clear_first-requires c =
-    let n = c in
-    let s = n in
-    omega (arith, (known s.before.before.before.before.before.before.before.before.before).answer-fits, all_slots s.args.sizes.now _ (known s.before.before.before.before.before.before.before.before.before).few n.slots_before-slots.ensures.0)
+    omega (arith, (known c.before.before.before.before.before.before.before.before.before).answer-fits, all_slots c.args.sizes.now _ (known c.before.before.before.before.before.before.before.before.before).few c.slots_before-slots.ensures.0)
 
 pub group_mesh-counts-requires : goal.group_mesh-counts-requires
-group_mesh-counts-requires c = let s = c in ((known s.before.before.before.before.before.before.before.before.before.before.before.before.before).few, room s.before.before.before.before.before.before.before.before.before.before.before.before.before)
+group_mesh-counts-requires c = ((known c.before.before.before.before.before.before.before.before.before.before.before.before.before).few, room c.before.before.before.before.before.before.before.before.before.before.before.before.before)
 
 -- the mesh handed in
 abbrev mesh : At-Start → Handed
@@ -47,20 +45,16 @@ mesh s = let a = s.args in handed a.sizes.now a.positions.now a.normals.now a.te
 
 pub finish_frames-requires : goal.finish_frames-requires
 finish_frames-requires c =
-    let g = c in
-    let s = g in
-    let L = g.group_mesh-counts.ensures in
-    let R = counts-fit (mesh s.before.before.before.before.before.before.before.before.before.before.before.before.before.before.before.before.before.before) _ s.args.work.now _ L in
-    (omega arith, refl, R.0, R.1, L.few, L.small, omega (arith, room s.before.before.before.before.before.before.before.before.before.before.before.before.before.before.before.before.before.before, L.only.size), all-ranged (mesh s.before.before.before.before.before.before.before.before.before.before.before.before.before.before.before.before.before.before) _ s.args.work.now _ L (known s.before.before.before.before.before.before.before.before.before.before.before.before.before.before.before.before.before.before).good (room s.before.before.before.before.before.before.before.before.before.before.before.before.before.before.before.before.before.before))
+    let L = c.group_mesh-counts.ensures in
+    let R = counts-fit (mesh c.before.before.before.before.before.before.before.before.before.before.before.before.before.before.before.before.before.before) _ c.args.work.now _ L in
+    (omega arith, refl, R.0, R.1, L.few, L.small, omega (arith, room c.before.before.before.before.before.before.before.before.before.before.before.before.before.before.before.before.before.before, L.only.size), all-ranged (mesh c.before.before.before.before.before.before.before.before.before.before.before.before.before.before.before.before.before.before) _ c.args.work.now _ L (known c.before.before.before.before.before.before.before.before.before.before.before.before.before.before.before.before.before.before).good (room c.before.before.before.before.before.before.before.before.before.before.before.before.before.before.before.before.before.before))
 
 pub overflow_mul-sizes : goal.overflow_mul-sizes
 overflow_mul-sizes c = omega (arith, (known c.before.before.before.before.before.before.before.before.before.before.before.before.before.before.before.before.before.before.before.before.before.before.before.before).few)
 
 pub clear_first-requires-2 : goal.clear_first-requires-2
 clear_first-requires-2 c =
-    let f = c in
-    let g = f in
-    omega (arith, (known g.before.before.before.before.before.before.before.before.before.before.before.before.before.before.before.before.before.before.before.before.before.before.before.before).work-fits, g.group_mesh-counts.ensures.only.size, f.finish_frames.ensures.only.size)
+    omega (arith, (known c.before.before.before.before.before.before.before.before.before.before.before.before.before.before.before.before.before.before.before.before.before.before.before.before).work-fits, c.group_mesh-counts.ensures.only.size, c.finish_frames.ensures.only.size)
 
 -- a list that is cleared so far
 cleared-to : (k m : ℕ) (l u : List ℕ) → u ≡ cleared_first k l → k ≡ m → u ≡ replicate m 0 ++ drop m l
@@ -70,16 +64,10 @@ cleared-to k m l u e h = e ∙ ap (λ (j : ℕ). replicate j 0 ++ drop j l) h
 pub returns : goal.returns
 unfolding left accepted
 returns c =
-    let y = c in
-    let f = y in
-    let g = f in
-    let q = g in
-    let n = q in
-    let s = n in
-    let a = s.args in
-    let L = g.group_mesh-counts.ensures in
-    let slots = all_slots a.sizes.now _ (known s.before.before.before.before.before.before.before.before.before.before.before.before.before.before.before.before.before.before.before.before.before.before.before.before.before.before.before).few n.slots_before-slots.ensures.0 in
-    let first = cleared-to _ (slot_words * slot_count a.sizes.now) a.answer.now _ q.clear_first.ensures (omega (arith, slots)) in
-    let answer = answered (mesh s.before.before.before.before.before.before.before.before.before.before.before.before.before.before.before.before.before.before.before.before.before.before.before.before.before.before.before) _ a.work.now _ L (known s.before.before.before.before.before.before.before.before.before.before.before.before.before.before.before.before.before.before.before.before.before.before.before.before.before.before.before).good a.threshold a.answer.now _ _ _ first f.finish_frames.ensures in
-    let work = cleared (mesh s.before.before.before.before.before.before.before.before.before.before.before.before.before.before.before.before.before.before.before.before.before.before.before.before.before.before.before) _ a.work.now _ L (known s.before.before.before.before.before.before.before.before.before.before.before.before.before.before.before.before.before.before.before.before.before.before.before.before.before.before.before).good a.threshold a.answer.now _ _ _ first f.finish_frames.ensures _ (cleared-to _ (work_words * length a.sizes.now) _ _ y.clear_first-2.ensures (omega arith)) in
+    let a = c.args in
+    let L = c.group_mesh-counts.ensures in
+    let slots = all_slots a.sizes.now _ (known c.before.before.before.before.before.before.before.before.before.before.before.before.before.before.before.before.before.before.before.before.before.before.before.before.before.before.before).few c.slots_before-slots.ensures.0 in
+    let first = cleared-to _ (slot_words * slot_count a.sizes.now) a.answer.now _ c.clear_first.ensures (omega (arith, slots)) in
+    let answer = answered (mesh c.before.before.before.before.before.before.before.before.before.before.before.before.before.before.before.before.before.before.before.before.before.before.before.before.before.before.before) _ a.work.now _ L (known c.before.before.before.before.before.before.before.before.before.before.before.before.before.before.before.before.before.before.before.before.before.before.before.before.before.before.before).good a.threshold a.answer.now _ _ _ first c.finish_frames.ensures in
+    let work = cleared (mesh c.before.before.before.before.before.before.before.before.before.before.before.before.before.before.before.before.before.before.before.before.before.before.before.before.before.before.before) _ a.work.now _ L (known c.before.before.before.before.before.before.before.before.before.before.before.before.before.before.before.before.before.before.before.before.before.before.before.before.before.before.before).good a.threshold a.answer.now _ _ _ first c.finish_frames.ensures _ (cleared-to _ (work_words * length a.sizes.now) _ _ c.clear_first-2.ensures (omega arith)) in
     λ i. record { number = 0; place = 0; slots = slots i; answer = answer i; work = work i }

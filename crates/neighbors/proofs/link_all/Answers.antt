@@ -18,9 +18,8 @@ loop-c-smaller c =
 
 pub loop-c-preserved : goal.loop-c-preserved
 loop-c-preserved c =
-    let b = c in
-    let s = b.step-c in
-    let l = b.loop-c in
+    let s = c.step-c in
+    let l = c.loop-c in
     (s.ensures.stands, s.ensures.turns _ l.invariant.1, only-trans _ _ _ _ _ l.invariant.2 s.ensures.only)
 
 pub shape_of-work : goal.shape_of-work

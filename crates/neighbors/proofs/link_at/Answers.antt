@@ -11,5 +11,4 @@ returns-then-word-eq0 c = (ap link_of (sym c.if-word-eq0.true ∙ c.wide-word.en
 
 pub returns : goal.returns
 returns c =
-    let start = c in
-    (named _ c.if-word-eq0.false ∙ ap link_of c.wide-word.ensures, omega (arith, start.requires.3))
+    (named _ c.if-word-eq0.false ∙ ap link_of c.wide-word.ensures, omega (arith, c.requires.3))

@@ -12,36 +12,27 @@ told f p q e h = sym (λ k. f (p k) (q k)) ∙ sym e ∙ h
 
 pub returns-then-not-same_ends : goal.returns-then-not-same_ends
 returns-then-not-same_ends c =
-    let b = c in
-    let at = b.side_at-u in
-    let start = b in
-    let a = start.args in
-    let p = start.requires in
+    let at = c.side_at-u in
+    let a = c.args in
+    let p = c.requires in
     parted a.rows a.n a.c.near a.c.far a.work.now p.near_lt_far.2 p.s_value.2 p.near_lt_far.0 p.near_lt_far.1
-    (told (λ x y. same_ends a.rows x y a.work.now) p.s_value.0 at.ensures.0 b.same_ends.ensures c.if-not-same_ends.true)
+    (told (λ x y. same_ends a.rows x y a.work.now) p.s_value.0 at.ensures.0 c.same_ends.ensures c.if-not-same_ends.true)
 
 pub returns-then-not-suits : goal.returns-then-not-suits
 returns-then-not-suits c =
-    let d = c in
-    let b = d in
-    let at = b.side_at-u in
-    let start = b in
-    let a = start.args in
-    let p = start.requires in
+    let at = c.side_at-u in
+    let a = c.args in
+    let p = c.requires in
     unsuited a.rows a.n a.c.near a.c.far a.work.now p.near_lt_far.2 p.s_value.2 p.near_lt_far.0 p.near_lt_far.1
-    (told (λ x y. same_ends a.rows x y a.work.now) p.s_value.0 at.ensures.0 b.same_ends.ensures d.if-not-same_ends.false)
-    (told (λ x y. suits a.rows x y a.work.now) p.s_value.0 at.ensures.0 d.suits.ensures c.if-not-suits.true)
+    (told (λ x y. same_ends a.rows x y a.work.now) p.s_value.0 at.ensures.0 c.same_ends.ensures c.if-not-same_ends.false)
+    (told (λ x y. suits a.rows x y a.work.now) p.s_value.0 at.ensures.0 c.suits.ensures c.if-not-suits.true)
 
 pub returns : goal.returns
 returns c =
-    let j = c in
-    let d = j in
-    let b = d in
-    let at = b.side_at-u in
-    let start = b in
-    let a = start.args in
-    let p = start.requires in
+    let at = c.side_at-u in
+    let a = c.args in
+    let p = c.requires in
     linked-as a.rows a.n a.c.near a.c.far a.work.now p.near_lt_far.2 p.s_value.2 p.near_lt_far.0 p.near_lt_far.1
-    (told (λ x y. same_ends a.rows x y a.work.now) p.s_value.0 at.ensures.0 b.same_ends.ensures d.if-not-same_ends.false)
-    _ _ _ p.s_value.0 at.ensures.0 j.join.ensures
-    (told (λ x y. suits a.rows x y a.work.now) p.s_value.0 at.ensures.0 d.suits.ensures j.if-not-suits.false)
+    (told (λ x y. same_ends a.rows x y a.work.now) p.s_value.0 at.ensures.0 c.same_ends.ensures c.if-not-same_ends.false)
+    _ _ _ p.s_value.0 at.ensures.0 c.join.ensures
+    (told (λ x y. suits a.rows x y a.work.now) p.s_value.0 at.ensures.0 c.suits.ensures c.if-not-suits.false)

@@ -19,35 +19,35 @@ At-Start = lts.Start tie.the-claims reads.Pre reads.Post
 
 -- the side ends in the same triangle
 inside : (c : At-After-end_of-e) → c.end_of-e.result < c.args.rows
-inside c = let s = c in omega (arith, c.end_of-e.ensures, end_lt s.args.r s.args.tris s.requires.1, s.requires.2)
+inside c = omega (arith, c.end_of-e.ensures, end_lt c.args.r c.args.tris c.requires.1, c.requires.2)
 
 -- the column ends at or before the last one's end
 ends : (s : At-Start) → s.args.column * s.args.rows + s.args.rows ≤ columns * s.args.rows
 ends s = column-ends s.args.column columns s.args.rows s.requires.0
 
 pub overflow_mul-a : goal.overflow_mul-a
-overflow_mul-a c = let s = c in omega (arith, ends s.before.before.before, s.requires.3)
+overflow_mul-a c = omega (arith, ends c.before.before.before, c.requires.3)
 
 pub overflow_add-a : goal.overflow_add-a
-overflow_add-a c = let s = c in omega (arith, ends s.before.before.before, s.requires)
+overflow_add-a c = omega (arith, ends c.before.before.before, c.requires)
 
 pub offset_bounds-work-column : goal.offset_bounds-work-column
-offset_bounds-work-column c = let s = c in omega (arith, ends s.before.before.before, s.requires.3)
+offset_bounds-work-column c = omega (arith, ends c.before.before.before, c.requires.3)
 
 pub bounds-work-column : goal.bounds-work-column
-bounds-work-column c = let s = c in omega (arith, ends s.before.before.before.before, s.requires)
+bounds-work-column c = omega (arith, ends c.before.before.before.before, c.requires)
 
 pub overflow_mul-b : goal.overflow_mul-b
-overflow_mul-b c = let s = c in omega (arith, ends s.before.before.before.before, s.requires.3)
+overflow_mul-b c = omega (arith, ends c.before.before.before.before, c.requires.3)
 
 pub overflow_add-b : goal.overflow_add-b
-overflow_add-b c = let s = c in omega (arith, inside c.before.before, ends s.before.before.before.before, s.requires.3)
+overflow_add-b c = omega (arith, inside c.before.before, ends c.before.before.before.before, c.requires.3)
 
 pub offset_bounds-work-column-2 : goal.offset_bounds-work-column-2
-offset_bounds-work-column-2 c = let s = c in omega (arith, inside c.before.before, ends s.before.before.before.before, s.requires.3)
+offset_bounds-work-column-2 c = omega (arith, inside c.before.before, ends c.before.before.before.before, c.requires.3)
 
 pub bounds-work-column-2 : goal.bounds-work-column-2
-bounds-work-column-2 c = let s = c in omega (arith, inside c.before.before.before, ends s.before.before.before.before.before, s.requires.3)
+bounds-work-column-2 c = omega (arith, inside c.before.before.before, ends c.before.before.before.before.before, c.requires.3)
 
 pub bounds-work-rows-2 : goal.bounds-work-rows-2
 bounds-work-rows-2 c = simp length-set (omega arith)

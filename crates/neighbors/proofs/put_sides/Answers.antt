@@ -16,24 +16,19 @@ loop-r-init c = (omega arith, up_to-none _ _, refl)
 pub put_side-requires : goal.put_side-requires
 put_side-requires c =
     let l = c.loop-r in
-    let s = c in
-    (s.requires.0, c.loop-r-test.true, s.requires.1, omega (arith, s.requires.2, l.invariant.2), s.requires.3)
+    (c.requires.0, c.loop-r-test.true, c.requires.1, omega (arith, c.requires.2, l.invariant.2), c.requires.3)
 
 pub overflow_step-r : goal.overflow_step-r
 overflow_step-r c =
-    let t = c in
-    let s = t in
-    omega (arith, t.loop-r-test.true, s.requires.1, s.requires.3)
+    omega (arith, c.loop-r-test.true, c.requires.1, c.requires.3)
 
 pub loop-r-smaller : goal.loop-r-smaller
-loop-r-smaller c = let t = c in omega (arith, t.loop-r-test.true)
+loop-r-smaller c = omega (arith, c.loop-r-test.true)
 
 pub loop-r-preserved : goal.loop-r-preserved
 loop-r-preserved c =
-    let p = c in
-    let t = p in
-    let l = t.loop-r in
-    (omega (arith, t.loop-r-test.true), p.put_side.ensures ∙ ap (with_side _ _ l.r) l.invariant.1 ∙ up_to-more l.r _ _, p.put_side.auto.work ∙ l.invariant.2)
+    let l = c.loop-r in
+    (omega (arith, c.loop-r-test.true), c.put_side.ensures ∙ ap (with_side _ _ l.r) l.invariant.1 ∙ up_to-more l.r _ _, c.put_side.auto.work ∙ l.invariant.2)
 
 pub shape_of-work : goal.shape_of-work
 shape_of-work c = c.loop-r.invariant.2

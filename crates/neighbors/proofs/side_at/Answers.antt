@@ -3,4 +3,4 @@ use native.Mathlib.Omega.{arith}
 use Rattle.neighbors.proofs.side_at.Goals as goal
 
 pub returns : goal.returns
-returns c = let start = c in (c.wide.ensures, omega (arith, start.requires.1.order start.args.a start.requires.0))
+returns c = (c.wide.ensures, omega (arith, c.requires.1.order c.args.a c.requires.0))

@@ -24,32 +24,22 @@ free rows near s work l p q e = unlinked _ (ap (λ (x : ℕ). link_of (cell rows
 
 pub returns-in_default : goal.returns-in_default
 returns-in_default c =
-    let k = c in
-    let at = k.side_at-s in
-    let start = k in
-    let a = start.args in
-    passed a.rows a.n a.c.near a.c.far a.work.now start.requires.1 _ start.requires.0
-    (ap (λ (x : ℕ). link_of (cell a.rows link_column x a.work.now)) (sym at.ensures.0) ∙ sym k.link_at.ensures.0 ∙ c.in_default.is)
+    let at = c.side_at-s in
+    let a = c.args in
+    passed a.rows a.n a.c.near a.c.far a.work.now c.requires.1 _ c.requires.0
+    (ap (λ (x : ℕ). link_of (cell a.rows link_column x a.work.now)) (sym at.ensures.0) ∙ sym c.link_at.ensures.0 ∙ c.in_default.is)
 
 pub returns-then-c : goal.returns-then-c
 returns-then-c c =
-    let e = c in
-    let start = e in
-    let a = start.args in
-    fetched a.rows a.n a.c.near a.c.far a.work.now start.requires.1 start.requires.0 c.if-c.true
+    let a = c.args in
+    fetched a.rows a.n a.c.near a.c.far a.work.now c.requires.1 c.requires.0 c.if-c.true
 
 pub returns-then-c-n : goal.returns-then-c-n
 returns-then-c-n c =
-    let t = c in
-    let e = t in
-    let start = e in
-    let a = start.args in
-    ended a.rows a.n a.c.near a.c.far a.work.now start.requires.1 (free a.rows a.c.near _ a.work.now _ e.side_at-s.ensures.0 e.link_at.ensures.0 e.in-Nothing.is) (omega arith) c.if-c-n.true
+    let a = c.args in
+    ended a.rows a.n a.c.near a.c.far a.work.now c.requires.1 (free a.rows a.c.near _ a.work.now _ c.side_at-s.ensures.0 c.link_at.ensures.0 c.in-Nothing.is) (omega arith) c.if-c-n.true
 
 pub look-requires : goal.look-requires
 look-requires c =
-    let t = c in
-    let e = t in
-    let at = e.side_at-s in
-    let start = e in
-    record { near_lt_far = (t.if-c.false, omega (arith, start.requires.1.second), start.requires.1); s_value = (at.ensures.0, at.ensures.1, free c.args.rows c.args.c.near _ c.args.work.now _ at.ensures.0 c.link_at.ensures.0 c.in-Nothing.is) }
+    let at = c.side_at-s in
+    record { near_lt_far = (c.if-c.false, omega (arith, c.requires.1.second), c.requires.1); s_value = (at.ensures.0, at.ensures.1, free c.args.rows c.args.c.near _ c.args.work.now _ at.ensures.0 c.link_at.ensures.0 c.in-Nothing.is) }

@@ -22,7 +22,5 @@ returns-then-packed-count c =
 pub returns : goal.returns
 unfolding after_pack all_packed slots_in
 returns c =
-    let p = c in
-    let t = p in
-    let a = t.args in
-    (λ i. record { number = 0; count = packed_words * slots_in a.answer.now; packed = p.pack_slots.ensures i }) ∙ pack-done a.answer.now a.packed.now (omega (arith, t.if-answer-ne0.false)) (omega (arith, t.if-packed-count.false))
+    let a = c.args in
+    (λ i. record { number = 0; count = packed_words * slots_in a.answer.now; packed = c.pack_slots.ensures i }) ∙ pack-done a.answer.now a.packed.now (omega (arith, c.if-answer-ne0.false)) (omega (arith, c.if-packed-count.false))

@@ -11,6 +11,4 @@ returns-then-not-has_frame c = simp (sym c.has_frame.ensures ∙ c.if-not-has_fr
 pub returns : goal.returns
 unfolding packed_slot frame_packed frame list_of
 returns c =
-    let s = c in
-    let e = s in
-    simp (sym e.has_frame.ensures ∙ e.if-not-has_frame.false) (cc)
+    simp (sym c.has_frame.ensures ∙ c.if-not-has_frame.false) (cc)

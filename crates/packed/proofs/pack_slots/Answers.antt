@@ -28,12 +28,11 @@ put_seven-requires c = omega (arith, c.loop-s.invariant.long)
 pub loop-s-preserved : goal.loop-s-preserved
 unfolding slot_at
 loop-s-preserved c =
-    let p = c in
-    let l = p.loop-s in
-    let a = p.args in
-    let e = p.pack_slot.ensures ∙ ap packed_slot (cut-is slot_words l.s a.answer.now) in
+    let l = c.loop-s in
+    let a = c.args in
+    let e = c.pack_slot.ensures ∙ ap packed_slot (cut-is slot_words l.s a.answer.now) in
     run_more packed_words a.count (stored a.answer.now) (λ i. length-packed (slot_at a.answer.now i)) a.packed.now l.packed _ l.s (omega arith) l.invariant
-    (p.put_seven.ensures ∙ ap (sets l.packed (packed_words * l.s)) e) p.put_seven.auto.l
+    (c.put_seven.ensures ∙ ap (sets l.packed (packed_words * l.s)) e) c.put_seven.auto.l
 
 pub returns : goal.returns
 unfolding packed_slots

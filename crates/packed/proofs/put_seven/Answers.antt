@@ -10,7 +10,7 @@ pub loop-k-init : goal.loop-k-init
 loop-k-init c = store-none packed_words c.args.p c.args.l.now c.args.seven (omega (arith, c.well_formed))
 
 pub loop-k-preserved : goal.loop-k-preserved
-loop-k-preserved c = let s = c in store-more packed_words s.args.p s.args.l.now s.args.seven (omega (arith, s.well_formed)) c.loop-k.l c.loop-k.k _ _ refl (omega arith) (omega arith) c.loop-k.invariant
+loop-k-preserved c = store-more packed_words c.args.p c.args.l.now c.args.seven (omega (arith, c.well_formed)) c.loop-k.l c.loop-k.k _ _ refl (omega arith) (omega arith) c.loop-k.invariant
 
 pub returns : goal.returns
-returns c = let s = c in stored packed_words s.args.p s.args.l.now s.args.seven (omega (arith, s.well_formed)) c.loop-k.l c.loop-k.k (omega arith) c.loop-k.invariant
+returns c = stored packed_words c.args.p c.args.l.now c.args.seven (omega (arith, c.well_formed)) c.loop-k.l c.loop-k.k (omega arith) c.loop-k.invariant

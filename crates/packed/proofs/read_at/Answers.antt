@@ -20,12 +20,10 @@ returns-then-i-eq0-2 c =
 
 pub returns-then-i-eq7 : goal.returns-then-i-eq7
 returns-then-i-eq7 c =
-    let e = c in
-    let a = e.args in
-    word-last a.absent a.s.now a.i _ e.if-absent.false (omega arith) c.oriented.ensures
+    let a = c.args in
+    word-last a.absent a.s.now a.i _ c.if-absent.false (omega arith) c.oriented.ensures
 
 pub returns : goal.returns
 returns c =
-    let e = c in
-    let a = e.args in
-    word-here a.absent a.s.now a.i _ e.if-absent.false (omega arith) (omega arith) c.wide.ensures
+    let a = c.args in
+    word-here a.absent a.s.now a.i _ c.if-absent.false (omega arith) (omega arith) c.wide.ensures

@@ -23,9 +23,8 @@ pub loop-k-preserved : goal.loop-k-preserved
 unfolding read_seven
 loop-k-preserved c =
     let l = c.loop-k in
-    let f = c in
-    let a = f.args in
-    store-more read_words a.p a.answer.now (read_seven a.s.now) (length-read a.s.now) l.answer l.k _ _ (read_again _ _ _ a.s.now _ c.read_at.ensures f.all_nothing-absent.ensures) (omega arith) (omega arith) l.invariant
+    let a = c.args in
+    store-more read_words a.p a.answer.now (read_seven a.s.now) (length-read a.s.now) l.answer l.k _ _ (read_again _ _ _ a.s.now _ c.read_at.ensures c.all_nothing-absent.ensures) (omega arith) (omega arith) l.invariant
 
 pub returns : goal.returns
 returns c =

@@ -25,11 +25,10 @@ read_slot-requires c =
 pub loop-s-preserved : goal.loop-s-preserved
 unfolding seven_at
 loop-s-preserved c =
-    let p = c in
-    let l = p.loop-s in
-    let a = p.args in
+    let l = c.loop-s in
+    let a = c.args in
     run_more read_words a.count (stored a.packed.now) (λ i. length-read (seven_at a.packed.now i)) a.answer.now l.answer _ l.s (omega arith) l.invariant
-    (p.read_slot.ensures ∙ ap (λ x. sets l.answer (read_words * l.s) (read_seven x)) (cut-is packed_words l.s a.packed.now)) p.read_slot.auto.answer
+    (c.read_slot.ensures ∙ ap (λ x. sets l.answer (read_words * l.s) (read_seven x)) (cut-is packed_words l.s a.packed.now)) c.read_slot.auto.answer
 
 pub returns : goal.returns
 unfolding read_slots

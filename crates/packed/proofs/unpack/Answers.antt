@@ -21,19 +21,13 @@ returns-then-answer-count c =
 pub returns-then-place-count : goal.returns-then-place-count
 unfolding after_unpack not_read sevens_in first_refused
 returns-then-place-count c =
-    let f = c in
-    let t = f in
-    let a = t.args in
-    (λ i. record { number = 3; place = f.first_refused-place.ensures i; answer = a.answer.now })
-    ∙ read_refused a.packed.now a.answer.now t.if-packed-ne0.false (omega arith) (λ e. c.if-place-count.true (f.first_refused-place.ensures ∙ e))
+    let a = c.args in
+    (λ i. record { number = 3; place = c.first_refused-place.ensures i; answer = a.answer.now })
+    ∙ read_refused a.packed.now a.answer.now c.if-packed-ne0.false (omega arith) (λ e. c.if-place-count.true (c.first_refused-place.ensures ∙ e))
 
 pub returns : goal.returns
 unfolding after_unpack whole_read sevens_in first_refused
 returns c =
-    let p = c in
-    let e = p in
-    let f = e in
-    let t = f in
-    let a = t.args in
-    (λ i. record { number = 0; place = 0; answer = p.read_slots.ensures i })
-    ∙ read_done a.packed.now a.answer.now t.if-packed-ne0.false (omega arith) (sym f.first_refused-place.ensures ∙ e.if-place-count.false)
+    let a = c.args in
+    (λ i. record { number = 0; place = 0; answer = c.read_slots.ensures i })
+    ∙ read_done a.packed.now a.answer.now c.if-packed-ne0.false (omega arith) (sym c.first_refused-place.ensures ∙ c.if-place-count.false)

@@ -49,36 +49,31 @@ short s = ltb (length s.args.reasons.now) (slot_count s.args.sizes.now)
 
 -- past the first test the table has no row
 unrefused : (e : At-Else-v-ne0) → table e.before.before.before.before.before.before.before.before.before.before ≡ none
-unrefused e = let j = e in no-refusal (at_desk (handed-in j.before.before.before.before.before.before.before.before.before.before)) (sym (ap (λ x. x.number) j.judge-v.ensures) ∙ e.if-v-ne0.false)
+unrefused e = no-refusal (at_desk (handed-in e.before.before.before.before.before.before.before.before.before.before)) (sym (ap (λ x. x.number) e.judge-v.ensures) ∙ e.if-v-ne0.false)
 
 -- then all slots are counted
 counted : (n : At-After-slots_before-slots) → n.slots_before-slots.result ≡ slot_count n.args.sizes.now
-counted n = let s = n in all_slots s.args.sizes.now _ (fine (at_desk (handed-in s.before.before.before.before.before.before.before.before.before.before.before)) (unrefused n.before)).few n.slots_before-slots.ensures.0
+counted n = all_slots n.args.sizes.now _ (fine (at_desk (handed-in n.before.before.before.before.before.before.before.before.before.before.before)) (unrefused n.before)).few n.slots_before-slots.ensures.0
 
 -- past the second nothing is refused
 passing : (e : At-Else-reasons-slots) → let s = e in reasons_verdict (handed-in s.before.before.before.before.before.before.before.before.before.before.before.before) (length s.args.reasons.now) ≡ none
 unfolding reasons_verdict
 passing e =
-    let n = e in
-    let s = n in
-    passes (table s.before.before.before.before.before.before.before.before.before.before.before.before) (short s.before.before.before.before.before.before.before.before.before.before.before.before) (unrefused n.before.before) (le-ltb (length s.args.reasons.now) (slot_count s.args.sizes.now) (omega (arith, e.if-reasons-slots.false, counted n.before)))
+    let s = e in
+    passes (table s.before.before.before.before.before.before.before.before.before.before.before.before) (short s.before.before.before.before.before.before.before.before.before.before.before.before) (unrefused e.before.before) (le-ltb (length s.args.reasons.now) (slot_count s.args.sizes.now) (omega (arith, e.if-reasons-slots.false, counted e.before)))
 
 pub returns-then-v-ne0 : goal.returns-then-v-ne0
 unfolding reasons_outcome reasons_verdict
 returns-then-v-ne0 c =
-    let j = c in
-    let s = j in
-    let e = j.judge-v.ensures in
+    let e = c.judge-v.ensures in
     left-same _ _ _ _ _ (c.said.ensures ∙ (λ i. record { number = (e i).number; place = (e i).place; slots = 0 }))
-    ∙ refused (table s.before.before.before.before.before.before.before.before.before.before.before.before) (short s.before.before.before.before.before.before.before.before.before.before.before.before) (taken s.before.before.before.before.before.before.before.before.before.before.before.before) s.args.answer.now s.args.work.now s.args.reasons.now (λ q. c.if-v-ne0.true (ap (λ x. x.number) e ∙ q))
+    ∙ refused (table c.before.before.before.before.before.before.before.before.before.before.before.before) (short c.before.before.before.before.before.before.before.before.before.before.before.before) (taken c.before.before.before.before.before.before.before.before.before.before.before.before) c.args.answer.now c.args.work.now c.args.reasons.now (λ q. c.if-v-ne0.true (ap (λ x. x.number) e ∙ q))
 
 pub returns-then-reasons-slots : goal.returns-then-reasons-slots
 unfolding reasons_outcome reasons_verdict
 returns-then-reasons-slots c =
-    let n = c in
-    let s = n in
     left-same _ _ _ _ _ c.said-then-reasons-slots.ensures
-    ∙ too_short (table s.before.before.before.before.before.before.before.before.before.before.before.before.before.before) (short s.before.before.before.before.before.before.before.before.before.before.before.before.before.before) (taken s.before.before.before.before.before.before.before.before.before.before.before.before.before.before) s.args.answer.now s.args.work.now s.args.reasons.now (unrefused n.before.before.before.before) (lt-ltb (length s.args.reasons.now) (slot_count s.args.sizes.now) (omega (arith, c.if-reasons-slots.true, counted n.before.before.before)))
+    ∙ too_short (table c.before.before.before.before.before.before.before.before.before.before.before.before.before.before) (short c.before.before.before.before.before.before.before.before.before.before.before.before.before.before) (taken c.before.before.before.before.before.before.before.before.before.before.before.before.before.before) c.args.answer.now c.args.work.now c.args.reasons.now (unrefused c.before.before.before.before) (lt-ltb (length c.args.reasons.now) (slot_count c.args.sizes.now) (omega (arith, c.if-reasons-slots.true, counted c.before.before.before)))
 
 -- what holds of the lists
 known : (n : At-After-slots_before-slots) → Fine (at_desk (handed-in n.before.before.before.before.before.before.before.before.before.before.before))
@@ -90,46 +85,27 @@ byte-each e = omega (arith, e.if-reasons-slots.false, counted e.before)
 
 pub try_copies-requires : goal.try_copies-requires
 try_copies-requires c =
-    let n = c in
-    let k = known n.before.before.before.before in
-    (k.few, omega (arith, k.work-fits), k.answer-fits, counted n.before.before.before.before, k.good)
+    let k = known c.before.before.before.before in
+    (k.few, omega (arith, k.work-fits), k.answer-fits, counted c.before.before.before.before, k.good)
 
 pub note_reasons-requires : goal.note_reasons-requires
 note_reasons-requires c =
-    let t = c in
-    let e = t in
-    let n = e in
-    (omega (arith, (known n.before.before.before.before.before.before.before.before.before.before).answer-fits, counted n.before.before.before.before.before.before.before.before.before.before, t.try_copies.auto.answer), omega (arith, byte-each e.before.before.before.before.before.before.before.before.before, counted n.before.before.before.before.before.before.before.before.before.before))
+    (omega (arith, (known c.before.before.before.before.before.before.before.before.before.before).answer-fits, counted c.before.before.before.before.before.before.before.before.before.before, c.try_copies.auto.answer), omega (arith, byte-each c.before.before.before.before.before.before.before.before.before, counted c.before.before.before.before.before.before.before.before.before.before))
 
 pub make_frames-made-requires : goal.make_frames-made-requires
 make_frames-made-requires c =
-    let t = c in
-    let n = t in
-    let s = n in
-    let a = s.args in
-    (λ z. verdict (shown (handed a.sizes.now a.positions.now a.normals.now a.texture.now) a.threshold (t.try_copies.auto.answer z) (t.try_copies.auto.work z))) ∙ unrefused n.before.before.before.before.before.before.before.before.before.before.before.before.before.before.before.before
+    let a = c.args in
+    (λ z. verdict (shown (handed a.sizes.now a.positions.now a.normals.now a.texture.now) a.threshold (c.try_copies.auto.answer z) (c.try_copies.auto.work z))) ∙ unrefused c.before.before.before.before.before.before.before.before.before.before.before.before.before.before.before.before
 
 pub strike-requires : goal.strike-requires
 strike-requires c =
-    let m = c in
-    let r = m in
-    let t = r in
-    let e = t in
-    let n = e in
-    (omega (arith, (known n.before.before.before.before.before.before.before.before.before.before.before.before.before.before.before.before.before.before.before.before.before).answer-fits, counted n.before.before.before.before.before.before.before.before.before.before.before.before.before.before.before.before.before.before.before.before.before, t.try_copies.auto.answer, m.make_frames-made.auto.answer), omega (arith, byte-each e.before.before.before.before.before.before.before.before.before.before.before.before.before.before.before.before.before.before.before.before, counted n.before.before.before.before.before.before.before.before.before.before.before.before.before.before.before.before.before.before.before.before.before, r.note_reasons.auto.reasons))
+    (omega (arith, (known c.before.before.before.before.before.before.before.before.before.before.before.before.before.before.before.before.before.before.before.before.before).answer-fits, counted c.before.before.before.before.before.before.before.before.before.before.before.before.before.before.before.before.before.before.before.before.before, c.try_copies.auto.answer, c.make_frames-made.auto.answer), omega (arith, byte-each c.before.before.before.before.before.before.before.before.before.before.before.before.before.before.before.before.before.before.before.before, counted c.before.before.before.before.before.before.before.before.before.before.before.before.before.before.before.before.before.before.before.before.before, c.note_reasons.auto.reasons))
 
 pub returns : goal.returns
 unfolding reasons_outcome answered
 returns c =
-    let k = c in
-    let m = k in
-    let r = m in
-    let t = r in
-    let e = t in
-    let n = e in
-    let s = n in
-    let a = s.args in
+    let a = c.args in
     left-same _ _ _ _ _ c.said-2.ensures
-    ∙ (whole (handed a.sizes.now a.positions.now a.normals.now a.texture.now) a.threshold a.answer.now a.work.now a.reasons.now _ _ _ _ _ _ _ _ (counted n.before.before.before.before.before.before.before.before.before.before.before.before.before.before.before.before.before.before.before.before.before.before.before.before.before) (known n.before.before.before.before.before.before.before.before.before.before.before.before.before.before.before.before.before.before.before.before.before.before.before.before.before).answer-fits t.try_copies.auto.answer
-    t.try_copies.ensures.0 t.try_copies.ensures.1 r.note_reasons.ensures m.make_frames-made.ensures m.make_frames-made.auto.answer k.strike.ensures
-    ∙ ap (λ o. answered o (taken s.before.before.before.before.before.before.before.before.before.before.before.before.before.before.before.before.before.before.before.before.before.before.before.before.before.before.before.before.before.before.before.before.before.before.before.before) a.answer.now a.work.now a.reasons.now) (sym (passing e.before.before.before.before.before.before.before.before.before.before.before.before.before.before.before.before.before.before.before.before.before.before.before.before)))
+    ∙ (whole (handed a.sizes.now a.positions.now a.normals.now a.texture.now) a.threshold a.answer.now a.work.now a.reasons.now _ _ _ _ _ _ _ _ (counted c.before.before.before.before.before.before.before.before.before.before.before.before.before.before.before.before.before.before.before.before.before.before.before.before.before) (known c.before.before.before.before.before.before.before.before.before.before.before.before.before.before.before.before.before.before.before.before.before.before.before.before.before).answer-fits c.try_copies.auto.answer
+    c.try_copies.ensures.0 c.try_copies.ensures.1 c.note_reasons.ensures c.make_frames-made.ensures c.make_frames-made.auto.answer c.strike.ensures
+    ∙ ap (λ o. answered o (taken c.before.before.before.before.before.before.before.before.before.before.before.before.before.before.before.before.before.before.before.before.before.before.before.before.before.before.before.before.before.before.before.before.before.before.before.before) a.answer.now a.work.now a.reasons.now) (sym (passing c.before.before.before.before.before.before.before.before.before.before.before.before.before.before.before.before.before.before.before.before.before.before.before.before)))

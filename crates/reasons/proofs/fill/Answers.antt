@@ -28,10 +28,9 @@ put-requires c = let l = c.loop-s in omega (arith, l.invariant.long)
 
 pub loop-s-preserved : goal.loop-s-preserved
 loop-s-preserved c =
-    let p = c in
-    let l = p.loop-s in
-    let a = p.args in
-    run_more slot_words a.count stored each a.answer.now l.answer _ l.s (omega arith) l.invariant (p.put.ensures ∙ ap (sets l.answer (slot_words * l.s)) tried-words) p.put.auto.answer
+    let l = c.loop-s in
+    let a = c.args in
+    run_more slot_words a.count stored each a.answer.now l.answer _ l.s (omega arith) l.invariant (c.put.ensures ∙ ap (sets l.answer (slot_words * l.s)) tried-words) c.put.auto.answer
 
 pub shape_of-answer : goal.shape_of-answer
 shape_of-answer c = c.loop-s.invariant.long

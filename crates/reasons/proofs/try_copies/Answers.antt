@@ -13,12 +13,10 @@ use Rattle.reasons.proofs.try_copies.Goals as goal
 
 pub copy_frames-requires : goal.copy_frames-requires
 copy_frames-requires c =
-    let l = c in
-    let s = l in
-    let a = s.args in
-    let L = l.link_mesh-counts.ensures in
+    let a = c.args in
+    let L = c.link_mesh-counts.ensures in
     let R = counts-fit (handed a.sizes.now a.positions.now a.normals.now a.texture.now) _ _ a.work.now _ L in
-    (R.0, R.1, omega (arith, s.requires.1, L.only.size))
+    (R.0, R.1, omega (arith, c.requires.1, L.only.size))
 
 -- so many slots are filled
 filled-to : (n m : ℕ) (a b : List ℕ) → b ≡ joined n (λ s. tried_words) ++ drop (slot_words * n) a → n ≡ m → b ≡ joined m (λ s. tried_words) ++ drop (slot_words * m) a
@@ -26,9 +24,6 @@ filled-to n m a b e h = e ∙ ap (λ (k : ℕ). joined k (λ s. tried_words) ++ 
 
 pub returns : goal.returns
 returns c =
-    let f = c in
-    let l = f in
-    let s = l in
-    let a = s.args in
-    let L = l.link_mesh-counts.ensures in
-    (tried-out (handed a.sizes.now a.positions.now a.normals.now a.texture.now) _ _ a.work.now _ L s.requires.4 a.answer.now _ _ (filled-to _ (slot_count a.sizes.now) a.answer.now _ l.fill.ensures s.requires.3) f.copy_frames.ensures, L.only.rest)
+    let a = c.args in
+    let L = c.link_mesh-counts.ensures in
+    (tried-out (handed a.sizes.now a.positions.now a.normals.now a.texture.now) _ _ a.work.now _ L c.requires.4 a.answer.now _ _ (filled-to _ (slot_count a.sizes.now) a.answer.now _ c.fill.ensures c.requires.3) c.copy_frames.ensures, L.only.rest)

@@ -5,7 +5,4 @@ use Rattle.records.proofs.put_tangent.Goals as goal
 pub returns : goal.returns
 unfolding storing
 returns c =
-    let z = c in
-    let y = z in
-    let x = y in
-    (cc, record { s_held = x.put_vec.ensures.1; t_held = y.put_vec-2.ensures.1; s_magnitude_held = z.put_lengths.ensures.1; t_magnitude_held = z.put_lengths.ensures.2 })
+    (cc, record { s_held = c.put_vec.ensures.1; t_held = c.put_vec-2.ensures.1; s_magnitude_held = c.put_lengths.ensures.1; t_magnitude_held = c.put_lengths.ensures.2 })

@@ -26,35 +26,27 @@ mark-requires c =
 
 pub next_on-x-requires : goal.next_on-x-requires
 next_on-x-requires c =
-    let m = c in
-    let t = m in
-    let l = t.loop-x in
-    let p = t.requires in
-    (t.loop-x-test.true, p.1, p.2, omega (arith, p.3, l.invariant.3.size, m.mark.auto.work), p.4, p.5, p.6, l.invariant.1 t.loop-x-test.true)
+    let l = c.loop-x in
+    let p = c.requires in
+    (c.loop-x-test.true, p.1, p.2, omega (arith, p.3, l.invariant.3.size, c.mark.auto.work), p.4, p.5, p.6, l.invariant.1 c.loop-x-test.true)
 
 pub loop-x-smaller : goal.loop-x-smaller
 loop-x-smaller c =
-    let m = c in
-    let t = m in
-    let l = t.loop-x in
-    let s = t in
-    let p = s.requires in
-    let f = fewer s.args.rows l.x l.work (omega (arith, t.loop-x-test.true, p.1)) (omega (arith, p.3, l.invariant.3.size)) (l.invariant.2 t.loop-x-test.true) in
-    subst (λ v. unmarked s.args.rows v < unmarked s.args.rows l.work) (sym m.mark.ensures) f
+    let l = c.loop-x in
+    let p = c.requires in
+    let f = fewer c.args.rows l.x l.work (omega (arith, c.loop-x-test.true, p.1)) (omega (arith, p.3, l.invariant.3.size)) (l.invariant.2 c.loop-x-test.true) in
+    subst (λ v. unmarked c.args.rows v < unmarked c.args.rows l.work) (sym c.mark.ensures) f
 
 pub loop-x-preserved : goal.loop-x-preserved
 loop-x-preserved c =
-    let m = c in
-    let t = m in
-    let l = t.loop-x in
-    let s = t in
-    let p = s.requires in
-    let a = s.args in
+    let l = c.loop-x in
+    let p = c.requires in
+    let a = c.args in
     let n = c.next_on-x.ensures in
-    let k = t.loop-x-test.true in
+    let k = c.loop-x-test.true in
     let i : l.x < a.rows = omega (arith, k, p.1) in
     let long : columns * a.rows ≤ length l.work = omega (arith, p.3, l.invariant.3.size) in
-    (n.low, (λ h z. (n.together h).some ((n.together h).same ∙ z)), (λ h. same-unless _ _ (n.fresh h)), subst (Only (next_column ∷ []) a.rows _) (sym m.mark.ensures) (only-put (next_column ∷ []) a.rows _ l.work next_column l.x 1 refl (omega arith) i l.invariant.3), goes-more a.rows a.tris _ _ _ _ _ _ _ l.work _ k i long l.invariant.4 m.mark.ensures n)
+    (n.low, (λ h z. (n.together h).some ((n.together h).same ∙ z)), (λ h. same-unless _ _ (n.fresh h)), subst (Only (next_column ∷ []) a.rows _) (sym c.mark.ensures) (only-put (next_column ∷ []) a.rows _ l.work next_column l.x 1 refl (omega arith) i l.invariant.3), goes-more a.rows a.tris _ _ _ _ _ _ _ l.work _ k i long l.invariant.4 c.mark.ensures n)
 
 pub shape_of-work : goal.shape_of-work
 shape_of-work c = c.loop-x.invariant.3.size

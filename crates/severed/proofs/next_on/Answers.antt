@@ -11,24 +11,15 @@ returns-then-y-tris c =
 
 pub returns-then-g-k : goal.returns-then-g-k
 returns-then-g-k c =
-    let v = c in
-    let e = v in
-    let a = e.args in
-    next-other a.tris a.given.now a.groups.now (Marked a.rows a.work.now) a.back a.x _ _ _ e.over_to-y.ensures e.if-y-tris.false v.word_at-g.ensures v.word_at-k.ensures c.if-g-k.true
+    let a = c.args in
+    next-other a.tris a.given.now a.groups.now (Marked a.rows a.work.now) a.back a.x _ _ _ c.over_to-y.ensures c.if-y-tris.false c.word_at-g.ensures c.word_at-k.ensures c.if-g-k.true
 
 pub returns-then-mark_at-ne0 : goal.returns-then-mark_at-ne0
 returns-then-mark_at-ne0 c =
-    let m = c in
-    let v = m in
-    let e = v in
-    let a = e.args in
-    next-marked a.tris a.given.now a.groups.now (Marked a.rows a.work.now) a.back a.x _ e.over_to-y.ensures e.if-y-tris.false (λ z. c.if-mark_at-ne0.true (m.mark_at.ensures ∙ z))
+    let a = c.args in
+    next-marked a.tris a.given.now a.groups.now (Marked a.rows a.work.now) a.back a.x _ c.over_to-y.ensures c.if-y-tris.false (λ z. c.if-mark_at-ne0.true (c.mark_at.ensures ∙ z))
 
 pub returns : goal.returns
 returns c =
-    let m = c in
-    let v = m in
-    let e = v in
-    let s = e in
-    let a = s.args in
-    next_here a.tris a.given.now a.groups.now (Marked a.rows a.work.now) a.back a.x _ _ _ e.over_to-y.ensures e.if-y-tris.false v.word_at-g.ensures v.word_at-k.ensures m.if-g-k.false s.requires.7 (λ k. k (sym m.mark_at.ensures ∙ c.if-mark_at-ne0.false))
+    let a = c.args in
+    next_here a.tris a.given.now a.groups.now (Marked a.rows a.work.now) a.back a.x _ _ _ c.over_to-y.ensures c.if-y-tris.false c.word_at-g.ensures c.word_at-k.ensures c.if-g-k.false c.requires.7 (λ k. k (sym c.mark_at.ensures ∙ c.if-mark_at-ne0.false))

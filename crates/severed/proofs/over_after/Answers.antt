@@ -13,16 +13,13 @@ returns-then-word-eq0 c = way-after-none _ _ _ _ _ refl c.word_at-word.ensures c
 
 pub end_of-requires : goal.end_of-requires
 end_of-requires c =
-    let s = c in
-    let a = s.args in
-    let w : get_or a.given.now a.x 0 ≤ 3 * a.tris = not-lt _ _ (s.requires.3 a.x s.requires.0) in
-    omega (arith, w, c.word_at-word.ensures, s.requires.1)
+    let a = c.args in
+    let w : get_or a.given.now a.x 0 ≤ 3 * a.tris = not-lt _ _ (c.requires.3 a.x c.requires.0) in
+    omega (arith, w, c.word_at-word.ensures, c.requires.1)
 
 pub returns : goal.returns
 returns c =
-    let e = c in
-    let s = e in
-    let a = s.args in
-    let w : get_or a.given.now a.x 0 ≤ 3 * a.tris = not-lt _ _ (s.requires.3 a.x s.requires.0) in
-    let v : e.word_at-word.result - 1 < 3 * a.tris = omega (arith, w, e.word_at-word.ensures, e.if-word-eq0.false) in
-    way-after-to _ _ _ _ _ _ refl e.word_at-word.ensures e.if-word-eq0.false c.end_of.ensures (omega (arith, end_lt (e.word_at-word.result - 1) a.tris v, c.end_of.ensures))
+    let a = c.args in
+    let w : get_or a.given.now a.x 0 ≤ 3 * a.tris = not-lt _ _ (c.requires.3 a.x c.requires.0) in
+    let v : c.word_at-word.result - 1 < 3 * a.tris = omega (arith, w, c.word_at-word.ensures, c.if-word-eq0.false) in
+    way-after-to _ _ _ _ _ _ refl c.word_at-word.ensures c.if-word-eq0.false c.end_of.ensures (omega (arith, end_lt (c.word_at-word.result - 1) a.tris v, c.end_of.ensures))

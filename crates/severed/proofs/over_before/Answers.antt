@@ -10,19 +10,15 @@ use Rattle.severed.proofs.over_before.Goals as goal
 
 pub word_at-word-requires : goal.word_at-word-requires
 word_at-word-requires c =
-    let s = c in
-    let b = end_below c.before_of.result s.args.tris (subst (λ z. z < 3 * s.args.tris) (sym c.before_of.ensures) s.requires.0) in
-    omega (arith, b, s.requires.2)
+    let b = end_below c.before_of.result c.args.tris (subst (λ z. z < 3 * c.args.tris) (sym c.before_of.ensures) c.requires.0) in
+    omega (arith, b, c.requires.2)
 
 pub returns-then-word-eq0 : goal.returns-then-word-eq0
 returns-then-word-eq0 c = way-before-none _ _ _ _ _ _ refl c.before_of.ensures c.word_at-word.ensures c.if-word-eq0.true
 
 pub returns : goal.returns
 returns c =
-    let d = c in
-    let b = d in
-    let s = b in
-    let a = s.args in
-    let l = end_below b.before_of.result a.tris (subst (λ z. z < 3 * a.tris) (sym b.before_of.ensures) s.requires.0) in
-    let w : get_or a.given.now b.before_of.result 0 ≤ 3 * a.tris = not-lt _ _ (s.requires.3 b.before_of.result l) in
-    way-before-to _ _ _ _ _ _ refl b.before_of.ensures d.word_at-word.ensures c.if-word-eq0.false (omega (arith, w, d.word_at-word.ensures))
+    let a = c.args in
+    let l = end_below c.before_of.result a.tris (subst (λ z. z < 3 * a.tris) (sym c.before_of.ensures) c.requires.0) in
+    let w : get_or a.given.now c.before_of.result 0 ≤ 3 * a.tris = not-lt _ _ (c.requires.3 c.before_of.result l) in
+    way-before-to _ _ _ _ _ _ refl c.before_of.ensures c.word_at-word.ensures c.if-word-eq0.false (omega (arith, w, c.word_at-word.ensures))

@@ -17,13 +17,10 @@ returns-then-mark_at-ne0 c =
 
 pub returns-then-first_at-r : goal.returns-then-first_at-r
 returns-then-first_at-r c =
-    let s = c in
-    let a = s.args in
-    record { turn = turn-severed a.rows a.tris a.given.now a.groups.now a.r _ _ c.first_at.result a.work.now s.requires.0 s.requires.7 c.word_at.ensures c.if-word_at-eq0.false c.mark_at.ensures c.if-mark_at-ne0.false c.first_at.ensures (λ h. c.if-first_at-r.true (omega (arith, h))); only = only_none _ _ _ }
+    let a = c.args in
+    record { turn = turn-severed a.rows a.tris a.given.now a.groups.now a.r _ _ c.first_at.result a.work.now c.requires.0 c.requires.7 c.word_at.ensures c.if-word_at-eq0.false c.mark_at.ensures c.if-mark_at-ne0.false c.first_at.ensures (λ h. c.if-first_at-r.true (omega (arith, h))); only = only_none _ _ _ }
 
 pub returns : goal.returns
 returns c =
-    let g = c in
-    let s = g in
-    let a = s.args in
-    record { turn = turn-walked a.rows a.tris a.given.now a.groups.now a.r g.first_at.result a.work.now _ s.requires.0 s.requires.7 g.first_at.ensures (omega (arith, g.if-first_at-r.false)) g.walk_group.ensures.walks; only = g.walk_group.ensures.only }
+    let a = c.args in
+    record { turn = turn-walked a.rows a.tris a.given.now a.groups.now a.r c.first_at.result a.work.now _ c.requires.0 c.requires.7 c.first_at.ensures (omega (arith, c.if-first_at-r.false)) c.walk_group.ensures.walks; only = c.walk_group.ensures.only }

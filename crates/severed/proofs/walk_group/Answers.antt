@@ -12,31 +12,18 @@ use Rattle.severed.proofs.walk_group.Goals as goal
 
 pub go_on-requires : goal.go_on-requires
 go_on-requires c =
-    let n = c in
-    let m = n in
-    let s = m in
-    let p = s.requires in
-    let e = n.next_on-x.ensures in
-    (e.low, p.1, p.2, omega (arith, p.3, m.mark.auto.work), p.4, p.5, p.6, (λ h z. (e.together h).some ((e.together h).same ∙ z)), (λ h. same-unless _ _ (e.fresh h)))
+    let p = c.requires in
+    let e = c.next_on-x.ensures in
+    (e.low, p.1, p.2, omega (arith, p.3, c.mark.auto.work), p.4, p.5, p.6, (λ h z. (e.together h).some ((e.together h).same ∙ z)), (λ h. same-unless _ _ (e.fresh h)))
 
 pub go_on-requires-2 : goal.go_on-requires-2
 go_on-requires-2 c =
-    let n = c in
-    let g = n in
-    let m = g in
-    let s = m in
-    let p = s.requires in
-    let e = n.next_on-y.ensures in
-    (e.low, p.1, p.2, omega (arith, p.3, m.mark.auto.work, g.go_on.ensures.only.size), p.4, p.5, p.6, (λ h z. (e.together h).some ((e.together h).same ∙ z)), (λ h. same-unless _ _ (e.fresh h)))
+    let p = c.requires in
+    let e = c.next_on-y.ensures in
+    (e.low, p.1, p.2, omega (arith, p.3, c.mark.auto.work, c.go_on.ensures.only.size), p.4, p.5, p.6, (λ h z. (e.together h).some ((e.together h).same ∙ z)), (λ h. same-unless _ _ (e.fresh h)))
 
 pub returns : goal.returns
 returns c =
-    let h = c in
-    let n = h in
-    let g = n in
-    let x = g in
-    let m = x in
-    let s = m in
-    let p = s.requires in
-    let a = s.args in
-    let k : a.f < a.rows = omega (arith, p.0, p.1) in record { walks = walks-group a.rows a.tris _ _ a.f _ _ a.work.now _ _ _ p.0 k p.3 p.7 m.mark.ensures x.next_on-x.ensures g.go_on.ensures.goes n.next_on-y.ensures h.go_on-2.ensures.goes; only = only-trans _ _ _ _ _ (subst (Only (next_column ∷ []) a.rows a.work.now) (sym m.mark.ensures) (only-put (next_column ∷ []) a.rows a.work.now a.work.now next_column a.f 1 refl (omega arith) k (only_none _ _ _))) (only-trans _ _ _ _ _ g.go_on.ensures.only h.go_on-2.ensures.only) }
+    let p = c.requires in
+    let a = c.args in
+    let k : a.f < a.rows = omega (arith, p.0, p.1) in record { walks = walks-group a.rows a.tris _ _ a.f _ _ a.work.now _ _ _ p.0 k p.3 p.7 c.mark.ensures c.next_on-x.ensures c.go_on.ensures.goes c.next_on-y.ensures c.go_on-2.ensures.goes; only = only-trans _ _ _ _ _ (subst (Only (next_column ∷ []) a.rows a.work.now) (sym c.mark.ensures) (only-put (next_column ∷ []) a.rows a.work.now a.work.now next_column a.f 1 refl (omega arith) k (only_none _ _ _))) (only-trans _ _ _ _ _ c.go_on.ensures.only c.go_on-2.ensures.only) }

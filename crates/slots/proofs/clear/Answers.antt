@@ -15,6 +15,5 @@ returns-then-answer-slot c =
 pub returns : goal.returns
 unfolding cleared_at
 returns c =
-    let e = c in
-    let a = e.args in
-    c.put.ensures ∙ sym (written-there a.slot (replicate slot_words 0) a.answer.now e.if-answer-slot.false)
+    let a = c.args in
+    c.put.ensures ∙ sym (written-there a.slot (replicate slot_words 0) a.answer.now c.if-answer-slot.false)

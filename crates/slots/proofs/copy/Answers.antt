@@ -23,11 +23,9 @@ returns-then-answer-to c =
 pub returns : goal.returns
 unfolding copy_at
 returns c =
-    let w = c in
-    let e = w in
-    let a = e.args in
+    let a = c.args in
     let l = a.answer.now in
-    let before = w.reading_of-before.ensures ∙ ap reading_of w.words_at.ensures in
-    let after = w.words-words.ensures ∙ ap words (w.copy_of.ensures ∙ ap (copy_of a.quad) before) in
+    let before = c.reading_of-before.ensures ∙ ap reading_of c.words_at.ensures in
+    let after = c.words-words.ensures ∙ ap words (c.copy_of.ensures ∙ ap (copy_of a.quad) before) in
     c.put.ensures ∙ ap (sets l (slot_words * a.to)) after
-    ∙ sym (copied-there a.quad a.from a.to l e.if-answer-from.false ∙ written-there a.to (copy_at a.quad a.from l) l e.if-answer-to.false)
+    ∙ sym (copied-there a.quad a.from a.to l c.if-answer-from.false ∙ written-there a.to (copy_at a.quad a.from l) l c.if-answer-to.false)

@@ -24,13 +24,11 @@ loop-i-init c = (omega arith, refl, refl)
 pub loop-i-preserved : goal.loop-i-preserved
 loop-i-preserved c =
     let l = c.loop-i in
-    let s = c in
-    let n = all s.before.before in
-    (omega arith, sets_more s.args.answer.now l.answer s.args.words (slot_words * s.args.slot) l.i (omega arith) l.invariant.1, simp length-set l.invariant.2)
+    let n = all c.before.before in
+    (omega arith, sets_more c.args.answer.now l.answer c.args.words (slot_words * c.args.slot) l.i (omega arith) l.invariant.1, simp length-set l.invariant.2)
 
 pub returns : goal.returns
 returns c =
     let l = c.loop-i in
-    let s = c in
-    let n = all s.before.before in
-    rw (le_antisymm l.invariant.0 c.loop-i-test.false) at l.invariant.1 ∙ ap (sets s.args.answer.now (slot_words * s.args.slot)) (take_all slot_words s.args.words (omega arith))
+    let n = all c.before.before in
+    rw (le_antisymm l.invariant.0 c.loop-i-test.false) at l.invariant.1 ∙ ap (sets c.args.answer.now (slot_words * c.args.slot)) (take_all slot_words c.args.words (omega arith))

@@ -19,11 +19,9 @@ returns-then-answer-slot c =
 pub returns : goal.returns
 unfolding reached_at
 returns c =
-    let w = c in
-    let e = w in
-    let a = e.args in
+    let a = c.args in
     let l = a.answer.now in
-    let before = w.reading_of-before.ensures ∙ ap reading_of w.words_at.ensures in
-    let after = w.words-words.ensures ∙ ap words (w.reached.ensures ∙ ap (λ (r : Reading). reached r a.v a.orientation) before) in
+    let before = c.reading_of-before.ensures ∙ ap reading_of c.words_at.ensures in
+    let after = c.words-words.ensures ∙ ap words (c.reached.ensures ∙ ap (λ (r : Reading). reached r a.v a.orientation) before) in
     c.put.ensures ∙ ap (sets l (slot_words * a.slot)) after
-    ∙ sym (written-there a.slot (words (reached (reading_of (words_at a.slot l)) a.v a.orientation)) l e.if-answer-slot.false)
+    ∙ sym (written-there a.slot (words (reached (reading_of (words_at a.slot l)) a.v a.orientation)) l c.if-answer-slot.false)

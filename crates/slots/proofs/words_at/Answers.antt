@@ -13,7 +13,6 @@ use Rattle.slots.proofs.words_at.Goals as goal
 pub returns : goal.returns
 unfolding words_at list_of
 returns c =
-    let s = c in
-    let a = s.args.answer.now in
-    let p = slot_words * s.args.slot in
-    ap (λ (k : ℕ). get_or a k 0 ∷ drop 1 (list_of slot_words (λ i. get_or a (p + i) 0))) (sym (add-zero p)) ∙ run-read slot_words p a s.requires
+    let a = c.args.answer.now in
+    let p = slot_words * c.args.slot in
+    ap (λ (k : ℕ). get_or a k 0 ∷ drop 1 (list_of slot_words (λ i. get_or a (p + i) 0))) (sym (add-zero p)) ∙ run-read slot_words p a c.requires

@@ -14,24 +14,19 @@ use Rattle.spaces.proofs.generate_tangent_spaces.Goals as goal
 
 pub loop-q-init : goal.loop-q-init
 unfolding up_to
-loop-q-init c = let s = c in (refl, only_none (joined_column ∷ []) s.args.rows s.args.work.now, omega arith, refl, s.requires.2)
+loop-q-init c = (refl, only_none (joined_column ∷ []) c.args.rows c.args.work.now, omega arith, refl, c.requires.2)
 
 pub reach_at-requires : goal.reach_at-requires
 reach_at-requires c =
-    let i = c in
-    let l = i.loop-q in
-    let s = i in
-    (i.loop-q-test.true, s.requires.0, s.requires.1, l.invariant.4, ranged-kept s.args.rows s.args.work.now _ l.invariant.1 _ s.requires.1 s.requires.3)
+    let l = c.loop-q in
+    (c.loop-q-test.true, c.requires.0, c.requires.1, l.invariant.4, ranged-kept c.args.rows c.args.work.now _ l.invariant.1 _ c.requires.1 c.requires.3)
 
 pub loop-q-preserved : goal.loop-q-preserved
 loop-q-preserved c =
-    let m = c in
-    let i = m in
-    let l = i.loop-q in
-    let s = i in
-    let a = s.args in
-    let e = m.reach_at.ensures in
-    (one_group a.rows a.threshold a.s.groups a.s.members a.work.now _ a.answer.now _ _ l.q s.requires.0 s.requires.1 s.requires.3 l.invariant.1 l.invariant.0 e.0, only-trans (joined_column ∷ []) a.rows a.work.now _ _ l.invariant.1 e.1, omega (arith, i.loop-q-test.true), m.reach_at.auto.answer ∙ l.invariant.3, omega (arith, l.invariant.4, e.1.size))
+    let l = c.loop-q in
+    let a = c.args in
+    let e = c.reach_at.ensures in
+    (one_group a.rows a.threshold a.s.groups a.s.members a.work.now _ a.answer.now _ _ l.q c.requires.0 c.requires.1 c.requires.3 l.invariant.1 l.invariant.0 e.0, only-trans (joined_column ∷ []) a.rows a.work.now _ _ l.invariant.1 e.1, omega (arith, c.loop-q-test.true), c.reach_at.auto.answer ∙ l.invariant.3, omega (arith, l.invariant.4, e.1.size))
 
 pub returns : goal.returns
 unfolding reach_all

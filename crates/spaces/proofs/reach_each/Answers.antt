@@ -17,42 +17,35 @@ use Rattle.spaces.proofs.reach_each.Goals as goal
 pub loop-j-init : goal.loop-j-init
 unfolding up_to
 loop-j-init c =
-    let s = c in
-    let a = s.args in
+    let a = c.args in
     let z : 0 ≡ a.from - a.from = omega arith in
-    (ap (λ n. up_to n (λ k. reach_row a.rows a.threshold a.from (a.to - a.from) a.work.now (cell a.rows met_column (a.from + k) a.work.now)) a.answer.now) z, c.evaluate_tangent_space-sum.ensures, only_none (joined_column ∷ []) a.rows a.work.now, omega arith, s.requires.0, refl, s.requires.2)
+    (ap (λ n. up_to n (λ k. reach_row a.rows a.threshold a.from (a.to - a.from) a.work.now (cell a.rows met_column (a.from + k) a.work.now)) a.answer.now) z, c.evaluate_tangent_space-sum.ensures, only_none (joined_column ∷ []) a.rows a.work.now, omega arith, c.requires.0, refl, c.requires.2)
 
 pub overflow_cast-r : goal.overflow_cast-r
 overflow_cast-r c = let l = c.loop-j in omega (arith, c.slice_known-in-loop-j-1.given (met_column * c.args.rows + l.j))
 
 pub reach_member-sum-requires : goal.reach_member-sum-requires
 reach_member-sum-requires c =
-    let i = c in
-    let l = i.loop-j in
-    let s = i in
-    let a = s.args in
-    let b = i.loop-j-test.true in
-    (subst (λ x. x < a.rows) (sym (cell-kept (joined_column ∷ []) a.rows a.work.now _ l.invariant.2 met_column l.j refl (omega (arith, b, s.requires.1)))) (s.requires.3.met l.j b), s.requires.0, s.requires.1, l.invariant.6, ranged-kept a.rows a.work.now _ l.invariant.2 a.to s.requires.1 s.requires.3, l.invariant.1)
+    let l = c.loop-j in
+    let a = c.args in
+    let b = c.loop-j-test.true in
+    (subst (λ x. x < a.rows) (sym (cell-kept (joined_column ∷ []) a.rows a.work.now _ l.invariant.2 met_column l.j refl (omega (arith, b, c.requires.1)))) (c.requires.3.met l.j b), c.requires.0, c.requires.1, l.invariant.6, ranged-kept a.rows a.work.now _ l.invariant.2 a.to c.requires.1 c.requires.3, l.invariant.1)
 
 pub loop-j-preserved : goal.loop-j-preserved
 loop-j-preserved c =
-    let m = c in
-    let i = m in
-    let l = i.loop-j in
-    let s = i in
-    let a = s.args in
-    let b = i.loop-j-test.true in
-    let e = m.reach_member-sum.ensures in
+    let l = c.loop-j in
+    let a = c.args in
+    let b = c.loop-j-test.true in
+    let e = c.reach_member-sum.ensures in
     let f : ℕ → List ℕ → List ℕ = λ k. reach_row a.rows a.threshold a.from (a.to - a.from) a.work.now (cell a.rows met_column (a.from + k) a.work.now) in
     let at : l.j ≡ a.from + (l.j - a.from) = omega (arith, l.invariant.3) in
     let more : (l.j - a.from) + 1 ≡ l.j + 1 - a.from = omega (arith, l.invariant.3) in
-    (e.0 ∙ (member-kept a.rows a.work.now _ l.invariant.2 a.threshold a.from a.to l.j _ s.requires.0 s.requires.1 b s.requires.3 ∙ ((λ z. reach_row a.rows a.threshold a.from (a.to - a.from) a.work.now (cell a.rows met_column (at z) a.work.now) (l.invariant.0 z)) ∙ (up_to-more (l.j - a.from) f a.answer.now ∙ ap (λ n. up_to n f a.answer.now) more))), e.1, only-trans (joined_column ∷ []) a.rows a.work.now _ _ l.invariant.2 e.2, omega (arith, l.invariant.3), omega (arith, b), m.reach_member-sum.auto.answer ∙ l.invariant.5, omega (arith, l.invariant.6, e.2.size))
+    (e.0 ∙ (member-kept a.rows a.work.now _ l.invariant.2 a.threshold a.from a.to l.j _ c.requires.0 c.requires.1 b c.requires.3 ∙ ((λ z. reach_row a.rows a.threshold a.from (a.to - a.from) a.work.now (cell a.rows met_column (at z) a.work.now) (l.invariant.0 z)) ∙ (up_to-more (l.j - a.from) f a.answer.now ∙ ap (λ n. up_to n f a.answer.now) more))), e.1, only-trans (joined_column ∷ []) a.rows a.work.now _ _ l.invariant.2 e.2, omega (arith, l.invariant.3), omega (arith, b), c.reach_member-sum.auto.answer ∙ l.invariant.5, omega (arith, l.invariant.6, e.2.size))
 
 pub returns : goal.returns
 unfolding reach_group
 returns c =
     let l = c.loop-j in
-    let s = c in
-    let a = s.args in
+    let a = c.args in
     let f : ℕ → List ℕ → List ℕ = λ k. reach_row a.rows a.threshold a.from (a.to - a.from) a.work.now (cell a.rows met_column (a.from + k) a.work.now) in
     (l.invariant.0 ∙ ap (λ q. up_to (q - a.from) f a.answer.now) (le_antisymm l.invariant.4 c.loop-j-test.false), l.invariant.2)

@@ -14,4 +14,4 @@ slot_same s s' g way a u e f = e ∙ ap (λ (n : ℕ). reached_at n g way a) f
 
 pub returns : goal.returns
 unfolding reach_with
-returns c = let k = c in slot_same _ _ _ _ _ _ k.reach.ensures k.slot_at-slot.ensures
+returns c = slot_same _ _ _ _ _ _ c.reach.ensures c.slot_at-slot.ensures

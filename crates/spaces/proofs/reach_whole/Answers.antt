@@ -14,43 +14,34 @@ use Rattle.spaces.proofs.reach_whole.Goals as goal
 pub loop-j-init : goal.loop-j-init
 unfolding up_to
 loop-j-init c =
-    let s = c in
-    let a = s.args in
+    let a = c.args in
     let z : 0 ≡ a.from - a.from = omega arith in
-    (ap (λ n. up_to n (λ k. reach_with a.rows a.work.now c.sum_of_all-g.result (cell a.rows met_column (a.from + k) a.work.now)) a.answer.now) z, omega arith, s.requires.0, refl)
+    (ap (λ n. up_to n (λ k. reach_with a.rows a.work.now c.sum_of_all-g.result (cell a.rows met_column (a.from + k) a.work.now)) a.answer.now) z, omega arith, c.requires.0, refl)
 
 pub overflow_cast-work : goal.overflow_cast-work
 overflow_cast-work c =
-    let i = c in
-    let l = i.loop-j in
-    let s = i in
-    omega (arith, c.shared_slice_known-in-loop-j-1.given (met_column * s.args.rows + l.j))
+    let l = c.loop-j in
+    omega (arith, c.shared_slice_known-in-loop-j-1.given (met_column * c.args.rows + l.j))
 
 pub reach_one-requires : goal.reach_one-requires
 reach_one-requires c =
-    let i = c in
-    let l = i.loop-j in
-    let s = i in
-    (s.requires.3.met l.j i.loop-j-test.true, s.requires.2)
+    let l = c.loop-j in
+    (c.requires.3.met l.j c.loop-j-test.true, c.requires.2)
 
 pub loop-j-preserved : goal.loop-j-preserved
 loop-j-preserved c =
-    let m = c in
-    let i = m in
-    let l = i.loop-j in
-    let s = i in
-    let a = s.args in
-    let b = i.loop-j-test.true in
-    let g = i.sum_of_all-g.result in
+    let l = c.loop-j in
+    let a = c.args in
+    let b = c.loop-j-test.true in
+    let g = c.sum_of_all-g.result in
     let f : ℕ → List ℕ → List ℕ = λ k. reach_with a.rows a.work.now g (cell a.rows met_column (a.from + k) a.work.now) in
     let at : l.j ≡ a.from + (l.j - a.from) = omega (arith, l.invariant.1) in
     let more : (l.j - a.from) + 1 ≡ l.j + 1 - a.from = omega (arith, l.invariant.1) in
-    (m.reach_one.ensures ∙ ((λ z. reach_with a.rows a.work.now g (cell a.rows met_column (at z) a.work.now) (l.invariant.0 z)) ∙ (up_to-more (l.j - a.from) f a.answer.now ∙ ap (λ n. up_to n f a.answer.now) more)), omega (arith, l.invariant.1), omega (arith, b), m.reach_one.auto.answer ∙ l.invariant.3)
+    (c.reach_one.ensures ∙ ((λ z. reach_with a.rows a.work.now g (cell a.rows met_column (at z) a.work.now) (l.invariant.0 z)) ∙ (up_to-more (l.j - a.from) f a.answer.now ∙ ap (λ n. up_to n f a.answer.now) more)), omega (arith, l.invariant.1), omega (arith, b), c.reach_one.auto.answer ∙ l.invariant.3)
 
 pub returns : goal.returns
 unfolding reach_whole
 returns c =
     let l = c.loop-j in
-    let s = c in
-    let a = s.args in
+    let a = c.args in
     l.invariant.0 ∙ ((λ z. up_to (le_antisymm l.invariant.2 c.loop-j-test.false z - a.from) (λ k. reach_with a.rows a.work.now (c.sum_of_all-g.ensures z) (cell a.rows met_column (a.from + k) a.work.now)) a.answer.now))

@@ -19,8 +19,7 @@ returns-then-is_any c =
 pub returns : goal.returns
 unfolding absorbed
 returns c =
-    let e = c in
-    let a = e.args in
-    let h : eqb (cell a.rows any_column (a.r / 3) a.work.now) 1 ≡ false = sym e.is_any.ensures ∙ e.if-is_any.false in
+    let a = c.args in
+    let h : eqb (cell a.rows any_column (a.r / 3) a.work.now) 1 ≡ false = sym c.is_any.ensures ∙ c.if-is_any.false in
     simp h
     (λ i. record { s = (c.widen-s.ensures ∙ ap (widened a.b.s) c.s_at.ensures) i; t = (c.widen-t.ensures ∙ ap (widened a.b.t) c.t_at.ensures) i })

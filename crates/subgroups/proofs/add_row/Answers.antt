@@ -12,20 +12,16 @@ use Rattle.subgroups.proofs.add_row.Goals as goal
 pub returns-then-is_any : goal.returns-then-is_any
 unfolding add_row
 returns-then-is_any c =
-    let e = c in
-    let a = e.args in
-    let h : eqb (cell a.rows any_column (a.r / 3) a.work.now) 1 ≡ true = sym e.is_any.ensures ∙ e.if-is_any.true in
+    let a = c.args in
+    let h : eqb (cell a.rows any_column (a.r / 3) a.work.now) 1 ≡ true = sym c.is_any.ensures ∙ c.if-is_any.true in
     simp h c.none_added.ensures
 
 pub returns : goal.returns
 unfolding add_row space_at
 returns c =
-    let m = c in
-    let t = m in
-    let e = t in
-    let a = e.args in
-    let h : eqb (cell a.rows any_column (a.r / 3) a.work.now) 1 ≡ false = sym e.is_any.ensures ∙ e.if-is_any.false in
+    let a = c.args in
+    let h : eqb (cell a.rows any_column (a.r / 3) a.work.now) 1 ≡ false = sym c.is_any.ensures ∙ c.if-is_any.false in
     simp h
     (c.weigh.ensures
     ∙ (λ i. weighed_by a.z (c.number-angle.ensures i)
-    (record { s = t.s_at-s.ensures i; t = t.t_at-t.ensures i; s_magnitude = m.s_magnitude_at.ensures i; t_magnitude = m.t_magnitude_at.ensures i })))
+    (record { s = c.s_at-s.ensures i; t = c.t_at-t.ensures i; s_magnitude = c.s_magnitude_at.ensures i; t_magnitude = c.t_magnitude_at.ensures i })))

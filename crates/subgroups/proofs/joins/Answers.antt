@@ -22,15 +22,12 @@ returns-then-m-face c = let a = c.args in join-face a.threshold a.m (peer_at a.r
 pub returns-then-threshold-dot : goal.returns-then-threshold-dot
 unfolding peer_at
 returns-then-threshold-dot c =
-    let i = c in
-    let e = i in
-    let a = e.args in
+    let a = c.args in
     ap (Ieee.lt a.threshold) (c.dot-then-threshold-dot.ensures ∙ ap (dot a.m.t) c.t_at.ensures)
-    ∙ join-close a.threshold a.m (peer_at a.rows a.r a.work.now) e.if-m.false (sym e.is_any.ensures ∙ e.if-is_any.false) (ne_eqb _ _ (λ h. e.if-m-face.false (h ∙ sym e.face_at-face.ensures))) (sym (ap (Ieee.lt a.threshold) (i.dot.ensures ∙ ap (dot a.m.s) i.s_at.ensures)) ∙ i.if-threshold-dot.true)
+    ∙ join-close a.threshold a.m (peer_at a.rows a.r a.work.now) c.if-m.false (sym c.is_any.ensures ∙ c.if-is_any.false) (ne_eqb _ _ (λ h. c.if-m-face.false (h ∙ sym c.face_at-face.ensures))) (sym (ap (Ieee.lt a.threshold) (c.dot.ensures ∙ ap (dot a.m.s) c.s_at.ensures)) ∙ c.if-threshold-dot.true)
 
 pub returns : goal.returns
 unfolding peer_at
 returns c =
-    let e = c in
-    let a = e.args in
-    join-far a.threshold a.m (peer_at a.rows a.r a.work.now) e.if-m.false (sym e.is_any.ensures ∙ e.if-is_any.false) (ne_eqb _ _ (λ h. e.if-m-face.false (h ∙ sym e.face_at-face.ensures))) (sym (ap (Ieee.lt a.threshold) (c.dot.ensures ∙ ap (dot a.m.s) c.s_at.ensures)) ∙ c.if-threshold-dot.false)
+    let a = c.args in
+    join-far a.threshold a.m (peer_at a.rows a.r a.work.now) c.if-m.false (sym c.is_any.ensures ∙ c.if-is_any.false) (ne_eqb _ _ (λ h. c.if-m-face.false (h ∙ sym c.face_at-face.ensures))) (sym (ap (Ieee.lt a.threshold) (c.dot.ensures ∙ ap (dot a.m.s) c.s_at.ensures)) ∙ c.if-threshold-dot.false)

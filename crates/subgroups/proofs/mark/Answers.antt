@@ -12,15 +12,13 @@ use Rattle.subgroups.proofs.mark.Goals as goal
 pub returns-then-work-rows : goal.returns-then-work-rows
 unfolding mark_of joins_at
 returns-then-work-rows c =
-    let f = c in
-    let a = f.args in
+    let a = c.args in
     let q = joined_column * a.rows + a.p in
-    let m = f.flag-b.ensures ∙ ap flag f.joins.ensures in
+    let m = c.flag-b.ensures ∙ ap flag c.joins.ensures in
     (sym (ap (set a.work.now q) (sym m ∙ sym c.if-work-rows.true) ∙ set-get_or a.work.now q 0), λ e. refl)
 
 pub returns : goal.returns
 unfolding mark_of joins_at
 returns c =
-    let f = c in
-    let a = f.args in
-    (ap (set a.work.now (joined_column * a.rows + a.p)) (f.flag-b.ensures ∙ ap flag f.joins.ensures), λ e. absurd (false≢true e))
+    let a = c.args in
+    (ap (set a.work.now (joined_column * a.rows + a.p)) (c.flag-b.ensures ∙ ap flag c.joins.ensures), λ e. absurd (false≢true e))

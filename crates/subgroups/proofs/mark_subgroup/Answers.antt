@@ -20,25 +20,21 @@ loop-p-init c =
 pub mark-same-requires : goal.mark-same-requires
 mark-same-requires c =
     let l = c.loop-p in
-    let s = c in
     let p = c.loop-p-test.true in
-    let b : l.p < s.args.rows = omega (arith, p, s.requires.1) in
-    (b, subst (λ x. x < s.args.rows) (sym (order-kept s.args.rows s.args.work.now _ l.invariant.4 l.p b)) (s.requires.3.order l.p p), omega (arith, s.requires.2, l.invariant.4.size))
+    let b : l.p < c.args.rows = omega (arith, p, c.requires.1) in
+    (b, subst (λ x. x < c.args.rows) (sym (order-kept c.args.rows c.args.work.now _ l.invariant.4 l.p b)) (c.requires.3.order l.p p), omega (arith, c.requires.2, l.invariant.4.size))
 
 pub loop-p-preserved : goal.loop-p-preserved
 loop-p-preserved c =
-    let k = c in
-    let i = k in
-    let l = i.loop-p in
-    let s = i in
-    let a = s.args in
-    let p = i.loop-p-test.true in
-    let b : l.p < a.rows = omega (arith, p, s.requires.1) in
+    let l = c.loop-p in
+    let a = c.args in
+    let p = c.loop-p-test.true in
+    let b : l.p < a.rows = omega (arith, p, c.requires.1) in
     let at : a.from + (l.p - a.from) ≡ l.p = omega (arith, l.invariant.2) in
     let e : (l.p - a.from) + 1 ≡ l.p + 1 - a.from = omega (arith, l.invariant.2) in
-    let M = one-marked a.rows a.threshold a.m a.from a.work.now s.requires.2 (l.p - a.from) l.p _ at b (s.requires.3.order l.p p) l.invariant.0 in
-    let N = k.mark-same.ensures.0 ∙ M in
-    (marked-as a.rows a.threshold a.m a.from a.work.now s.requires.2 _ _ _ e N, λ q. k.mark-same.ensures.1 (and_left _ _ q) ∙ l.invariant.1 (and_right k.mark-same.result _ q), omega (arith, l.invariant.2), omega (arith, p), marked-only a.rows a.threshold a.m a.from a.work.now s.requires.2 (l.p - a.from + 1) _ (omega (arith, at, b)) N)
+    let M = one-marked a.rows a.threshold a.m a.from a.work.now c.requires.2 (l.p - a.from) l.p _ at b (c.requires.3.order l.p p) l.invariant.0 in
+    let N = c.mark-same.ensures.0 ∙ M in
+    (marked-as a.rows a.threshold a.m a.from a.work.now c.requires.2 _ _ _ e N, λ q. c.mark-same.ensures.1 (and_left _ _ q) ∙ l.invariant.1 (and_right c.mark-same.result _ q), omega (arith, l.invariant.2), omega (arith, p), marked-only a.rows a.threshold a.m a.from a.work.now c.requires.2 (l.p - a.from + 1) _ (omega (arith, at, b)) N)
 
 pub shape_of-work : goal.shape_of-work
 shape_of-work c = c.loop-p.invariant.4.size
@@ -46,6 +42,5 @@ shape_of-work c = c.loop-p.invariant.4.size
 pub returns : goal.returns
 returns c =
     let l = c.loop-p in
-    let s = c in
-    let a = s.args in
-    (marked-as a.rows a.threshold a.m a.from a.work.now s.requires.2 _ _ _ (ap (λ q. q - a.from) (le_antisymm l.invariant.3 c.loop-p-test.false)) l.invariant.0, l.invariant.1)
+    let a = c.args in
+    (marked-as a.rows a.threshold a.m a.from a.work.now c.requires.2 _ _ _ (ap (λ q. q - a.from) (le_antisymm l.invariant.3 c.loop-p-test.false)) l.invariant.0, l.invariant.1)

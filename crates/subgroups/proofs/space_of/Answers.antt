@@ -8,28 +8,19 @@ use Rattle.subgroups.proofs.space_of.Goals as goal
 
 pub returns-then-mark_subgroup : goal.returns-then-mark_subgroup
 returns-then-mark_subgroup c =
-    let k = c in
-    let p = k in
-    let s = p in
-    let a = s.args in
-    let b = space-marked a.rows a.threshold a.r a.from a.to _ a.work.now _ s.requires.2 s.requires.0 s.requires.1 s.requires.3 p.peer_at-m.ensures k.mark_subgroup.ensures.0 in
-    let e = s.requires.5 ∙ ap (evaluated a.rows a.from (a.to - a.from)) (sym (k.mark_subgroup.ensures.1 c.if-mark_subgroup.true)) in
+    let a = c.args in
+    let b = space-marked a.rows a.threshold a.r a.from a.to _ a.work.now _ c.requires.2 c.requires.0 c.requires.1 c.requires.3 c.peer_at-m.ensures c.mark_subgroup.ensures.0 in
+    let e = c.requires.5 ∙ ap (evaluated a.rows a.from (a.to - a.from)) (sym (c.mark_subgroup.ensures.1 c.if-mark_subgroup.true)) in
     (e ∙ b.0, e, b.1)
 
 pub evaluate_tangent_space-requires : goal.evaluate_tangent_space-requires
 evaluate_tangent_space-requires c =
-    let k = c in
-    let p = k in
-    let s = p in
-    let a = s.args in
-    let b = space-marked a.rows a.threshold a.r a.from a.to _ a.work.now _ s.requires.2 s.requires.0 s.requires.1 s.requires.3 p.peer_at-m.ensures k.mark_subgroup.ensures.0 in
-    (s.requires.0, s.requires.1, omega (arith, s.requires.2, b.1.size), ranged-kept a.rows a.work.now _ b.1 a.to s.requires.1 s.requires.3)
+    let a = c.args in
+    let b = space-marked a.rows a.threshold a.r a.from a.to _ a.work.now _ c.requires.2 c.requires.0 c.requires.1 c.requires.3 c.peer_at-m.ensures c.mark_subgroup.ensures.0 in
+    (c.requires.0, c.requires.1, omega (arith, c.requires.2, b.1.size), ranged-kept a.rows a.work.now _ b.1 a.to c.requires.1 c.requires.3)
 
 pub returns : goal.returns
 returns c =
-    let k = c in
-    let p = k in
-    let s = p in
-    let a = s.args in
-    let b = space-marked a.rows a.threshold a.r a.from a.to _ a.work.now _ s.requires.2 s.requires.0 s.requires.1 s.requires.3 p.peer_at-m.ensures k.mark_subgroup.ensures.0 in
+    let a = c.args in
+    let b = space-marked a.rows a.threshold a.r a.from a.to _ a.work.now _ c.requires.2 c.requires.0 c.requires.1 c.requires.3 c.peer_at-m.ensures c.mark_subgroup.ensures.0 in
     (c.evaluate_tangent_space.ensures ∙ b.0, c.evaluate_tangent_space.ensures, b.1)

@@ -19,25 +19,21 @@ loop-p-init c =
 
 pub add_taken-z-requires : goal.add_taken-z-requires
 add_taken-z-requires c =
-    let s = c in
     let p = c.loop-p-test.true in
-    (omega (arith, p, s.requires.1), s.requires.3.order c.loop-p.p p, s.requires.2)
+    (omega (arith, p, c.requires.1), c.requires.3.order c.loop-p.p p, c.requires.2)
 
 pub loop-p-preserved : goal.loop-p-preserved
 loop-p-preserved c =
-    let i = c in
-    let l = i.loop-p in
-    let s = i in
-    let a = s.args in
+    let l = c.loop-p in
+    let a = c.args in
     let at : l.p ≡ a.from + (l.p - a.from) = omega (arith, l.invariant.1) in
     let e : (l.p - a.from) + 1 ≡ l.p + 1 - a.from = omega (arith, l.invariant.1) in
     let f : ℕ → Sum → Sum = λ k. add_taken a.rows a.all a.work.now (a.from + k) in
-    (c.add_taken-z.ensures ∙ ((λ q. add_taken a.rows a.all a.work.now (at q) (l.invariant.0 q)) ∙ (up_to-more (l.p - a.from) f empty_sum ∙ ap (λ n. up_to n f empty_sum) e)), omega (arith, l.invariant.1), omega (arith, i.loop-p-test.true))
+    (c.add_taken-z.ensures ∙ ((λ q. add_taken a.rows a.all a.work.now (at q) (l.invariant.0 q)) ∙ (up_to-more (l.p - a.from) f empty_sum ∙ ap (λ n. up_to n f empty_sum) e)), omega (arith, l.invariant.1), omega (arith, c.loop-p-test.true))
 
 pub returns : goal.returns
 unfolding taken_sum
 returns c =
     let l = c.loop-p in
-    let s = c in
-    let a = s.args in
+    let a = c.args in
     c.finish.ensures ∙ ap finish (l.invariant.0 ∙ ap (λ q. up_to (q - a.from) (λ k. add_taken a.rows a.all a.work.now (a.from + k)) empty_sum) (le_antisymm l.invariant.2 c.loop-p-test.false))

@@ -8,8 +8,7 @@ use Rattle.subgroups.proofs.whole.Goals as goal
 
 pub returns : goal.returns
 returns c =
-    let p = c in
-    let a = p.args in
+    let a = c.args in
     λ q. whole-law a.rows a.work.now a.threshold a.from (a.to - a.from)
-    (sym (c.above.ensures ∙ ap (λ x. above x.s a.threshold) p.span_of-b.ensures) ∙ and_left _ _ q)
-    (sym (c.above-2.ensures ∙ ap (λ x. above x.t a.threshold) p.span_of-b.ensures) ∙ and_right c.above.result _ q)
+    (sym (c.above.ensures ∙ ap (λ x. above x.s a.threshold) c.span_of-b.ensures) ∙ and_left _ _ q)
+    (sym (c.above-2.ensures ∙ ap (λ x. above x.t a.threshold) c.span_of-b.ensures) ∙ and_right c.above.result _ q)

@@ -15,7 +15,7 @@ At-In-loop-r = lts.In-loop reads.Pre reads.Post goal.the-invariant-loop-r goal.t
 
 -- the column ends at or before the last one's end
 ends : (c : At-In-loop-r) → let a = c.args in a.column * a.rows + a.rows ≤ columns * a.rows
-ends c = let s = c in column-ends s.args.column columns s.args.rows s.requires.0
+ends c = column-ends c.args.column columns c.args.rows c.requires.0
 
 pub loop-r-init : goal.loop-r-init
 loop-r-init c = (omega arith, fill_none c.args.rows c.args.column (λ _. 0) c.args.work.now, refl)

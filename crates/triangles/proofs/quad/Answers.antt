@@ -7,14 +7,10 @@ use Rattle.triangles.proofs.quad.Goals as goal
 
 pub returns-then-cut02 : goal.returns-then-cut02
 returns-then-cut02 c =
-    let i = c in
-    let k = i in
-    let x = k.args in
-    quad-1 x.face x.c0 x.c1 x.c2 x.c3 _ i.cut02.ensures i.if-cut02.true _ _ (c.make-s.ensures ∙ (λ j. make x.face false 3 (k.nook-k0.ensures j) (k.nook-k1.ensures j) (k.nook-k2.ensures j))) (c.make-t.ensures ∙ (λ j. make x.face true 1 (k.nook-k0.ensures j) (k.nook-k2.ensures j) (k.nook-k3.ensures j))) _ c.pair.ensures
+    let x = c.args in
+    quad-1 x.face x.c0 x.c1 x.c2 x.c3 _ c.cut02.ensures c.if-cut02.true _ _ (c.make-s.ensures ∙ (λ j. make x.face false 3 (c.nook-k0.ensures j) (c.nook-k1.ensures j) (c.nook-k2.ensures j))) (c.make-t.ensures ∙ (λ j. make x.face true 1 (c.nook-k0.ensures j) (c.nook-k2.ensures j) (c.nook-k3.ensures j))) _ c.pair.ensures
 
 pub returns : goal.returns
 returns c =
-    let i = c in
-    let k = i in
-    let x = k.args in
-    quad-2 x.face x.c0 x.c1 x.c2 x.c3 _ i.cut02.ensures i.if-cut02.false _ _ (c.make-s-2.ensures ∙ (λ j. make x.face false 2 (k.nook-k0.ensures j) (k.nook-k1.ensures j) (k.nook-k3.ensures j))) (c.make-t-2.ensures ∙ (λ j. make x.face true 0 (k.nook-k1.ensures j) (k.nook-k2.ensures j) (k.nook-k3.ensures j))) _ c.pair-2.ensures
+    let x = c.args in
+    quad-2 x.face x.c0 x.c1 x.c2 x.c3 _ c.cut02.ensures c.if-cut02.false _ _ (c.make-s-2.ensures ∙ (λ j. make x.face false 2 (c.nook-k0.ensures j) (c.nook-k1.ensures j) (c.nook-k3.ensures j))) (c.make-t-2.ensures ∙ (λ j. make x.face true 0 (c.nook-k1.ensures j) (c.nook-k2.ensures j) (c.nook-k3.ensures j))) _ c.pair-2.ensures

@@ -9,16 +9,10 @@ returns-then-t c =
 
 pub returns-then-x-y : goal.returns-then-x-y
 returns-then-x-y c =
-    let b = c in
-    let a = b in
-    let i = a in
-    let x = i.args in
-    way-2 x.s x.t i.if-t.false _ _ a.area-x.ensures b.area-y.ensures c.if-x-y.true
+    let x = c.args in
+    way-2 x.s x.t c.if-t.false _ _ c.area-x.ensures c.area-y.ensures c.if-x-y.true
 
 pub returns : goal.returns
 returns c =
-    let b = c in
-    let a = b in
-    let i = a in
-    let x = i.args in
-    way-3 x.s x.t i.if-t.false _ _ a.area-x.ensures b.area-y.ensures c.if-x-y.false
+    let x = c.args in
+    way-3 x.s x.t c.if-t.false _ _ c.area-x.ensures c.area-y.ensures c.if-x-y.false

@@ -24,5 +24,4 @@ shape_of-parents c = c.loop-x.invariant.1.beyond.size
 pub returns : goal.returns
 returns c =
     let l = c.loop-x in
-    let s = c in
-    counted _ _ _ (subst (λ n. Counting s.args.count s.args.parents.now n l.parents) (le_antisymm l.invariant.0 c.loop-x-test.false) l.invariant.1)
+    counted _ _ _ (subst (λ n. Counting c.args.count c.args.parents.now n l.parents) (le_antisymm l.invariant.0 c.loop-x-test.false) l.invariant.1)

@@ -66,12 +66,10 @@ loop-up-smaller c = let b = bounds c.before.before.before in let t = c.loop-up-t
 
 pub loop-up-preserved : goal.loop-up-preserved
 loop-up-preserved c =
-    let i = c in
-    let s = i in
-    going_more _ _ _ _ _ _ s.requires.0 s.requires.1 i.loop-up.invariant _ _ refl refl
+    going_more _ _ _ _ _ _ c.requires.0 c.requires.1 c.loop-up.invariant _ _ refl refl
 
 pub shape_of-parents : goal.shape_of-parents
 shape_of-parents c = c.loop-up.invariant.same.beyond.size
 
 pub returns : goal.returns
-returns c = let s = c in climbed _ _ _ _ _ _ s.requires.0 s.requires.1 c.loop-up.invariant c.loop-up-test.false
+returns c = climbed _ _ _ _ _ _ c.requires.0 c.requires.1 c.loop-up.invariant c.loop-up-test.false

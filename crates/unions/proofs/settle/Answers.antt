@@ -22,7 +22,7 @@ pub loop-x-init : goal.loop-x-init
 loop-x-init c = (omega arith, settling-none _ _)
 
 pub bounds-parents-x : goal.bounds-parents-x
-bounds-parents-x c = let i = c in omega (arith, i.loop-x.invariant.1.beyond.size, i.loop-x-test.true, i.requires.0)
+bounds-parents-x c = omega (arith, c.loop-x.invariant.1.beyond.size, c.loop-x-test.true, c.requires.0)
 
 pub overflow_cast-parents : goal.overflow_cast-parents
 overflow_cast-parents c = omega (arith, c.slice_known-1.given c.loop-x.x)
@@ -31,16 +31,14 @@ pub offset_bounds-parents-up : goal.offset_bounds-parents-up
 offset_bounds-parents-up c = omega (arith, c.slice_known-1.given c.loop-x.x)
 
 pub bounds-parents-up : goal.bounds-parents-up
-bounds-parents-up c = let i = c in omega (arith, up-low i.before.before.before, i.loop-x.invariant.1.beyond.size, i.loop-x-test.true, i.requires.0)
+bounds-parents-up c = omega (arith, up-low c.before.before.before, c.loop-x.invariant.1.beyond.size, c.loop-x-test.true, c.requires.0)
 
 pub bounds-parents-x-in-loop-x : goal.bounds-parents-x-in-loop-x
-bounds-parents-x-in-loop-x c = let i = c in omega (arith, i.loop-x.invariant.1.beyond.size, i.loop-x-test.true, i.requires.0)
+bounds-parents-x-in-loop-x c = omega (arith, c.loop-x.invariant.1.beyond.size, c.loop-x-test.true, c.requires.0)
 
 pub loop-x-preserved : goal.loop-x-preserved
 loop-x-preserved c =
-    let i = c in
-    let s = i in
-    (omega (arith, i.loop-x-test.true), settling-more _ _ _ _ s.requires.0 s.requires.1 i.loop-x-test.true i.loop-x.invariant.1)
+    (omega (arith, c.loop-x-test.true), settling-more _ _ _ _ c.requires.0 c.requires.1 c.loop-x-test.true c.loop-x.invariant.1)
 
 pub shape_of-parents : goal.shape_of-parents
 shape_of-parents c = c.loop-x.invariant.1.beyond.size
@@ -48,5 +46,4 @@ shape_of-parents c = c.loop-x.invariant.1.beyond.size
 pub returns : goal.returns
 returns c =
     let l = c.loop-x in
-    let s = c in
-    settled _ _ _ (subst (λ n. Settling s.args.count s.args.parents.now n l.parents) (le_antisymm l.invariant.0 c.loop-x-test.false) l.invariant.1)
+    settled _ _ _ (subst (λ n. Settling c.args.count c.args.parents.now n l.parents) (le_antisymm l.invariant.0 c.loop-x-test.false) l.invariant.1)

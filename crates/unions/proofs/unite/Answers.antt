@@ -53,7 +53,7 @@ module _ (c : At-After-slice_known-3-1) where
   higher-x h = united _ _ _ _ _ _ _ _ _ (climbs c).0 (climbs c).1 (united-sym _ _ _ _ _ (join n after y x enough x_below h (climbs c).1.same.down ((climbs c).1.same.tops x x_below (climbs c).0.top)))
 
 pub root-y-requires : goal.root-y-requires
-root-y-requires c = let r = c.root-x.ensures in let s = c in (omega (arith, s.requires.0, r.same.beyond.size), s.requires.2, r.same.down)
+root-y-requires c = let r = c.root-x.ensures in (omega (arith, c.requires.0, r.same.beyond.size), c.requires.2, r.same.down)
 
 pub bounds-parents-y : goal.bounds-parents-y
 bounds-parents-y c = omega (arith, enough c.before, y-below c.before)

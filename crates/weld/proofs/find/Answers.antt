@@ -25,22 +25,18 @@ next : (c : At-In-loop-p) → let a = c.args in let r = c.loop-p.p - 1 in get_or
 next c = let a = c.args in get_or-column a.rows a.work.now next_column (c.loop-p.p - 1) (omega (arith, c.loop-p.invariant.small))
 
 pub loop-p-init : goal.loop-p-init
-loop-p-init c = let s = c in walking_start _ _ _ _ s.requires.1 s.requires.2
+loop-p-init c = walking_start _ _ _ _ c.requires.1 c.requires.2
 
 pub returns-then-same_corner : goal.returns-then-same_corner
 returns-then-same_corner c =
-    let t = c in
-    let i = t in
-    walking_here _ _ _ _ _ _ (word-of-row i.before.before.before.before) (sym (t.same_corner.ensures ∙ ap (welded _) t.corner_of-d.ensures) ∙ c.if-same_corner.true) i.loop-p.invariant
+    walking_here _ _ _ _ _ _ (word-of-row c.before.before.before.before) (sym (c.same_corner.ensures ∙ ap (welded _) c.corner_of-d.ensures) ∙ c.if-same_corner.true) c.loop-p.invariant
 
 pub loop-p-smaller : goal.loop-p-smaller
-loop-p-smaller c = let i = c in walking-falls _ _ _ _ _ _ _ (word-of-row i.before.before.before.before.before) (next i.before.before.before.before.before) i.loop-p.invariant
+loop-p-smaller c = walking-falls _ _ _ _ _ _ _ (word-of-row c.before.before.before.before.before) (next c.before.before.before.before.before) c.loop-p.invariant
 
 pub loop-p-preserved : goal.loop-p-preserved
 loop-p-preserved c =
-    let t = c in
-    let i = t in
-    walking-next _ _ _ _ _ _ _ (word-of-row i.before.before.before.before.before) (sym (t.same_corner.ensures ∙ ap (welded _) t.corner_of-d.ensures) ∙ c.if-same_corner.false) (next i.before.before.before.before.before) i.loop-p.invariant
+    walking-next _ _ _ _ _ _ _ (word-of-row c.before.before.before.before.before) (sym (c.same_corner.ensures ∙ ap (welded _) c.corner_of-d.ensures) ∙ c.if-same_corner.false) (next c.before.before.before.before.before) c.loop-p.invariant
 
 pub returns : goal.returns
 returns c = walking-end _ _ _ _ _ c.loop-p-test.false c.loop-p.invariant

@@ -27,22 +27,17 @@ loop-r-init c = (going-none _ _ _ c.requires.1 c.clear.ensures _ _ _, only_none 
 
 pub overflow_cast-r : goal.overflow_cast-r
 overflow_cast-r c =
-    let i = c in
-    let s = i in
-    omega (arith, s.requires.0, s.requires.2, i.loop-r-test.true)
+    omega (arith, c.requires.0, c.requires.2, c.loop-r-test.true)
 
 pub turn-requires : goal.turn-requires
 turn-requires c =
-    let i = c in
-    let l = i.loop-r in
-    let s = i in
-    (omega (arith, s.requires.1, (cleared i.before.before.before.before).size, l.invariant.1.size), omega (arith, s.requires.0, i.loop-r-test.true), s.requires.2, l.invariant.0)
+    let l = c.loop-r in
+    (omega (arith, c.requires.1, (cleared c.before.before.before.before).size, l.invariant.1.size), omega (arith, c.requires.0, c.loop-r-test.true), c.requires.2, l.invariant.0)
 
 pub loop-r-preserved : goal.loop-r-preserved
 loop-r-preserved c =
-    let t = c in
-    let l = t.loop-r in
-    (t.turn.ensures.0, only-trans _ _ _ _ _ l.invariant.1 t.turn.ensures.1, omega (arith, t.loop-r-test.true))
+    let l = c.loop-r in
+    (c.turn.ensures.0, only-trans _ _ _ _ _ l.invariant.1 c.turn.ensures.1, omega (arith, c.loop-r-test.true))
 
 -- all but three columns is as it was
 whole : (c : At-After-loop-r) → let a = c.args in Only weld_columns a.rows a.work.now c.loop-r.work
@@ -54,7 +49,6 @@ shape_of-work c = (whole c.before).size
 pub returns : goal.returns
 returns c =
     let l = c.loop-r in
-    let s = c in
-    let a = s.args in
-    let all = welded-all a.rows a.n a.positions.now a.normals.now a.texture.now a.work.now l.work s.requires.0 (subst (λ (m : ℕ). GoingIn a.rows m a.positions.now a.normals.now a.texture.now l.work) (le_antisymm l.invariant.2 c.loop-r-test.false) l.invariant.0) (whole c.before) in
-    (all, vertices-are _ _ _ _ _ _ _ all s.requires.0)
+    let a = c.args in
+    let all = welded-all a.rows a.n a.positions.now a.normals.now a.texture.now a.work.now l.work c.requires.0 (subst (λ (m : ℕ). GoingIn a.rows m a.positions.now a.normals.now a.texture.now l.work) (le_antisymm l.invariant.2 c.loop-r-test.false) l.invariant.0) (whole c.before) in
+    (all, vertices-are _ _ _ _ _ _ _ all c.requires.0)

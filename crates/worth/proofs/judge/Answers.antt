@@ -16,10 +16,9 @@ At-Else-number-ne0 = lts.Else1 tie.the-claims reads.Pre reads.Post
 pub returns-then-number-ne0 : goal.returns-then-number-ne0
 unfolding after_judge not_judged
 returns-then-number-ne0 c =
-    let f = c in
-    let a = f.args in
-    (λ i. record { number = f.refusal-number.ensures i; good = 0; first = 0; verdicts = a.verdicts.now })
-    ∙ judge-refused a.answer.now a.verdicts.now (λ e. c.if-number-ne0.true (f.refusal-number.ensures ∙ e))
+    let a = c.args in
+    (λ i. record { number = c.refusal-number.ensures i; good = 0; first = 0; verdicts = a.verdicts.now })
+    ∙ judge-refused a.answer.now a.verdicts.now (λ e. c.if-number-ne0.true (c.refusal-number.ensures ∙ e))
 
 -- what is known where nothing is refused
 none : (c : At-Else-number-ne0) → let a = c.args in refusal (length a.answer.now) (length a.verdicts.now) ≡ 0
@@ -33,29 +32,22 @@ judge_slots-requires c = (omega arith, omega (arith, (fit c.before.before).room_
 
 pub good_among-good-requires : goal.good_among-good-requires
 good_among-good-requires c =
-    let j = c in
-    let e = j in
-    (omega (arith, (fit e.before.before.before.before.before).room_for, j.judge_slots.auto.verdicts), omega (arith, (fit e.before.before.before.before.before).few))
+    (omega (arith, (fit c.before.before.before.before.before).room_for, c.judge_slots.auto.verdicts), omega (arith, (fit c.before.before.before.before.before).few))
 
 pub first_other-first-requires : goal.first_other-first-requires
 first_other-first-requires c =
-    let j = c in
-    let e = j in
-    omega (arith, (fit e.before.before.before.before.before.before).room_for, j.judge_slots.auto.verdicts)
+    omega (arith, (fit c.before.before.before.before.before.before).room_for, c.judge_slots.auto.verdicts)
 
 pub returns : goal.returns
 unfolding after_judge all_judged slots_in
 returns c =
-    let g = c in
-    let j = g in
-    let e = j in
-    let a = e.args in
+    let a = c.args in
     let l = a.answer.now in
     let v = a.verdicts.now in
     (λ i. record {
       number = 0;
-      good = (g.good_among-good.ensures ∙ count-there l v _ (slots_in l) j.judge_slots.ensures) i;
-      first = (c.first_other-first.ensures ∙ first-there l v _ (slots_in l) j.judge_slots.ensures) i;
-      verdicts = j.judge_slots.ensures i;
+      good = (c.good_among-good.ensures ∙ count-there l v _ (slots_in l) c.judge_slots.ensures) i;
+      first = (c.first_other-first.ensures ∙ first-there l v _ (slots_in l) c.judge_slots.ensures) i;
+      verdicts = c.judge_slots.ensures i;
     })
-    ∙ judge-done l v (none e.before.before.before.before.before.before.before)
+    ∙ judge-done l v (none c.before.before.before.before.before.before.before)

@@ -10,19 +10,14 @@ returns-then-not-directed c = simp (sym c.directed.ensures ∙ c.if-not-directed
 pub returns-then-not-all_near : goal.returns-then-not-all_near
 unfolding present_worth
 returns-then-not-all_near c =
-    let d = c in
-    simp (sym d.directed.ensures ∙ d.if-not-directed.false, sym c.all_near.ensures ∙ c.if-not-all_near.true)
+    simp (sym c.directed.ensures ∙ c.if-not-directed.false, sym c.all_near.ensures ∙ c.if-not-all_near.true)
 
 pub returns-then-not-both_shown : goal.returns-then-not-both_shown
 unfolding present_worth
 returns-then-not-both_shown c =
-    let n = c in
-    let d = n in
-    simp (sym d.directed.ensures ∙ d.if-not-directed.false, sym n.all_near.ensures ∙ n.if-not-all_near.false, sym c.both_shown.ensures ∙ c.if-not-both_shown.true)
+    simp (sym c.directed.ensures ∙ c.if-not-directed.false, sym c.all_near.ensures ∙ c.if-not-all_near.false, sym c.both_shown.ensures ∙ c.if-not-both_shown.true)
 
 pub returns : goal.returns
 unfolding present_worth
 returns c =
-    let n = c in
-    let d = n in
-    simp (sym d.directed.ensures ∙ d.if-not-directed.false, sym n.all_near.ensures ∙ n.if-not-all_near.false, sym c.both_shown.ensures ∙ c.if-not-both_shown.false)
+    simp (sym c.directed.ensures ∙ c.if-not-directed.false, sym c.all_near.ensures ∙ c.if-not-all_near.false, sym c.both_shown.ensures ∙ c.if-not-both_shown.false)

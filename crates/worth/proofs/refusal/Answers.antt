@@ -8,20 +8,15 @@ returns-then-words-ne0 c = let a = c.args in is-broken a.words a.room (λ e. ome
 
 pub returns-then-words-gt-MOST_SLOTS : goal.returns-then-words-gt-MOST_SLOTS
 returns-then-words-gt-MOST_SLOTS c =
-    let w = c in
-    let a = w.args in
-    is-endless a.words a.room (omega (arith, w.if-words-ne0.false)) (omega (arith, c.if-words-gt-MOST_SLOTS.true))
+    let a = c.args in
+    is-endless a.words a.room (omega (arith, c.if-words-ne0.false)) (omega (arith, c.if-words-gt-MOST_SLOTS.true))
 
 pub returns-then-room-words : goal.returns-then-room-words
 returns-then-room-words c =
-    let f = c in
-    let w = f in
-    let a = w.args in
-    is-tight a.words a.room (omega (arith, w.if-words-ne0.false)) (omega (arith, f.if-words-gt-MOST_SLOTS.false)) (omega (arith, c.if-room-words.true))
+    let a = c.args in
+    is-tight a.words a.room (omega (arith, c.if-words-ne0.false)) (omega (arith, c.if-words-gt-MOST_SLOTS.false)) (omega (arith, c.if-room-words.true))
 
 pub returns : goal.returns
 returns c =
-    let f = c in
-    let w = f in
-    let a = w.args in
-    is_none a.words a.room (omega (arith, w.if-words-ne0.false)) (omega (arith, f.if-words-gt-MOST_SLOTS.false)) (omega (arith, c.if-room-words.false))
+    let a = c.args in
+    is_none a.words a.room (omega (arith, c.if-words-ne0.false)) (omega (arith, c.if-words-gt-MOST_SLOTS.false)) (omega (arith, c.if-room-words.false))

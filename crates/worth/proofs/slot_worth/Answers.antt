@@ -27,10 +27,8 @@ returns-then-slot-eq0 c = of_none c.args.slot.now _ (omega (arith, c.if-slot-eq0
 
 pub returns-then-slot-eq1 : goal.returns-then-slot-eq1
 returns-then-slot-eq1 c =
-    let t = c in
-    of_one t.args.slot.now _ (omega (arith, t.if-slot-eq1.true)) c.present_worth.ensures
+    of_one c.args.slot.now _ (omega (arith, c.if-slot-eq1.true)) c.present_worth.ensures
 
 pub returns : goal.returns
 returns c =
-    let e = c in
-    of_other e.args.slot.now _ (λ k. omega (arith, k, e.if-slot-eq0.false)) (λ k. omega (arith, k, c.if-slot-eq1.false)) (omega arith)
+    of_other c.args.slot.now _ (λ k. omega (arith, k, c.if-slot-eq0.false)) (λ k. omega (arith, k, c.if-slot-eq1.false)) (omega arith)
