@@ -1,6 +1,7 @@
 // Runs document 01's samples 1 to 5 and 10 to 12 through the public call, and 6 to 9, and compares the root and the angle of each number that standard input names. Prints how much it compared and how much differed.
 // A line of standard input is 27 bytes: a number, its root and its angle, each as the eight digits of its word, with a blank or a line end behind.
 #![tactic(auto)]
+
 ghost use Rattle.std.specs.Prelude.{◌+◌, ◌<◌, ◌≤◌, length};
 
 use definition::{FACE_LIMIT, WORK_WORDS};
@@ -8,6 +9,9 @@ use tangent::{COMBINED, COPIED, SINGLE, SLOT_WORDS};
 
 // The faces of document 01's sample 10, which request E8 made 65,536. As many as that need a work list of 32 MiB, more than a program has on its stack: bindings/rust/tests/limit.rs sees them accepted.
 const SAMPLE_FACES: usize = 4096;
+
+// The words of its work list.
+const SAMPLE_WORDS: usize = SAMPLE_FACES * WORK_WORDS;
 
 // How many values were compared, and how many of them were not as expected.
 #[derive(Clone, Copy)]
@@ -334,14 +338,19 @@ fn without_slots(
     cleared(so_far.said(r, 0, 0, 0), work)
 }
 
+// The same with the room of sample 10.
+fn without_slots_10(so_far: Tally, sizes: &[u8], work: &mut [u32; SAMPLE_WORDS]) -> Tally {
+    without_slots(so_far, sizes, &[], &[], work)
+}
+
 // 65,537 faces are refused with 1. 65,536 aren't: the call comes to its last row and gives 6, since no work list is lent. The sample's own 4,096 are accepted.
 fn sample_10() -> Tally {
     let sizes = [0u8; FACE_LIMIT + 1];
-    let mut work = [7u32; SAMPLE_FACES * WORK_WORDS];
+    let mut work = [7u32; SAMPLE_WORDS];
     let r = asked(&sizes, &[], &[], 0.0);
     let s = asked(&sizes[..FACE_LIMIT], &[], &[], 0.0);
     let refused = Tally::NONE.said(r, 1, 0, 0).said(s, 6, 0, 0);
-    without_slots(refused, &sizes[..SAMPLE_FACES], &[], &[], &mut work)
+    without_slots_10(refused, &sizes[..SAMPLE_FACES], &mut work)
 }
 
 // Faces of 5, 2 and 0 corners take no slot.
