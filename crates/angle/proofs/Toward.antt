@@ -1,9 +1,9 @@
 -- 2 ^ 30 times a number from -1 to 1, toward zero, by the whole part of 2 ^ 30 times its size. Assumes nothing.
-use Rattle.std.proofs.Common.{◌≡◌, ℕ, zero, suc, ◌+◌, ◌-◌, ◌*◌, ◌/◌, ◌^◌, ◌<◌, ◌≤◌, min, Bool, true, false, cond, not, ◌||◌, T, eqb, ltb, ℤ, pos, neg_ℤ, sym, refl, ap, ◌∙◌, subst, zero-le, le_of_suc-le-suc, div-lt_iff_lt-mul, arith, lit<, lit≤, lt→ltb}
+use Rattle.std.proofs.Common.{◌≡◌, ℕ, ◌+◌, ◌-◌, ◌*◌, ◌/◌, ◌^◌, ◌<◌, ◌≤◌, min, Bool, true, false, cond, not, ◌||◌, T, eqb, ℤ, pos, neg_ℤ, sym, refl, ap, ◌∙◌, subst, zero-le, le_of_suc-le-suc, div-lt_iff_lt-mul, arith, lit<, lit≤, lt→ltb}
 use mathlib.Core.Bool.{beq}
 use native.Mathlib.Nat.{zero-div}
 use lib.IntN.{sub_ℕ}
-use lib.Ieee.{Float, nan, inf, fin, Format, binary32, prec, emax, low, lt, eq, le, mul, neg, round, odd, units, to_unsigned, to_signed, up, down}
+use lib.Ieee.{Float, nan, inf, fin, binary32, lt, eq, le, mul, neg, round, to_unsigned, to_signed, up, down}
 use lib.Ieee.Fits.{down_pos}
 use lib.Ieee.Order.{round_mono}
 use lib.Ieee.Scale.{round_same}

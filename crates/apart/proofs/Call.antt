@@ -11,7 +11,6 @@ use Rattle.definition.specs.declared.Corner.{Corner}
 use Rattle.definition.specs.Handed.{mesh_of, call, Handed, used, slot_count, corner_count}
 use Rattle.bits.specs.Word.{is_finite}
 use Rattle.definition.specs.Limits.{face_limit, work_words}
-use Rattle.lists.specs.Lists.{first}
 use Rattle.definition.specs.Desk.{shown, not_finite, no_normal, Row, verdict, too_many, unfit, misfit, bad_corner, bad_in, or_else}
 use Rattle.definition.specs.Outcome.{answer_words, accepted, answered, outcome}
 use Rattle.tangent.specs.Slot.{slot_words}

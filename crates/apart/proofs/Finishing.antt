@@ -1,5 +1,5 @@
 -- After the last island: what the call leaves behind. Assumes nothing.
-use Prim.Native.Nat.{ℕ, ◌+◌, ◌*◌, ◌≤◌, min}
+use Prim.Native.Nat.{ℕ, ◌*◌, ◌≤◌, min}
 use native.Mathlib.Nat.{one-mul}
 use native.Mathlib.Omega.{arith}
 use mathlib.Core.Path.{◌≡◌, refl, sym, ◌∙◌, ap, subst}
@@ -15,7 +15,6 @@ use Rattle.bits.specs.Single.{zeroᶠ}
 use Rattle.tangent.specs.Slot.{slot_words}
 use Rattle.definition.specs.Limits.{face_limit, work_words}
 use Rattle.definition.specs.Handed.{call, mesh_of, Handed, slot_count}
-use Rattle.definition.specs.Frames.{frames}
 use Rattle.definition.specs.Desk.{shown, Row, verdict}
 use Rattle.definition.specs.Outcome.{Result, answer_words, answered}
 use Rattle.desk.specs.Verdict.{as_verdict}

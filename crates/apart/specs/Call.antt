@@ -1,5 +1,5 @@
 -- Request E9: what the islands' call leaves behind, for every input whatever. Definitions only.
-use Rattle.std.specs.Prelude.{ℕ, ◌*◌, ◌≡◌, Bool, true, cond, ◌||◌, List, ◌++◌, ltb, length, drop, replicate, Float}
+use Rattle.std.specs.Prelude.{ℕ, ◌*◌, ◌≡◌, Bool, ◌||◌, List, ◌++◌, ltb, length, drop, replicate, Float}
 use Rattle.std.proofs.Math.Option.{Option, none, some}
 use Rattle.bits.specs.Single.{zeroᶠ}
 use Rattle.tangent.specs.Slot.{slot_words}

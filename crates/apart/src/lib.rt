@@ -2,6 +2,7 @@
 // The order list, for n faces: at f the next face of the island of face f, its number and one, or 0; at n + t the first face of island t in the same way; at 2n + f and 3n + f how many corners and how many slots stand before face f.
 // One island's numbers are in one list: positions from its start on, normals from 12n on, texture coordinates from 24n on.
 #![tactic(auto)]
+
 ghost use Rattle.std.specs.Prelude.{◌≡◌, false, ◌++◌, ◌+◌, ◌*◌, ◌<◌, ◌≤◌, length, set, take, drop, replicate};
 ghost use Rattle.std.proofs.Math.Option.{none};
 ghost use Rattle.std.specs.Float.{nan};

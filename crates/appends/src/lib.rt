@@ -1,5 +1,6 @@
 // Appending to a card that may be torn: request E14. A program with a file asks which block comes next, hands in its records, and puts the bytes at their place.
 #![tactic(auto)]
+
 ghost use Rattle.std.specs.Prelude.{◌≡◌, true, ◌++◌, ◌+◌, ◌*◌, ◌≤◌, ◌<◌, length, drop};
 ghost use Rattle.words.specs.Words.{word_values};
 ghost use Rattle.blocks.specs.declared.Kind.TheVariants.{Twelve};

@@ -1,5 +1,5 @@
 -- Request E10 by rows, and by triangles, sides and welded corners: one holds where the other does. Assumes nothing.
-use Prim.Native.Nat.{ℕ, zero, suc, ◌+◌, ◌*◌, ◌-◌, ◌/◌, ◌%◌, ◌≤◌, ◌<◌}
+use Prim.Native.Nat.{ℕ, zero, suc, ◌*◌, ◌/◌, ◌%◌, ◌≤◌, ◌<◌}
 use native.Mathlib.Omega.{arith}
 use mathlib.Core.Path.{◌≡◌, refl, sym, subst, ap, ◌∙◌}
 use mathlib.Core.Bool.{Bool, true, false, ◌&&◌}
@@ -12,8 +12,8 @@ use Rattle.definition.specs.Mesh.{Third, one, two, three, after as next-third, b
 use Rattle.definition.specs.Step4Order.{welded}
 use Rattle.definition.specs.Step5Links.{opposite, end_of}
 use Rattle.neighbors.specs.Sides.{end_row}
-use Rattle.neighbors.proofs.Sided.{end_is, end_lt}
-use Rattle.view.specs.Rows.{row, third, spot_at, spot_row}
+use Rattle.neighbors.proofs.Sided.{end_is}
+use Rattle.view.specs.Rows.{row, third, spot_at}
 use Rattle.view.proofs.Records.{flag_same}
 use Rattle.view.proofs.Rows.{row_is, tri-lt, row_lt, row-div, row-inj, at-inj, spot_is}
 use Rattle.asked.specs.Links.{Leads, Opposed, LinksFit}

@@ -1,5 +1,5 @@
 -- No objection applies exactly if all is as it is asked. Assumes nothing.
-use Prim.Native.Nat.{ℕ, zero, suc, ◌+◌, ◌*◌, ◌-◌, ◌/◌, ◌≤◌, ◌<◌}
+use Prim.Native.Nat.{ℕ, zero, suc, ◌*◌, ◌-◌, ◌/◌, ◌<◌}
 use native.Mathlib.Nat.{le_antisymm}
 use native.Mathlib.Omega.{arith}
 use mathlib.Core.Path.{◌≡◌, refl, sym, subst, ap, ◌∙◌}
@@ -9,8 +9,8 @@ use lib.Dec.{eqb, ltb}
 use lib.ListN.{length, get_or}
 use borrow.Author.Tests.{eqb-true, eqb-false, ltb-true, ltb-false}
 use Rattle.neighbors.specs.Sides.{end_row}
-use Rattle.asked.specs.Lowest.{None, Clear}
-use Rattle.asked.specs.Links.{Equal, link_word, Leads, Opposed, LinksFit}
+use Rattle.asked.specs.Lowest.{Clear}
+use Rattle.asked.specs.Links.{link_word, Leads, LinksFit}
 use Rattle.asked.specs.Groups.{group_word, way_word, Together, Connected, GroupsFit}
 use Rattle.asked.specs.Objections.{Misfit, Applies}
 use Rattle.asked.proofs.Rows.{not-lt}

@@ -1,7 +1,7 @@
 -- What is asked depends on nothing but which corners are welded, and on the words of the triangles. Assumes nothing.
 use Prim.Native.Nat.{ℕ, zero, suc, ◌*◌, ◌/◌, ◌<◌}
 use native.Mathlib.Omega.{arith}
-use mathlib.Core.Path.{◌≡◌, refl, sym, ◌∙◌}
+use mathlib.Core.Path.{◌≡◌, sym, ◌∙◌}
 use mathlib.Core.List.{List}
 use Rattle.neighbors.specs.Sides.{end_row}
 use Rattle.neighbors.proofs.Sided.{end_lt}

@@ -1,9 +1,9 @@
 -- A verdict stage by stage, and that there is one. Assumes nothing.
-use Prim.Native.Nat.{ℕ, zero, suc, ◌+◌, ◌≤◌, ◌<◌}
+use Prim.Native.Nat.{ℕ, ◌+◌, ◌≤◌, ◌<◌}
 use native.Mathlib.Nat.{le_antisymm}
 use native.Mathlib.Omega.{arith}
 use mathlib.Core.Path.{◌≡◌, refl, sym, subst}
-use Rattle.asked.specs.Lowest.{None, Lowest, Clear, Verdict, accepted, objected, Stage}
+use Rattle.asked.specs.Lowest.{Lowest, Clear, Verdict, accepted, objected, Stage}
 use Rattle.asked.proofs.Rows.{not-lt, none_more, same_or}
 
 module _ (A : ℕ → ℕ → Type 0) where

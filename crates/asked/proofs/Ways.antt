@@ -1,8 +1,7 @@
 -- Round one corner: each member has at most two ways on, one each way, and each is the other's way back. Assumes nothing.
-use Prim.Native.Nat.{ℕ, zero, suc, ◌+◌, ◌*◌, ◌-◌, ◌/◌, ◌%◌, ◌≤◌, ◌<◌}
-use native.Mathlib.Nat.{div-add-mod, mod-lt}
+use Prim.Native.Nat.{ℕ, ◌+◌, ◌*◌, ◌-◌, ◌%◌, ◌<◌}
 use native.Mathlib.Omega.{arith}
-use mathlib.Core.Path.{◌≡◌, refl, sym, subst, ap, ◌∙◌}
+use mathlib.Core.Path.{◌≡◌, refl, sym, ap, ◌∙◌}
 use mathlib.Core.Bool.{Bool, true, false, not, cond, true≢false}
 use mathlib.Core.List.{List}
 use lib.Dec.{eqb}
@@ -10,7 +9,7 @@ use lib.ListN.{get_or}
 use borrow.Author.Tests.{eqb-true, eqb-false}
 use Rattle.neighbors.specs.Sides.{end_row}
 use Rattle.neighbors.proofs.Sided.{end_lt}
-use Rattle.asked.specs.Links.{Leads, LinksFit}
+use Rattle.asked.specs.Links.{LinksFit}
 use Rattle.asked.specs.Groups.{Together, Way, after, before, Chain, here, on}
 
 -- ---- where a side ends

@@ -1,5 +1,5 @@
 -- Somebody else's groups and orientations, request E10: what is asked of them, and the objections. n sound triangles; same: the corners at two rows are welded; any, way: of a triangle, whether it is `group_with_any` (0: it isn't) and its orientation in step 3; L, G, O the words handed in: links, groups, orientations. Definitions only.
-use Rattle.std.specs.Prelude.{ℕ, suc, ◌*◌, ◌/◌, ◌≤◌, ◌<◌, ◌≡◌, Bool, true, false, List, get_or}
+use Rattle.std.specs.Prelude.{ℕ, ◌*◌, ◌/◌, ◌≤◌, ◌<◌, ◌≡◌, Bool, true, false, List, get_or}
 use Rattle.neighbors.specs.Sides.{end_row}
 use Rattle.asked.specs.Links.{Leads}
 

@@ -1,5 +1,5 @@
 -- Somebody else's links, request E10: what is asked of them, and the objections. n sides; same: the corners at two rows are welded; L the words handed in. Definitions only.
-use Rattle.std.specs.Prelude.{ℕ, suc, ◌*◌, ◌≤◌, ◌<◌, ◌≡◌, List, length, get_or}
+use Rattle.std.specs.Prelude.{ℕ, suc, ◌<◌, ◌≡◌, List, get_or}
 use Rattle.neighbors.specs.Sides.{end_row}
 
 -- f is one number at both rows

@@ -1,8 +1,8 @@
 -- From a number to its word and back, and from a word to its number and back. Assumes nothing.
-use mathlib.Core.Path.{◌≡◌, refl, sym, ap, ◌∙◌}
+use mathlib.Core.Path.{◌≡◌, sym, ap, ◌∙◌}
 use Prim.Native.Nat.{ℕ, ◌%◌, ◌≤◌, ◌<◌, ◌^◌}
 use lib.Dec.{T}
-use lib.Ieee.{Float, binary32, fits, to_bits, of_bits}
+use lib.Ieee.{Float, binary32, fits, to_bits}
 use lib.Ieee.Bits.{of_bits-to_bits, to_bits-of_bits, to_bits-lt, of_bits-fits}
 use Rattle.bits.specs.Word.{word, number}
 use Rattle.bits.proofs.Nan.{nan_pattern, no-nan-number}

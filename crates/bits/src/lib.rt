@@ -1,5 +1,6 @@
 // The ground: a number of binary32 and its word, and the test whether it is finite.
 #![tactic(auto)]
+
 ghost use Rattle.std.specs.Prelude.{◌≡◌};
 ghost use Rattle.bits.specs.Word as spec;
 

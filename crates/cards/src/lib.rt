@@ -1,5 +1,6 @@
 // Frames to a card and back: the writer and the reader of request E1, over lent lists, for cards of either kind.
 #![tactic(auto)]
+
 ghost use Rattle.std.specs.Prelude.{◌≡◌, ◌+◌, ◌*◌, ◌≤◌, ◌<◌, length, get_or, drop, ◌++◌, leb};
 ghost use Rattle.lists.specs.Parts.{every_below};
 ghost use Rattle.blocks.specs.declared.Kind.TheVariants.{Twelve};

@@ -3,7 +3,7 @@ use Prim.Native.Nat.{ℕ, ◌+◌, ◌*◌, ◌≤◌, ◌<◌}
 use native.Mathlib.Nat.{eq-or-lt_of_le}
 use native.Mathlib.Omega.{arith}
 use mathlib.Core.Path.{◌≡◌, refl, sym, ◌∙◌, ap, subst}
-use mathlib.Core.Bool.{Bool, true, false}
+use mathlib.Core.Bool.{true, false}
 use mathlib.Core.List.{List, [], ◌∷◌}
 use mathlib.Core.Logic.{⊎_elim}
 use lib.Dec.{T, eqb}
@@ -19,11 +19,10 @@ use Rattle.math.specs.Held.{HeldVec}
 use Rattle.tangent.specs.declared.RawTangentSpace.{RawTangentSpace}
 use Rattle.tangent.specs.Slot.{vector_of}
 use Rattle.table.specs.Table.{cell, column}
-use Rattle.table.specs.Columns.{columns, corner_column, sx_column, sy_column, sz_column, tx_column, ty_column, tz_column, opening_column}
+use Rattle.table.specs.Columns.{columns, sx_column, sy_column, sz_column, tx_column, ty_column, tz_column, opening_column}
 use Rattle.table.proofs.Laws.{get_or-column, length-column, column-ends}
 use Rattle.definition.specs.declared.Triangle.{Triangle}
-use Rattle.definition.specs.Handed.{vector_at}
-use Rattle.definition.specs.Mesh.{Third, one, two, three, Spot, after, before, next, prior, kept, corner_of}
+use Rattle.definition.specs.Mesh.{Third, one, two, three, Spot, after, before, next, prior, corner_of}
 use Rattle.definition.specs.Step7Sums.{projected, opening}
 use Rattle.lists.specs.Every.{Every, every_nil, every_cons}
 use Rattle.sums.specs.Sums.{opening_at}

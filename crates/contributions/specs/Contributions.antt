@@ -7,7 +7,7 @@ use Rattle.table.specs.Table.{cell}
 use Rattle.table.specs.Columns.{opening_column}
 use Rattle.definition.specs.declared.Triangle.{Triangle}
 use Rattle.definition.specs.Handed.{vector_at}
-use Rattle.definition.specs.Mesh.{Third, Spot}
+use Rattle.definition.specs.Mesh.{Third}
 use Rattle.definition.specs.Step7Sums.{projected}
 use Rattle.sums.specs.Sums.{opening_at}
 use Rattle.view.specs.Frame.{Only}

@@ -1,6 +1,7 @@
 // What each corner of a sound triangle brings to a sum of step 7, once per corner and kept in columns: both directions of its triangle's tangent, projected, and its angle.
 // Carried over from mikktspace.rs (evaluate_tangent_space) of the Rust crate bevy_mikktspace and ALTERED: written anew in Rattle, once per corner. See NOTICE.
 #![tactic(auto)]
+
 ghost use Rattle.std.specs.Prelude.{◌≡◌, true, List, ℕ, ◌+◌, ◌*◌, ◌<◌, ◌≤◌, length, get_or, set};
 ghost use Rattle.bits.specs.Word.{word};
 ghost use Rattle.angle.specs.Table as angles;

@@ -1,6 +1,7 @@
 // Step 9: corners of degenerate triangles copy, then the missing corners of marked quads.
 // Carried over from mikktspace.rs (generate_tangent_spaces_for_degenerate_triangles, generate_tangent_spaces_for_partially_degenerate_quads) of the Rust crate bevy_mikktspace and ALTERED: written anew in Rattle, over columns: the first corner welded to a corner is a word, so nothing is searched. See NOTICE.
 #![tactic(auto)]
+
 ghost use Rattle.std.specs.Prelude.{◌≡◌, ◌+◌, ◌*◌, ◌^◌, ◌≤◌, ◌<◌, length};
 ghost use Rattle.table.specs.Table.{cell};
 ghost use Rattle.table.specs.Columns.{columns, corner_column, name_column};

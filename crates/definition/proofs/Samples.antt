@@ -5,7 +5,7 @@ use mathlib.Core.Bool.{Bool, true, false, not, ◌&&◌, xor}
 use mathlib.Core.List.{List, [], ◌∷◌, ◌++◌, map, flat_map}
 use lib.Dec.{eqb}
 use lib.ListN.{take, drop, replicate}
-use lib.IntN.{ℤ, pos, negsuc, neg_ℤ}
+use lib.IntN.{ℤ, pos, neg_ℤ}
 use lib.Signed.{le_z}
 use lib.Ieee.{Float, nan, is_nan, add, sub, mul, div, neg, lt, le, eq, to_bits, of_bits, round, to_unsigned, to_signed, of_int, size, units}
 use Rattle.bits.specs.Word.{word, number}

@@ -1,5 +1,5 @@
 -- Steps 1 to 9 of the old edition. Groundwork of request E13: no public call uses it yet. Definitions only.
-use Rattle.std.specs.Prelude.{ℕ, cond, ◌&&◌, List, [], ◌∷◌, map, eqb, Float}
+use Rattle.std.specs.Prelude.{ℕ, ◌&&◌, List, map, eqb, Float}
 use Rattle.std.proofs.Math.Option.{Option, none, some}
 use Rattle.tangent.specs.declared.Reading.{Reading}
 use Rattle.definition.specs.declared.Corner.{Corner}

@@ -1,5 +1,5 @@
 -- Step 4 of the old edition: weld_vertices_legacy.rs. The corners of all triangles, sound ones first, are rows 0, 1, ..; a row is merged with a row. Groundwork of request E13: no public call uses it yet. Definitions only.
-use Rattle.std.specs.Prelude.{ℕ, zero, suc, ◌+◌, ◌-◌, ◌*◌, min, Bool, true, false, cond, not, ◌&&◌, List, [], ◌∷◌, ◌++◌, map, eqb, leb, ltb, length, get_or, set, take, drop, Float}
+use Rattle.std.specs.Prelude.{ℕ, zero, suc, ◌+◌, ◌-◌, ◌*◌, min, Bool, cond, ◌&&◌, List, [], ◌∷◌, ◌++◌, map, leb, ltb, length, get_or, set, take, drop, Float}
 use Rattle.std.proofs.Math.Option.{Option, none, some}
 use Rattle.std.specs.Float.Ieee as Ieee
 use Rattle.std.specs.Float.Ieee.{to_unsigned}
@@ -8,7 +8,6 @@ use Rattle.bits.specs.Single.{◌+ᶠ◌, ◌-ᶠ◌, ◌*ᶠ◌, ◌/ᶠ◌, ze
 use Rattle.math.specs.declared.Vec3.{Vec3}
 use Rattle.math.specs.Vector.{equals, vec}
 use Rattle.definition.specs.declared.Corner.{Corner}
-use Rattle.definition.specs.declared.Kept.{Kept}
 use Rattle.definition.specs.declared.Triangle.{Triangle}
 use Rattle.lists.specs.Lists.{first, run}
 use Rattle.definition.specs.Mesh.{Third, one, two, three, Spot, corner_of, slot_of}

@@ -1,5 +1,6 @@
 // The values that document 01 speaks of, as structs: the definitions and the code have the same types.
 #![tactic(auto)]
+
 use math::Vec3;
 use tangent::RawTangentSpace;
 

@@ -1,5 +1,6 @@
 // The desk: refusals 1 to 7 of document 01 and request E4, checked in the table's order; the first that applies is given, and none otherwise.
 #![tactic(auto)]
+
 ghost use Rattle.std.specs.Prelude.{◌≡◌, cond, ◌+◌, ◌*◌, ◌≤◌, ◌<◌, ◌^◌, length};
 ghost use Rattle.std.proofs.Math.Option.{none, some};
 ghost use Rattle.definition.specs.Desk.{shown};

@@ -1,6 +1,7 @@
 // The archive: the public calls for programs in other languages. `rt staticlib dokphalun` writes libdokphalun.a.
 // A list is handed over as a pointer to its first element and a number of elements.
 #![tactic(auto)]
+
 ghost use Rattle.definition.specs.Handed.{call, handed};
 ghost use Rattle.std.specs.Prelude.{◌≡◌};
 ghost use Rattle.mikktspace.specs.Contract.{Contract};

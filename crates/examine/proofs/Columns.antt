@@ -1,11 +1,11 @@
 -- From what the columns hold to the triangles themselves, and the work list in the end. Assumes nothing.
 use Prim.Native.Nat.{ℕ, ◌+◌, ◌*◌, ◌/◌, ◌%◌, ◌≤◌, ◌<◌}
 use native.Mathlib.Omega.{arith}
-use mathlib.Core.Path.{◌≡◌, refl, sym, ap, subst, ◌∙◌}
-use mathlib.Core.Bool.{true, false, true≢false}
+use mathlib.Core.Path.{◌≡◌, sym, ap, subst, ◌∙◌}
+use mathlib.Core.Bool.{true≢false}
 use mathlib.Core.List.{List, ◌++◌}
 use mathlib.Core.Option.{none}
-use lib.ListN.{length, get_or, drop, replicate, length-append, get_or-append}
+use lib.ListN.{length, drop, replicate, length-append, get_or-append}
 use lib.Seq.{drop-drop}
 use borrow.Author.Tests.{eq-eqb, eqb-true}
 use Rattle.definition.specs.Frames.{triangles_of}
@@ -16,7 +16,7 @@ use Rattle.definition.specs.Handed.{Handed}
 use Rattle.definition.specs.declared.Triangle.{Triangle}
 use Rattle.definition.specs.Limits.{work_words}
 use Rattle.definition.specs.Desk.{not_finite}
-use Rattle.definition.specs.Mesh.{Third, after}
+use Rattle.definition.specs.Mesh.{after}
 use Rattle.definition.specs.Step4Order.{sound, broken}
 use Rattle.neighbors.specs.Sides.{end_row}
 use Rattle.neighbors.proofs.Sided.{end_is}

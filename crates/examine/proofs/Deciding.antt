@@ -1,5 +1,5 @@
 -- The examination stage by stage. Assumes nothing.
-use Prim.Native.Nat.{ℕ, zero, suc, ◌+◌, ◌*◌, ◌≤◌, ◌<◌}
+use Prim.Native.Nat.{ℕ, zero, suc, ◌*◌, ◌≤◌, ◌<◌}
 use native.Mathlib.Omega.{arith}
 use mathlib.Core.Path.{◌≡◌, refl}
 use mathlib.Core.List.{List}
@@ -8,11 +8,11 @@ use Rattle.table.specs.Table.{cell}
 use Rattle.table.specs.Columns.{orientation_column, any_column, vertex_column}
 use Rattle.neighbors.specs.Sides.{step_columns}
 use Rattle.view.specs.Frame.{Only}
-use Rattle.asked.specs.Lowest.{Clear, Stage, objected}
+use Rattle.asked.specs.Lowest.{Clear, objected}
 use Rattle.asked.specs.Links.{Equal}
 use Rattle.asked.specs.Objections.{Applies}
 use Rattle.asked.proofs.Fits.{Long, clear-one, clear-long, not-misfit}
-use Rattle.asked.proofs.Stages.{clear-more, stops, passes, stage-on, stage-off, stage-like, stage-verdict, clear-like}
+use Rattle.asked.proofs.Stages.{clear-more, stops, passes, stage-like, stage-verdict, clear-like}
 use Rattle.examiner.specs.OnLinks.{OnLinks}
 use Rattle.fellows.specs.Fellows.{applies_here, OnGroups}
 use Rattle.fellows.proofs.Stages.{applies-kept, applies-back}

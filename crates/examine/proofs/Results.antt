@@ -3,7 +3,7 @@ use Prim.Native.Nat.{ℕ, ◌*◌, ◌≤◌}
 use mathlib.Core.Path.{◌≡◌, refl, sym, ap, ◌∙◌}
 use mathlib.Core.Bool.{Bool, true, false, ◌||◌, true≢false}
 use mathlib.Core.List.{List}
-use mathlib.Core.Option.{Option, none, some, some-injective, none-ne-some}
+use mathlib.Core.Option.{Option, none, some, none-ne-some}
 use lib.Dec.{ltb}
 use lib.ListN.{length}
 use borrow.Author.Tests.{ltb-false}
@@ -13,7 +13,7 @@ use Rattle.desk.specs.declared.Verdict.{Verdict}
 use Rattle.desk.specs.Verdict.{as_verdict}
 use Rattle.examine.specs.declared.Examined.{Examined}
 use Rattle.examine.specs.declared.Owned.{Owned}
-use Rattle.examine.specs.Contract.{refusal, too_short, Refused, Decided, Examines, Withheld, Given, Hands}
+use Rattle.examine.specs.Contract.{refusal, too_short, Decided, Examines, Given, Hands}
 
 -- the desk's number and place where there is a refusal
 module _ (o : Option Row) (j : Verdict) (e : j ≡ as_verdict o) (x : Row) (s : o ≡ some x) where

@@ -1,5 +1,6 @@
 // The examiner of somebody else's links, groups and orientations for a mesh, which are not trusted, and our own handed out as it reads them (request E10).
 #![tactic(auto)]
+
 ghost use Rattle.std.specs.Prelude.{◌≡◌, Bool, ℕ, ◌*◌, ◌≤◌, ◌<◌, length};
 ghost use Rattle.std.proofs.Math.Option.{none};
 ghost use Rattle.std.proofs.lemmas.List.Edits.{sets};

@@ -1,14 +1,14 @@
 -- Rows below n in their order, as the sort leaves them in the list v: it sorts what counts the rows in the list u. Assumes nothing.
 use Prim.Native.Nat.{ℕ, ◌+◌, ◌*◌, ◌≤◌, ◌<◌}
 use native.Mathlib.Omega.{arith}
-use mathlib.Core.Path.{◌≡◌, refl, sym, ◌∙◌, ap, subst}
+use mathlib.Core.Path.{◌≡◌, sym, subst}
 use mathlib.Core.List.{List}
-use lib.ListN.{length, get_or, take}
+use lib.ListN.{get_or, take}
 use Rattle.table.specs.Table.{cell, column}
 use Rattle.lists.specs.Loops.{list_of}
 use Rattle.table.specs.Columns.{order_column}
-use Rattle.sort.specs.Sort.{ends, key, sorted, in_order, SortedPart}
-use Rattle.sort.proofs.Sorted.{All, all-index, rises-at, rises_sorted}
+use Rattle.sort.specs.Sort.{ends, key, in_order, SortedPart}
+use Rattle.sort.proofs.Sorted.{all-index, rises-at, rises_sorted}
 use Rattle.sort.proofs.Order.{length-order, below-order, rising-order, order-cell}
 use Rattle.sort.proofs.Rising.{sorted_all, row_has}
 

@@ -1,11 +1,10 @@
 -- The scan of the sides in their order for two that are left over. Assumes nothing.
-use Prim.Native.Nat.{ℕ, zero, suc, ◌+◌, ◌≤◌, ◌<◌, min, max}
-use native.Mathlib.Nat.{le_antisymm, eq-or-lt_of_le}
+use Prim.Native.Nat.{ℕ, ◌+◌, ◌≤◌, ◌<◌, min, max}
+use native.Mathlib.Nat.{eq-or-lt_of_le}
 use native.Mathlib.Omega.{arith}
 use mathlib.Core.Path.{◌≡◌, refl, sym, subst, ap, ◌∙◌}
 use mathlib.Core.List.{List}
 use mathlib.Core.Logic.{⊎_elim}
-use lib.ListN.{get_or}
 use Rattle.neighbors.specs.Sides.{end_row}
 use Rattle.neighbors.proofs.Mates.{same_end, start-end, end-start}
 use Rattle.asked.specs.Lowest.{Lowest}

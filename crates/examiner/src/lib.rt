@@ -1,5 +1,6 @@
 // Somebody else's links, which are not trusted (request E10): objections 2 to 5.
 #![tactic(auto)]
+
 ghost use Rattle.std.specs.Prelude.{◌≡◌, true, false, ℕ, ◌*◌, ◌≤◌, ◌<◌, length, get_or};
 ghost use Rattle.table.specs.Columns.{columns, vertex_column, order_column};
 ghost use Rattle.view.specs.Frame.{Only};

@@ -1,5 +1,6 @@
 // Proved functions as exports, for the bench and for the comparison with Rust. No part of the user's archive.
 #![tactic(auto)]
+
 ghost use Rattle.std.specs.Prelude.{◌≡◌, true, ℕ, ◌*◌, ◌<◌, ◌≤◌, length};
 ghost use Rattle.angle.specs.Angle.{angle};
 ghost use Rattle.definition.specs.Handed.{handed};

@@ -2,8 +2,8 @@
 use Prim.Native.Nat.{ℕ, ◌+◌, ◌*◌, ◌-◌, ◌/◌, ◌≤◌, ◌<◌}
 use native.Mathlib.Nat.{le_antisymm}
 use native.Mathlib.Omega.{arith}
-use mathlib.Core.Path.{◌≡◌, refl, sym, ap, ◌∙◌}
-use mathlib.Core.Bool.{Bool, true, false}
+use mathlib.Core.Path.{◌≡◌, sym, ap, ◌∙◌}
+use mathlib.Core.Bool.{Bool}
 use mathlib.Core.List.{List}
 use lib.ListN.{get_or}
 use Rattle.table.specs.Table.{cell}
@@ -11,7 +11,7 @@ use Rattle.table.specs.Columns.{head_column}
 use Rattle.neighbors.specs.Sides.{end_row}
 use Rattle.asked.specs.Lowest.{None, Lowest, Tells}
 use Rattle.asked.specs.Links.{Equal, Leads}
-use Rattle.asked.specs.Groups.{group_word, way_word, Together, Unlike, Parted, Loose}
+use Rattle.asked.specs.Groups.{group_word, way_word, Unlike, Parted}
 use Rattle.asked.proofs.Rows.{Passed}
 use Rattle.asked.proofs.Fits.{same-unless}
 use Rattle.firsts.specs.Firsts.{Alike, Right, Firsts}

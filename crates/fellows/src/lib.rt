@@ -1,5 +1,6 @@
 // Somebody else's groups and orientations, which are not trusted (request E10): objections 6 to 12.
 #![tactic(auto)]
+
 ghost use Rattle.std.specs.Prelude.{◌≡◌, ℕ, ◌*◌, ◌/◌, ◌≤◌, ◌<◌, length, get_or};
 ghost use Rattle.table.specs.Columns.{columns, orientation_column, any_column};
 ghost use Rattle.table.specs.Table.{cell};

@@ -1,9 +1,8 @@
 -- The scan of the sorted rows: the lowest row of each group. Assumes nothing.
-use Prim.Native.Nat.{ℕ, zero, suc, ◌+◌, ◌*◌, ◌-◌, ◌≤◌, ◌<◌}
-use native.Mathlib.Nat.{eq-or-lt_of_le, le_antisymm}
+use Prim.Native.Nat.{ℕ, zero, suc, ◌+◌, ◌*◌, ◌≤◌, ◌<◌}
+use native.Mathlib.Nat.{eq-or-lt_of_le}
 use native.Mathlib.Omega.{arith}
 use mathlib.Core.Path.{◌≡◌, refl, sym, ◌∙◌, ap, subst}
-use mathlib.Core.Bool.{Bool, true, false}
 use mathlib.Core.List.{List, [], ◌∷◌}
 use mathlib.Core.Logic.{⊎_elim}
 use lib.ListN.{length, get_or}
@@ -14,7 +13,7 @@ use Rattle.view.specs.Frame.{Only}
 use Rattle.view.proofs.Frame.{cell-kept, only_none, only-put}
 use Rattle.asked.proofs.Rows.{same_or}
 use Rattle.asked.proofs.Fits.{ordered}
-use Rattle.firsts.specs.Firsts.{Alike, InOrder, Runs, begins, goes_on, Right, Firsts, Heads}
+use Rattle.firsts.specs.Firsts.{Alike, InOrder, Runs, begins, goes_on, Right, Heads}
 
 -- after the places below a of the order in w₀: their rows are right, and `first` is the first of the last one's group, or n
 pub record Heading (rows n : ℕ) (G w₀ w : List ℕ) (a first : ℕ) : Type 0 where

@@ -1,5 +1,5 @@
 -- The rows sorted by the words of their groups. Assumes nothing.
-use Prim.Native.Nat.{ℕ, ◌+◌, ◌*◌, ◌^◌, ◌≤◌, ◌<◌}
+use Prim.Native.Nat.{ℕ, ◌*◌, ◌≤◌, ◌<◌}
 use native.Mathlib.Omega.{arith}
 use mathlib.Core.Path.{◌≡◌, refl, sym, ◌∙◌, ap}
 use mathlib.Core.List.{List, [], ◌∷◌, ◌++◌}
@@ -15,7 +15,7 @@ use Rattle.sort.proofs.Keys.{ends_at}
 use Rattle.view.specs.Frame.{Only}
 use Rattle.view.proofs.Frame.{cell-kept, only-run, only-trans, only-more}
 use Rattle.examiner.proofs.Ranks.{rank_below, rank_rises, rank-steps, rank-found}
-use Rattle.firsts.specs.Firsts.{Alike, InOrder, Orders, sort_columns}
+use Rattle.firsts.specs.Firsts.{Orders, sort_columns}
 
 module _ (rows n : ℕ) (G w w₁ w₂ w₃ v : List ℕ) (fits : n ≤ rows) (long : columns * rows ≤ length w) (few : rows < 4294967295)
     (e₁ : w₁ ≡ filled_to rows higher_column (λ _. 0) w rows) (e₂ : w₂ ≡ filled_to rows lower_column (λ r. get_or G r 0) w₁ n) (e₃ : w₃ ≡ filled_to rows order_column (λ r. r) w₂ n) (S : SortedPart rows 0 n w₃ v) where

@@ -1,5 +1,6 @@
 // The lowest row of each group that was handed in, at the row of each of its members: rows are sorted by their group's word, since the words may be any numbers.
 #![tactic(auto)]
+
 ghost use Rattle.std.specs.Prelude.{◌≡◌, ℕ, ◌+◌, ◌*◌, ◌≤◌, ◌<◌, length, get_or};
 ghost use Rattle.table.specs.Columns.{columns, lower_column, order_column, head_column};
 ghost use Rattle.table.specs.Table.{cell, put, filled_to};

@@ -1,29 +1,28 @@
 -- The walk neither reads nor writes the column of places: a list with zeros there goes the same way. Assumes nothing.
-use Prim.Native.Nat.{ℕ, zero, suc, ◌+◌, ◌*◌, ◌≤◌, ◌<◌}
-use native.Mathlib.Nat.{add-suc}
+use Prim.Native.Nat.{ℕ, suc, ◌+◌, ◌*◌, ◌≤◌, ◌<◌}
 use native.Mathlib.Omega.{arith}
-use mathlib.Core.Path.{◌≡◌, refl, sym, ap, ◌∙◌, subst}
+use mathlib.Core.Path.{◌≡◌, refl, sym, ap, ◌∙◌}
 use mathlib.Core.Bool.{Bool, true, false, cond, not, ◌&&◌}
 use mathlib.Core.List.{List, [], ◌∷◌}
 use mathlib.Core.Logic.{◌⊎◌, inl, inr, ⊎_elim}
 use lib.Dec.{eqb}
 use lib.Arith.{lt_of_le-ne}
-use lib.ListN.{length, get_or, set}
+use lib.ListN.{length, set}
 use lib.Seq.{sets, set-set, set_comm}
 use borrow.Author.Tests.{eqb-true, eqb-false}
-use Rattle.table.specs.Table.{cell, put, column}
-use Rattle.table.specs.Columns.{columns, vertex_column, link_column, orientation_column, any_column, group_column, met_column, begin_column}
+use Rattle.table.specs.Table.{cell, put}
+use Rattle.table.specs.Columns.{columns, vertex_column, link_column, orientation_column, any_column, group_column, met_column}
 use Rattle.lists.specs.Loops.{list_of}
 use Rattle.lists.proofs.Loops.{length-list_of}
 use Rattle.table.proofs.Laws.{column-ends, apart}
 use Rattle.view.specs.Frame.{outside, Only}
-use Rattle.view.proofs.Frame.{only_none, only-run, cell-kept}
+use Rattle.view.proofs.Frame.{only-run, cell-kept}
 use Rattle.lists.specs.Zeros.{zeros}
 use Rattle.groups.specs.Walk.{corner_of, untouched, adopted, Entered, enter, stopped, marked, ungrouped, Ready}
 use Rattle.groups.specs.declared.Entry.TheVariants.{At}
 use Rattle.groups.proofs.Laws.{corner_of-le, marked-grown}
 use Rattle.groups.proofs.Steps.{ready-moves}
-use Rattle.flat.specs.Places.{places_column, blank, stack}
+use Rattle.flat.specs.Places.{places_column, blank}
 
 -- ---- a run of stores
 

@@ -5,22 +5,22 @@ use native.Mathlib.Omega.{arith}
 use native.Mathlib.Numerals.{add-two}
 use mathlib.Core.Path.{◌≡◌, refl, sym, ap, ◌∙◌, subst}
 use mathlib.Core.Bool.{Bool, false, cond}
-use mathlib.Core.List.{List, [], ◌∷◌}
+use mathlib.Core.List.{List, ◌∷◌}
 use mathlib.Core.Logic.{⊎_elim}
 use lib.Dec.{eqb}
-use lib.ListN.{length, get_or, set, length-set}
+use lib.ListN.{length, get_or}
 use lib.Seq.{get_or-set_same, get_or-set_other}
 use borrow.Author.Tests.{ne_eqb}
 use Rattle.table.specs.Table.{cell, put, column}
-use Rattle.table.specs.Columns.{columns, link_column, group_column}
-use Rattle.table.proofs.Laws.{get_or-column, column-set}
+use Rattle.table.specs.Columns.{columns, link_column}
+use Rattle.table.proofs.Laws.{get_or-column}
 use Rattle.neighbors.specs.declared.Link.TheVariants.{To, Nothing}
 use Rattle.neighbors.specs.Links.{link_of}
 use Rattle.view.specs.Frame.{Only}
-use Rattle.view.proofs.Frame.{only_none, only-trans, only-more, only-put}
+use Rattle.view.proofs.Frame.{only_none, only-more, only-put}
 use Rattle.groups.specs.declared.Entry.{Entry}
 use Rattle.groups.specs.declared.Entry.TheVariants.{At, Stop}
-use Rattle.groups.specs.Walk.{walk_columns, Entered, enter, Walk, walk, side, follow, corner, ungrouped, Ready, Steps}
+use Rattle.groups.specs.Walk.{walk_columns, Entered, enter, Walk, walk, side, follow, corner, ungrouped, Ready}
 use Rattle.groups.proofs.Laws.{Grown, enter-grown}
 use Rattle.groups.proofs.Steps.{ready-moves, corner-stops}
 use Rattle.flat.specs.declared.Going.{Going}

@@ -1,18 +1,17 @@
 -- The flat walks and those of `groups` leave the same: on every mesh the same members in the same order, and on every list whatever the same words but for the places. Assumes nothing.
 use Prim.Native.Nat.{ℕ, zero, suc, ◌+◌, ◌*◌, ◌/◌, ◌%◌, ◌≤◌, ◌<◌}
 use native.Mathlib.Omega.{arith}
-use native.Mathlib.Numerals.{add-one}
-use mathlib.Core.Path.{◌≡◌, refl, sym, ap, ◌∙◌, subst}
+use mathlib.Core.Path.{◌≡◌, refl, sym, ap, ◌∙◌}
 use mathlib.Core.Bool.{Bool, true, false, cond}
-use mathlib.Core.List.{List, [], ◌∷◌}
+use mathlib.Core.List.{List}
 use lib.Dec.{eqb}
-use lib.ListN.{length, get_or}
+use lib.ListN.{length}
 use borrow.Author.Tests.{eqb-true}
-use Rattle.table.specs.Table.{cell, put}
+use Rattle.table.specs.Table.{cell}
 use Rattle.table.specs.Columns.{columns, link_column, vertex_column, orientation_column, any_column, group_column, met_column, begin_column}
 use Rattle.lists.specs.Loops.{up_to}
 use Rattle.definition.specs.declared.Triangle.{Triangle}
-use Rattle.definition.specs.Mesh.{one, Spot, same_spot}
+use Rattle.definition.specs.Mesh.{one, same_spot}
 use Rattle.definition.specs.Step5Links as step5
 use Rattle.definition.specs.Step6Groups.{Mark, marks}
 use Rattle.laws.proofs.Laws.{mark}
@@ -23,14 +22,13 @@ use Rattle.neighbors.specs.declared.Link.TheVariants.{To, Nothing}
 use Rattle.neighbors.specs.Links.{link_of}
 use Rattle.view.specs.Rows.{row, spot_at}
 use Rattle.view.proofs.Rows.{spot-row}
-use Rattle.view.proofs.Frame.{only-trans, only_none}
 use Rattle.groups.specs.declared.Entry.{Entry}
 use Rattle.groups.specs.declared.Entry.TheVariants.{At, Stop}
 use Rattle.groups.specs.Marks.{Walked}
-use Rattle.groups.specs.Walk.{walk_columns, Entered, enter, Walk, walk, side, follow, go_on, corner, ungrouped, State, started, begun, turn, Turned, Ready, Steps, cleared}
-use Rattle.groups.proofs.Steps.{ready-steps, ready-next, ready-begun, ready-cleared, only-begun, begun-ungrouped, corner-ready, corner-below, corner-falls}
+use Rattle.groups.specs.Walk.{Entered, enter, Walk, walk, side, follow, go_on, corner, ungrouped, State, started, begun, turn, Ready, Steps, cleared}
+use Rattle.groups.proofs.Steps.{ready-steps, ready-next, ready-begun, ready-cleared, corner-ready, corner-below, corner-falls}
 use Rattle.flat.specs.Places.{blank}
-use Rattle.flat.proofs.Blank.{blank-put, only-blank, blank-cell, blank-ungrouped, blank-ready, blanked, enter-blank}
+use Rattle.flat.proofs.Blank.{blank-put, blank-cell, enter-blank}
 use Rattle.flat.proofs.Fuel.{to-triangle, side-enough, enough, enter-only}
 
 -- ---- on every mesh

@@ -1,22 +1,22 @@
 -- The turns of all corners by flat walks: the columns after them stand for the definition's marks. Assumes nothing.
-use Prim.Native.Nat.{ℕ, zero, suc, ◌+◌, ◌*◌, ◌/◌, ◌≤◌, ◌<◌}
+use Prim.Native.Nat.{ℕ, suc, ◌+◌, ◌*◌, ◌/◌, ◌≤◌, ◌<◌}
 use native.Mathlib.Omega.{arith}
 use mathlib.Core.Path.{◌≡◌, refl, sym, ap, ◌∙◌, subst}
-use mathlib.Core.Bool.{Bool, true, false, cond, not}
+use mathlib.Core.Bool.{Bool, true, cond}
 use mathlib.Core.List.{List, [], ◌∷◌}
 use mathlib.Core.Logic.{◌⊎◌, inl, inr, ⊎_elim}
 use lib.Dec.{eqb}
-use lib.ListN.{length, get_or, set, length-set}
+use lib.ListN.{length, set}
 use lib.Seq.{sets}
 use borrow.Author.Tests.{eq-eqb, ne_eqb}
-use Rattle.table.specs.Table.{cell, put, column}
-use Rattle.table.specs.Columns.{columns, vertex_column, link_column, orientation_column, any_column, group_column, met_column, begin_column}
+use Rattle.table.specs.Table.{cell, put}
+use Rattle.table.specs.Columns.{columns, vertex_column, link_column, orientation_column, any_column, group_column, begin_column}
 use Rattle.lists.specs.Loops.{up_to, list_of}
 use Rattle.lists.proofs.Loops.{length-list_of}
 use Rattle.definition.specs.declared.Triangle.{Triangle}
-use Rattle.definition.specs.Mesh.{one, Spot}
+use Rattle.definition.specs.Mesh.{one}
 use Rattle.definition.specs.Step5Links.{Link, beyond}
-use Rattle.definition.specs.Step6Groups.{Mark, marks}
+use Rattle.definition.specs.Step6Groups.{marks}
 use Rattle.laws.proofs.Closed.{Between}
 use Rattle.laws.proofs.Laws.{mark}
 use Rattle.definition.specs.Names.{Names}
@@ -24,13 +24,13 @@ use Rattle.view.specs.Rows.{row, spot_at}
 use Rattle.view.specs.Frame.{Only}
 use Rattle.view.specs.Weld.{Sharp}
 use Rattle.view.specs.Links.{LinkWord}
-use Rattle.view.proofs.Frame.{only_none, only-trans, only-more, only-run, only-put, cell-kept}
+use Rattle.view.proofs.Frame.{only_none, only-trans, only-more, only-run}
 use Rattle.view.proofs.Rows.{row_fits}
 use Rattle.view.proofs.Groups.{grouping-kept}
 use Rattle.groups.specs.declared.GroupCounts.{GroupCounts}
 use Rattle.groups.specs.Marks.{Asked, Walked}
-use Rattle.groups.specs.Walk.{walk_columns, Walk, walk, corner, ungrouped, State, state, started, begun, turn, Turned, Ready, Steps, cleared}
-use Rattle.groups.proofs.Steps.{ready-steps, ready-next, ready-begun, ready-moves, only-begun, begun-ungrouped}
+use Rattle.groups.specs.Walk.{walk_columns, walk, corner, State, state, started, begun, turn, Turned, Ready, Steps, cleared}
+use Rattle.groups.proofs.Steps.{ready-steps, ready-next, ready-begun, only-begun}
 use Rattle.groups.proofs.Finished.{all-walked}
 use Rattle.flat.specs.Places.{places_column, flat_columns, blank}
 use Rattle.flat.proofs.Blank.{set-sets, blank-put, only-blank, only-unblank, blank-cell, blank-ungrouped, blank-ready}

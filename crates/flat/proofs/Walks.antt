@@ -1,12 +1,11 @@
 -- The whole flat walk from a corner: step after step, until nothing is left. Assumes nothing.
-use Prim.Native.Nat.{ℕ, zero, suc, ◌+◌, ◌*◌, ◌-◌, ◌≤◌, ◌<◌}
+use Prim.Native.Nat.{ℕ, zero, suc, ◌*◌, ◌-◌, ◌≤◌, ◌<◌}
 use native.Mathlib.Nat.{le_refl}
 use native.Mathlib.Omega.{arith}
-use mathlib.Core.Path.{◌≡◌, refl, sym, ap, ◌∙◌, subst}
-use mathlib.Core.List.{List, [], ◌∷◌}
+use mathlib.Core.Path.{◌≡◌, refl, sym, ◌∙◌, subst}
+use mathlib.Core.List.{List}
 use lib.ListN.{length}
 use Rattle.table.specs.Columns.{columns}
-use Rattle.view.specs.Frame.{Only}
 use Rattle.view.proofs.Frame.{only_none, only-trans}
 use Rattle.groups.specs.Walk.{Walk, walk, corner, ungrouped, Ready, Steps}
 use Rattle.groups.proofs.Laws.{ungrouped-le}

@@ -1,6 +1,7 @@
 // Step 6 without recursion: the same walks as those of `groups`, with the places to go kept in a column of the work list.
 // Carried over from mikktspace.rs (build_4_rule_groups, assign_to_group_recursive) of the Rust crate bevy_mikktspace and ALTERED: written anew in Rattle, with a list of places in the stead of the recursion. See NOTICE.
 #![tactic(auto)]
+
 ghost use Rattle.std.specs.Prelude.{◌≡◌, List, ℕ, ◌+◌, ◌*◌, ◌-◌, ◌/◌, ◌<◌, ◌≤◌, length};
 ghost use Rattle.table.specs.Columns.{columns, link_column};
 ghost use Rattle.table.specs.Table.{cell};

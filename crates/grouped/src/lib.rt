@@ -1,5 +1,6 @@
 // Steps 1 to 6, one after the other: from the lists handed in to the groups of corners, as met and in triangle order.
 #![tactic(auto)]
+
 ghost use Rattle.std.specs.Prelude.{◌≡◌, ℕ, ◌*◌, ◌≤◌, ◌<◌, length};
 ghost use Rattle.definition.specs.Handed.{handed};
 ghost use Rattle.definition.specs.Limits.{face_limit};

@@ -1,5 +1,5 @@
 -- The walk enters a triangle: what the columns decide is what the definition decides. Assumes nothing.
-use Prim.Native.Nat.{ℕ, zero, suc, ◌+◌, ◌*◌, ◌≤◌, ◌<◌}
+use Prim.Native.Nat.{ℕ, suc, ◌+◌, ◌*◌, ◌≤◌, ◌<◌}
 use native.Mathlib.Nat.{add-zero, eq-or-lt_of_le}
 use native.Mathlib.Omega.{arith}
 use mathlib.Core.Path.{◌≡◌, refl, sym, ◌∙◌, ap, subst}
@@ -15,7 +15,7 @@ use Rattle.bits.proofs.Bools.{and_left, beq-refl}
 use Rattle.laws.proofs.Closed.{Between}
 use Rattle.tangent.specs.Slot.{flag}
 use Rattle.table.specs.Table.{cell, put, column}
-use Rattle.table.specs.Columns.{vertex_column, orientation_column, group_column, met_column, begin_column}
+use Rattle.table.specs.Columns.{vertex_column, orientation_column, group_column, begin_column}
 use Rattle.definition.specs.declared.Corner.{Corner}
 use Rattle.definition.specs.declared.Triangle.{Triangle}
 use Rattle.lists.specs.Lists.{first}
@@ -27,10 +27,9 @@ use Rattle.definition.specs.Names.{Names}
 use Rattle.laws.proofs.Laws.{mark}
 use Rattle.view.specs.Rows.{num, row, spot_at}
 use Rattle.view.specs.Groups.{number_of}
-use Rattle.groups.specs.declared.Entry.{Entry}
 use Rattle.groups.specs.declared.Entry.TheVariants.{At, Stop}
 use Rattle.groups.specs.Walk.{corner_of as corner_number, untouched, adopted, Entered, enter, stopped, marked as marked_at}
-use Rattle.groups.specs.Marks.{Fixed, Faces, Marked}
+use Rattle.groups.specs.Marks.{Marked}
 use Rattle.groups.proofs.Facing.{any_of, facing-open, facing-settled}
 use Rattle.groups.proofs.Marking.{num-not-three, after, mark-more, vertex-kept, begin-kept, number-kept, number-new}
 

@@ -3,24 +3,21 @@ use Prim.Native.Nat.{ℕ, zero, suc, ◌+◌, ◌*◌, ◌≤◌, ◌<◌}
 use native.Mathlib.Omega.{arith}
 use mathlib.Core.Path.{◌≡◌, refl, sym, ◌∙◌, ap, subst}
 use mathlib.Core.Bool.{Bool, true, false, cond, not, ◌&&◌, ◌||◌, true≢false, false≢true}
-use mathlib.Core.List.{List, [], ◌∷◌, ◌++◌}
+use mathlib.Core.List.{List, [], ◌∷◌}
 use mathlib.Core.Option.{some}
 use lib.Dec.{eqb}
 use lib.ListN.{length, get_or}
-use lib.Seq.{sets}
 use borrow.Author.Tests.{eq-eqb, ne_eqb, eqb-true}
 use Rattle.laws.proofs.Closed.{Between}
 use Rattle.tangent.specs.Slot.{flag}
-use Rattle.table.specs.Table.{cell, column, filled_to}
+use Rattle.table.specs.Table.{cell}
 use Rattle.lists.specs.Loops.{up_to, list_of}
-use Rattle.table.specs.Columns.{columns, vertex_column, link_column, orientation_column, any_column, group_column, met_column, begin_column}
+use Rattle.table.specs.Columns.{columns, vertex_column, link_column, orientation_column, any_column, group_column, met_column}
 use Rattle.table.proofs.Laws.{get_or-column, filled-column}
 use Rattle.lists.proofs.Loops.{length-list_of, get_or-list_of}
-use Rattle.definition.specs.declared.Corner.{Corner}
 use Rattle.definition.specs.declared.Triangle.{Triangle}
 use Rattle.lists.specs.Lists.{keep, first, has}
 use Rattle.definition.specs.Mesh.{Third, one, two, three, Spot, after, kept as kept_at, corner_of, same_third, same_triangle, same_spot}
-use Rattle.definition.specs.Step4Order.{welded}
 use Rattle.definition.specs.Step5Links.{Link, beyond}
 use Rattle.definition.specs.Step6Groups.{Mark, grouped, way_of, touched, facing, corner_in, marks, members}
 use Rattle.bits.proofs.Bools.{and_left, and_right}
@@ -29,15 +26,15 @@ use Rattle.laws.proofs.Weld.{welded-as}
 use Rattle.laws.proofs.Laws.{one_corner, final-way}
 use Rattle.laws.proofs.Sharp.{sharp-own}
 use Rattle.view.specs.Frame.{outside, Only}
-use Rattle.view.specs.Rows.{num, row, spot_at}
-use Rattle.view.specs.Weld.{Welds, Sharp}
-use Rattle.view.specs.Links.{LinkWord, Linked}
-use Rattle.view.specs.Groups.{number_of, Member, Grouping, Begins}
+use Rattle.view.specs.Rows.{row, spot_at}
+use Rattle.view.specs.Weld.{Sharp}
+use Rattle.view.specs.Links.{LinkWord}
+use Rattle.view.specs.Groups.{number_of, Member, Grouping}
 use Rattle.view.proofs.Lists.{bool_iff, and_both, every-index}
-use Rattle.view.proofs.Frame.{only_none, only-run, only-more, cell-kept}
+use Rattle.view.proofs.Frame.{only-run, only-more, cell-kept}
 use Rattle.view.proofs.Rows.{spot-row, row_fits}
-use Rattle.groups.specs.Walk.{walk_columns, State, ungrouped, turn, cleared}
-use Rattle.groups.specs.Marks.{Fixed, Stands, Faces, Marked, Starts, Grouped, Asked, Walked}
+use Rattle.groups.specs.Walk.{walk_columns, State, turn, cleared}
+use Rattle.groups.specs.Marks.{Grouped, Asked, Walked}
 use Rattle.groups.proofs.Laws.{ungrouped-le}
 use Rattle.groups.proofs.Facing.{any-third, three-or}
 use Rattle.groups.proofs.Turning.{all-turns}

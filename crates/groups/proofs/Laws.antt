@@ -1,17 +1,17 @@
 -- The laws of the walk: what entering a triangle does to the columns. Assumes nothing.
 use mathlib.Core.Path.{◌≡◌, refl, ap, ◌∙◌}
 use mathlib.Core.Bool.{Bool, true, false, cond}
-use mathlib.Core.List.{List, [], ◌∷◌}
-use Prim.Native.Nat.{ℕ, zero, suc, ◌+◌, ◌*◌, ◌≤◌, ◌<◌}
+use mathlib.Core.List.{List}
+use Prim.Native.Nat.{ℕ, suc, ◌+◌, ◌*◌, ◌≤◌, ◌<◌}
 use native.Mathlib.Omega.{arith}
-use lib.ListN.{length, get_or, set}
+use lib.ListN.{length, set}
 use lib.Arith.{lt_of_le-ne}
 use lib.Dec.{eqb}
 use borrow.Author.Tests.{eqb-true, eqb-false}
 use Rattle.lists.specs.Zeros.{zeros}
 use Rattle.lists.proofs.Zeros.{zeros-set, zeros-le}
 use Rattle.table.specs.Table.{cell, put, column}
-use Rattle.table.specs.Columns.{columns, vertex_column, link_column, orientation_column, group_column, met_column}
+use Rattle.table.specs.Columns.{columns, vertex_column, orientation_column, group_column, met_column}
 use Rattle.table.proofs.Laws.{column-set, get_or-column, length-column}
 use Rattle.view.specs.Frame.{Only}
 use Rattle.view.proofs.Frame.{only_none, only-put}

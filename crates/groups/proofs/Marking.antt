@@ -1,24 +1,24 @@
 -- One corner is marked: in the columns, and in the definition's list. Assumes nothing.
-use Prim.Native.Nat.{ℕ, zero, suc, ◌+◌, ◌*◌, ◌≤◌, ◌<◌}
+use Prim.Native.Nat.{ℕ, suc, ◌+◌, ◌*◌, ◌≤◌, ◌<◌}
 use native.Mathlib.Nat.{eq-or-lt_of_le, le_refl}
 use native.Mathlib.Omega.{arith}
 use mathlib.Core.Path.{◌≡◌, refl, sym, ◌∙◌, ap, subst}
-use mathlib.Core.Bool.{Bool, true, false, cond, not, ◌&&◌, ◌||◌, or-true}
+use mathlib.Core.Bool.{Bool, true, false, not, ◌||◌, or-true}
 use mathlib.Core.List.{List, [], ◌∷◌, ◌++◌}
 use mathlib.Core.Logic.{⊎_elim}
 use lib.Dec.{eqb}
-use lib.ListN.{length, get_or, set, length-set, length-append, get_or-append}
+use lib.ListN.{length, get_or, length-set, length-append, get_or-append}
 use lib.Seq.{get_or-set_same, get_or-set_other, get_or_at}
 use borrow.Author.Tests.{ne_eqb, eqb-true, eqb-false}
 use Rattle.laws.proofs.Closed.{Between}
 use Rattle.tangent.specs.Slot.{flag}
 use Rattle.table.specs.Table.{cell, put, column}
-use Rattle.table.specs.Columns.{columns, vertex_column, link_column, orientation_column, any_column, group_column, met_column, begin_column}
+use Rattle.table.specs.Columns.{vertex_column, link_column, orientation_column, any_column, group_column, met_column, begin_column}
 use Rattle.table.proofs.Laws.{column-set}
 use Rattle.definition.specs.declared.Triangle.{Triangle}
-use Rattle.definition.specs.Mesh.{Third, one, two, three, Spot, same_triangle, same_spot}
+use Rattle.definition.specs.Mesh.{Third, one, two, three, Spot}
 use Rattle.definition.specs.Step5Links.{Link, beyond}
-use Rattle.definition.specs.Step6Groups.{Mark, grouped, facing, stops}
+use Rattle.definition.specs.Step6Groups.{Mark, grouped, stops}
 use Rattle.definition.specs.Names.{Names}
 use Rattle.laws.proofs.Bridge.{index_same}
 use Rattle.laws.proofs.Laws.{mark, settled-new}
@@ -26,7 +26,7 @@ use Rattle.view.specs.Frame.{Only}
 use Rattle.view.specs.Rows.{num, row, spot_at}
 use Rattle.view.specs.Links.{LinkWord}
 use Rattle.view.specs.Groups.{number_of}
-use Rattle.view.proofs.Frame.{only_none, only-put}
+use Rattle.view.proofs.Frame.{only-put}
 use Rattle.view.proofs.Rows.{num-lt, spot-row, row_fits}
 use Rattle.groups.specs.Walk.{walk_columns, untouched, adopted, ungrouped}
 use Rattle.groups.specs.Marks.{Fixed, Stands, Faces, Marked}

@@ -3,10 +3,10 @@ use Prim.Native.Nat.{ℕ, zero, suc, ◌+◌, ◌*◌, ◌/◌, ◌≤◌, ◌<�
 use native.Mathlib.Nat.{eq-or-lt_of_le, le_refl}
 use native.Mathlib.Omega.{arith}
 use mathlib.Core.Path.{◌≡◌, refl, sym, ◌∙◌, ap, subst}
-use mathlib.Core.Bool.{Bool, true, false, cond, not, ◌&&◌, ◌||◌, true≢false}
+use mathlib.Core.Bool.{Bool, true, false, cond, not, ◌||◌, true≢false}
 use mathlib.Core.List.{List, [], ◌∷◌, ◌++◌, append_assoc}
 use mathlib.Core.Logic.{⊎_elim}
-use mathlib.Core.Option.{Option, none, some}
+use mathlib.Core.Option.{some}
 use lib.Dec.{eqb, leb, ltb}
 use lib.ListN.{length, get_or, take, length-append, get_or-append}
 use lib.Seq.{get_or_at, take-suc, take-length, get_or-set_same, get_or-set_other}
@@ -14,18 +14,17 @@ use borrow.Author.Tests.{eq-eqb, ne_eqb, eqb-true, le-leb, lt-leb, lt-ltb, le-lt
 use Rattle.view.proofs.Weld.{spots-append}
 use Rattle.laws.proofs.Closed.{Between}
 use Rattle.tangent.specs.Slot.{flag}
-use Rattle.table.specs.Table.{cell, put, column}
+use Rattle.table.specs.Table.{cell, column}
 use Rattle.lists.specs.Loops.{up_to}
-use Rattle.table.specs.Columns.{columns, vertex_column, link_column, orientation_column, any_column, group_column, met_column, begin_column}
+use Rattle.table.specs.Columns.{vertex_column, link_column, orientation_column, any_column, group_column, met_column, begin_column}
 use Rattle.table.proofs.Laws.{get_or-column}
-use Rattle.definition.specs.declared.Corner.{Corner}
 use Rattle.definition.specs.declared.Triangle.{Triangle}
 use Rattle.lists.specs.Lists.{run}
 use Rattle.definition.specs.Mesh.{Third, one, two, three, Spot, corner_of, same_spot}
-use Rattle.definition.specs.Step4Order.{spots, welded}
+use Rattle.definition.specs.Step4Order.{spots}
 use Rattle.definition.specs.Step5Links.{Link, beyond}
 use Rattle.definition.specs.Step6Groups.{Mark, grouped, way_of, touched, facing, corner_in, going, walk, fan, start_at, marks}
-use Rattle.laws.proofs.Enough.{Near, Grows, spot-refl}
+use Rattle.laws.proofs.Enough.{Grows, spot-refl}
 use Rattle.laws.proofs.Weld.{welded-refl}
 use Rattle.definition.specs.Names.{Names}
 use Rattle.laws.proofs.Mutual.{spot-sym}
@@ -37,8 +36,8 @@ use Rattle.view.specs.Links.{LinkWord}
 use Rattle.view.proofs.Frame.{only_none, only-trans, only-more, only-put, cell-kept}
 use Rattle.view.proofs.Rows.{row_lt, row-div, row-inj, at-inj, spot-row, spot_in, row_fits}
 use Rattle.lists.specs.Zeros.{zeros}
-use Rattle.groups.specs.Walk.{walk_columns, Walk, walk as walk_of, corner, ungrouped, State, started, begun, turn}
-use Rattle.groups.specs.Marks.{Place, Fixed, Stands, Faces, Marked, Starts, Grouped}
+use Rattle.groups.specs.Walk.{walk_columns, walk as walk_of, corner, ungrouped, State, started, begun, turn}
+use Rattle.groups.specs.Marks.{Place, Stands, Faces, Marked, Starts, Grouped}
 use Rattle.groups.proofs.Entering.{Going}
 use Rattle.groups.proofs.Walking.{in_step, fan-le, walk-fuel}
 

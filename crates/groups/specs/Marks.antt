@@ -1,5 +1,5 @@
 -- What the columns stand for in the midst of step 6. Definitions only.
-use Rattle.std.specs.Prelude.{ℕ, ◌+◌, ◌*◌, ◌≤◌, ◌<◌, ◌≡◌, Bool, true, not, List, [], ◌∷◌, eqb, length, get_or}
+use Rattle.std.specs.Prelude.{ℕ, ◌+◌, ◌*◌, ◌≤◌, ◌<◌, ◌≡◌, Bool, true, not, List, eqb, length, get_or}
 use Rattle.tangent.specs.Slot.{flag}
 use Rattle.table.specs.Table.{cell}
 use Rattle.table.specs.Columns.{columns, orientation_column, any_column, group_column, met_column}

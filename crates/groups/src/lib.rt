@@ -2,6 +2,7 @@
 // Carried over from mikktspace.rs (build_4_rule_groups, assign_to_group_recursive) of the Rust crate bevy_mikktspace and ALTERED: written anew in Rattle, a corner step and a side step. See NOTICE.
 // The two call each other, up to 2F corners deep for F faces, and one call more that stops.
 #![tactic(auto)]
+
 ghost use Rattle.std.specs.Prelude.{◌≡◌, List, ℕ, ◌+◌, ◌*◌, ◌/◌, ◌<◌, ◌≤◌, length};
 ghost use Rattle.table.specs.Columns.{columns, link_column};
 ghost use Rattle.table.specs.Table.{cell};

@@ -1,12 +1,10 @@
 -- A regular hull covers all that it took in, and its bound is not above the dot product of any two vectors that it covers. Assumes nothing.
-use mathlib.Core.Path.{◌≡◌, refl, sym, ap, ◌∙◌, subst}
-use mathlib.Core.Bool.{Bool, true, false, not, ◌&&◌, ◌||◌, cond}
-use Prim.Native.Nat.{ℕ, ◌+◌, ◌*◌, ◌≤◌}
+use mathlib.Core.Path.{◌≡◌, refl}
+use mathlib.Core.Bool.{Bool, true, false, ◌&&◌, cond}
+use Prim.Native.Nat.{ℕ, ◌+◌, ◌*◌}
 use native.Mathlib.Nat.{le_refl}
-use lib.IntN.{ℤ}
 use lib.Dec.{T}
-use lib.Ieee.{Float, nan, inf, fin, binary32, of_bits, neg, up, down, add, mul, lt, eq, le}
-use lib.Ieee.Fits.{and_l, and_r}
+use lib.Ieee.{Float, nan, inf, fin, binary32, of_bits, neg, up, down, mul, lt, eq, le}
 use lib.Ieee.Scale.{finite}
 use Rattle.bits.proofs.Bools.{T-is, and_left, and_right, or_l}
 use Rattle.math.specs.declared.Vec3.{Vec3}

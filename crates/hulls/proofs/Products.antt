@@ -1,19 +1,18 @@
 -- A computed product grows with a factor where the other is not below zero, and falls where it is not above; the least product over an interval. Assumes nothing.
 use mathlib.Core.Path.{◌≡◌, refl, sym, ap, ◌∙◌, subst}
 use mathlib.Core.Logic.{◌⊎◌, inl, inr}
-use Prim.Native.Nat.{ℕ, zero, suc, ◌+◌, ◌-◌, ◌*◌, ◌^◌, ◌≤◌, ◌<◌}
-use native.Mathlib.Nat.{le_trans, le_of_eq, eq-zero-or-pos, mul_comm, mul-mul-mul_comm, add-mul, mul-le-mul_right, mul-pos, zero-mul, mul-zero}
+use Prim.Native.Nat.{ℕ, ◌+◌, ◌*◌, ◌≤◌, ◌<◌}
+use native.Mathlib.Nat.{eq-zero-or-pos, mul_comm, mul-mul-mul_comm, mul-le-mul_right, mul-pos, zero-mul, mul-zero}
 use native.Mathlib.Omega.{arith}
-use mathlib.Core.Bool.{Bool, true, false, not, ◌&&◌, ◌||◌, cond, beq, true≢false, false≢true}
-use lib.IntN.{ℤ, pos}
+use mathlib.Core.Bool.{Bool, true, false, cond, true≢false}
+use lib.IntN.{pos}
 use lib.Dec.{T}
 use lib.Ieee.{Float, nan, inf, fin, Format, binary32, unlike, up, down, round, mul, of_bits, lt, le}
 use lib.Ieee.Fits.{down_pos}
 use lib.Ieee.Scale.{finite}
 use Rattle.bits.specs.Single.{zeroᶠ}
 use Rattle.hulls.specs.Hull.{lowest}
-use Rattle.hulls.proofs.Signed.{neg', Ord, Less, le→ord, ord→le, lt→less, less→lt, le-through}
-use Rattle.hulls.proofs.Signed as S
+use Rattle.hulls.proofs.Signed.{Ord, le→ord, lt→less, less→lt, le-through}
 use Rattle.hulls.proofs.Rounding.{round_keeps}
 
 -- ---- finite and not below zero; finite and not above it

@@ -1,19 +1,17 @@
 -- Rounding keeps the order, of fractions of either sign. Assumes nothing.
 use mathlib.Core.Path.{◌≡◌, refl, sym, ap, ◌∙◌, subst}
-use mathlib.Core.Logic.{◌⊎◌, inl, inr}
-use Prim.Native.Nat.{ℕ, zero, suc, ◌+◌, ◌-◌, ◌*◌, ◌/◌, ◌%◌, ◌^◌, ◌≤◌, ◌<◌, zero-le, compare}
-use native.Mathlib.Nat.{le_trans, le_of_eq, eq-zero-or-pos, zero-mul, mul-pos, mul_comm}
+use mathlib.Core.Logic.{inl, inr}
+use Prim.Native.Nat.{ℕ, zero, suc, ◌+◌, ◌-◌, ◌*◌, ◌/◌, ◌%◌, ◌^◌, ◌<◌, compare}
+use native.Mathlib.Nat.{eq-zero-or-pos, zero-mul, mul-pos}
 use native.Mathlib.Omega.{arith}
-use mathlib.Core.Bool.{Bool, true, false, not, ◌&&◌, ◌||◌, cond, beq, true≢false}
-use lib.IntN.{ℤ}
-use lib.Dec.{T, ltb, eqb, lt→ltb}
+use mathlib.Core.Bool.{Bool, true, false, not, cond, true≢false}
+use lib.Dec.{T, ltb}
 use lib.Pow.{pow_pos}
-use lib.Ieee.{Float, nan, inf, fin, Format, prec, emax, low, up, down, size, nearest, odd, units, round, neg, lt, eq, le}
-use lib.Ieee.Fits.{down_pos, round_is, core}
-use lib.Ieee.Exact.{HasValue, odd_sign, round_exact}
+use lib.Ieee.{Float, nan, inf, fin, Format, prec, emax, low, up, down, size, nearest, odd, units, round, neg, le}
+use lib.Ieee.Exact.{HasValue, round_exact}
 use lib.Ieee.Order.{round_mono}
 use Rattle.bits.proofs.Negated.{round-neg}
-use Rattle.hulls.proofs.Signed.{pos, neg', Ord, le→ord, ord→le}
+use Rattle.hulls.proofs.Signed.{Ord, le→ord, ord→le}
 
 -- ---- the sign turned
 

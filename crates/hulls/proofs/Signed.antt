@@ -1,17 +1,14 @@
 -- The order of finite floats as one of whole numbers with a sign, and that rounding keeps it. Assumes nothing.
-use mathlib.Core.Path.{◌≡◌, refl, sym, ap, ◌∙◌, subst}
-use mathlib.Core.Logic.{◌⊎◌, inl, inr}
-use Prim.Native.Nat.{ℕ, zero, suc, ◌+◌, ◌-◌, ◌*◌, ◌^◌, ◌≤◌, ◌<◌, zero-le}
-use native.Mathlib.Nat.{le_trans, le_of_eq, le_of_lt, le_refl, eq-or-lt_of_le, zero-mul, lt_of_le_of_lt, lt_of_lt_of_le, add-zero, mul_comm, mul_assoc, mul_left_comm, mul_right_comm, add-mul, mul-add, mul-le-mul_right, mul-lt-mul_of_pos_right, le_of_mul-le-mul_right, lt_of_mul-lt-mul_right, mul-pos}
+use mathlib.Core.Path.{◌≡◌, refl, sym, subst}
+use mathlib.Core.Logic.{inl, inr}
+use Prim.Native.Nat.{ℕ, ◌+◌, ◌*◌, ◌≤◌, ◌<◌}
+use native.Mathlib.Nat.{le_trans, le_of_eq, le_of_lt, eq-or-lt_of_le, zero-mul, lt_of_le_of_lt, lt_of_lt_of_le, mul_right_comm, add-mul, mul-le-mul_right, mul-lt-mul_of_pos_right, le_of_mul-le-mul_right, lt_of_mul-lt-mul_right}
 use native.Mathlib.Omega.{arith}
-use mathlib.Core.Bool.{Bool, true, false, not, ◌&&◌, ◌||◌, cond, beq, true≢false}
+use mathlib.Core.Bool.{Bool, true, false, not, ◌||◌}
 use lib.IntN.{ℤ}
-use lib.Dec.{T, leb, ltb, eqb, eqb→eq, eqb_refl, ltb→lt, lt→ltb, nltb→le}
-use lib.Pow.{pow_pos}
-use lib.Ieee.{Float, nan, inf, fin, Format, prec, low, up, down, odd, units, round, neg, below, level, lt, eq, le}
-use lib.Ieee.Fits.{up_pos, down_pos, and_l, and_r, and_i, round_is}
-use lib.Ieee.Exact.{HasValue, odd_sign}
-use lib.Ieee.Order.{round_mono}
+use lib.Dec.{T, ltb, eqb, eqb→eq, eqb_refl, ltb→lt, lt→ltb, nltb→le}
+use lib.Ieee.{Float, nan, inf, fin, up, down, below, level, lt, le}
+use lib.Ieee.Fits.{down_pos, and_l, and_r, and_i}
 use Rattle.bits.proofs.Bools.{or_r, or_l, or_split}
 
 -- ---- a whole number with a sign, as a difference

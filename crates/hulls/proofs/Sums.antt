@@ -1,15 +1,14 @@
 -- A computed sum grows with each of its two parts, NaN and infinities told apart. Assumes nothing.
 use mathlib.Core.Path.{◌≡◌, refl, sym, ap, ◌∙◌, subst}
-use mathlib.Core.Logic.{◌⊎◌, inl, inr}
-use Prim.Native.Nat.{ℕ, zero, suc, ◌+◌, ◌-◌, ◌*◌, ◌^◌, ◌≤◌, ◌<◌}
-use native.Mathlib.Nat.{le_trans, le_of_eq, mul_comm, mul_assoc, mul_left_comm, mul_right_comm, mul-mul-mul_comm, add-mul, mul-add, mul-le-mul_right, mul-pos}
+use Prim.Native.Nat.{ℕ, ◌+◌, ◌-◌, ◌*◌, ◌≤◌}
+use native.Mathlib.Nat.{le_trans, le_of_eq, mul_comm, mul-mul-mul_comm, add-mul, mul-le-mul_right, mul-pos}
 use native.Mathlib.Omega.{arith}
-use mathlib.Core.Bool.{Bool, true, false, not, ◌&&◌, ◌||◌, cond, beq, true≢false}
+use mathlib.Core.Bool.{Bool, true, false, not, cond}
 use lib.IntN.{ℤ}
 use lib.Dec.{T, ltb, ltb→lt, nltb→le}
-use lib.Ieee.{Float, nan, inf, fin, Format, up, down, round, sum, add, is_nan, lt, le}
+use lib.Ieee.{Float, nan, inf, fin, Format, up, down, round, sum, add, lt, le}
 use lib.Ieee.Fits.{down_pos}
-use Rattle.hulls.proofs.Signed.{pos, neg', Ord, le→ord, ord→le, pos-mul, neg-mul, ord→parts, parts→ord, lt-through}
+use Rattle.hulls.proofs.Signed.{pos, neg', le→ord, pos-mul, neg-mul, ord→parts, parts→ord, lt-through}
 use Rattle.hulls.proofs.Rounding.{Has, round-has, round_keeps}
 
 -- ---- a sum is the rounding of a difference

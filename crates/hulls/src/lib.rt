@@ -1,6 +1,7 @@
 // The least and the greatest of vectors, component by component, and a bound from below for the dot product of any two of them.
 // Rounding keeps the order, so the bound holds of computed products and sums, exactly; a NaN among the numbers stays in the hull, which is not regular then.
 #![tactic(auto)]
+
 ghost use Rattle.std.specs.Prelude.{◌≡◌};
 ghost use Rattle.hulls.specs.Hull as spec;
 

@@ -1,15 +1,14 @@
 -- The number that is computed for each face is the one that the chains say. Assumes nothing.
-use Prim.Native.Nat.{ℕ, zero, suc, ◌≤◌, ◌<◌, min, max}
+use Prim.Native.Nat.{ℕ, suc, ◌≤◌, ◌<◌, min, max}
 use native.Mathlib.Decide.{dec_lt}
 use native.Mathlib.Omega.{arith}
-use mathlib.Core.Path.{◌≡◌, refl, sym, ◌∙◌, ap, subst}
-use mathlib.Core.Bool.{Bool, true, false, cond, true≢false, false≢true}
-use mathlib.Core.List.{List, [], ◌∷◌}
+use mathlib.Core.Path.{◌≡◌, refl, sym, ap, subst}
+use mathlib.Core.Bool.{Bool, true, false, cond}
+use mathlib.Core.List.{List}
 use lib.Dec.{eqb}
-use lib.ListN.{length, get_or}
+use lib.ListN.{length}
 use borrow.Author.Tests.{eq-eqb, eqb-true}
 use Rattle.definition.specs.declared.Corner.{Corner}
-use Rattle.lists.specs.Loops.{up_to}
 use Rattle.lists.proofs.Loops.{up_to-ind}
 use Rattle.islands.specs.Islands.{touches, Chain, alone, counted, no_island, Given, lowest, other, merge, unite, unite_all, lowest_of, island_of}
 use Rattle.islands.proofs.Chains.{Right, right-lowest, touches-counted, touches-sym, counted-below, chain-join, chain-one, chain-sym}

@@ -1,20 +1,18 @@
 -- All of `label`, one step after the other. Assumes nothing.
-use Prim.Native.Nat.{ℕ, suc, ◌+◌, ◌*◌, ◌/◌, ◌≤◌, ◌<◌}
+use Prim.Native.Nat.{ℕ, ◌*◌, ◌/◌, ◌≤◌, ◌<◌}
 use native.Mathlib.Omega.{arith}
-use mathlib.Core.Path.{◌≡◌, refl, sym, ◌∙◌, ap, subst}
+use mathlib.Core.Path.{◌≡◌, refl, sym, ◌∙◌, subst}
 use mathlib.Core.List.{List}
 use lib.ListN.{length, get_or, drop, get_or-append}
 use Rattle.definition.specs.Handed.{mesh_of, Handed}
-use Rattle.table.specs.Table.{cell}
 use Rattle.lists.specs.Loops.{list_of}
 use Rattle.lists.proofs.Loops.{length-list_of, get_or-list_of}
-use Rattle.view.specs.Frame.{Only}
 use Rattle.view.proofs.Frame.{cell-kept}
 use Rattle.weld.specs.Welding.{weld_columns, Welded}
-use Rattle.unions.specs.Unions.{Beyond, Downward, Level, Alone, Settled}
-use Rattle.unions.proofs.Stores.{beyond-trans, alone-level, alone-down}
+use Rattle.unions.specs.Unions.{Level, Alone, Settled}
+use Rattle.unions.proofs.Stores.{beyond-trans, alone-level}
 use Rattle.islands.specs.Islands.{lowest_of, island_of}
-use Rattle.islands.specs.Rows.{NamesCorner, Stands, FacesListed, corner_row, face_row, vertex_row, list_columns, Woven, Readable, Struck, labelled}
+use Rattle.islands.specs.Rows.{NamesCorner, FacesListed, corner_row, face_row, vertex_row, Woven, Readable, Struck, labelled}
 use Rattle.islands.proofs.Meaning.{vertex-low, near, rows-level, given_is}
 use Rattle.islands.proofs.Weaving.{labelled-is}
 

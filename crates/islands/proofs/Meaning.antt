@@ -1,8 +1,8 @@
 -- The rows, welded, and faces united by them: the numbers are the lowest of the islands. Assumes nothing.
-use Prim.Native.Nat.{ℕ, suc, ◌+◌, ◌*◌, ◌/◌, ◌≤◌, ◌<◌}
+use Prim.Native.Nat.{ℕ, ◌*◌, ◌/◌, ◌≤◌, ◌<◌}
 use native.Mathlib.Omega.{arith}
 use mathlib.Core.Path.{◌≡◌, refl, sym, ◌∙◌, ap, subst}
-use mathlib.Core.Bool.{Bool, true, false, cond, true≢false}
+use mathlib.Core.Bool.{true, cond}
 use mathlib.Core.List.{List, Memᴰ}
 use lib.ListN.{length, get_or}
 use Rattle.definition.proofs.Lengths.{mesh-length}
@@ -14,10 +14,10 @@ use Rattle.laws.proofs.Weld.{welded-refl, welded-as}
 use Rattle.view.specs.Weld.{First}
 use Rattle.view.proofs.Weld.{first_one, first-low}
 use Rattle.islands.specs.Islands.{face_at, touch, touches, Chain, Lowest, counted, no_island, Given, lowest, other, lowest_of, island_of}
-use Rattle.islands.specs.Rows.{Stands, FacesListed}
-use Rattle.islands.proofs.Chains.{Shared, touch-shared, shared-touch, touches-counted, touches-sym, counted-below}
+use Rattle.islands.specs.Rows.{FacesListed}
+use Rattle.islands.proofs.Chains.{touch-shared, shared-touch, touches-counted, touches-sym, counted-below}
 use Rattle.islands.proofs.Agree.{level, lowest-low, lowest-chain}
-use Rattle.islands.proofs.Sizes.{Number, named, number_of, counted_is}
+use Rattle.islands.proofs.Sizes.{named, number_of, counted_is}
 
 module _ (mesh : Handed) (k : ℕ) (C N vs : ℕ → ℕ) (l : FacesListed mesh.sizes (length mesh.sizes) k C N) (v : (r : ℕ) → r < 4 * k → First (λ j. welded (corner_at mesh.positions mesh.normals mesh.texture (C r)) (corner_at mesh.positions mesh.normals mesh.texture (C j))) (vs r)) where
   abbrev faces : List (List Corner)

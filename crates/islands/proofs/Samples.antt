@@ -3,7 +3,7 @@ use Prim.Native.Nat.{ℕ}
 use mathlib.Core.Path.{◌≡◌, refl}
 use mathlib.Core.List.{List, [], ◌∷◌}
 use lib.Ieee.{binary32, of_bits}
-use Rattle.math.specs.Vector.{vec, origin}
+use Rattle.math.specs.Vector.{vec}
 use Rattle.definition.specs.declared.Corner.{Corner}
 use Rattle.lists.specs.Loops.{list_of, up_to}
 use Rattle.islands.specs.Islands.{touch, touches, counted, no_island, merge, unite, unite_all, lowest_of, island_of}

@@ -1,17 +1,17 @@
 -- Faces united row by row, others struck out, and the whole list of numbers. Assumes nothing.
-use Prim.Native.Nat.{ℕ, suc, ◌+◌, ◌*◌, ◌-◌, ◌/◌, ◌≤◌, ◌<◌}
+use Prim.Native.Nat.{ℕ, ◌+◌, ◌-◌, ◌/◌, ◌≤◌, ◌<◌}
 use native.Mathlib.Nat.{add-sub_of_le}
 use native.Mathlib.Decide.{dec_lt}
 use native.Mathlib.Omega.{arith}
 use mathlib.Core.Path.{◌≡◌, refl, sym, ◌∙◌, ap, subst}
-use mathlib.Core.Bool.{Bool, true, false, cond}
+use mathlib.Core.Bool.{cond}
 use mathlib.Core.List.{List, ◌++◌}
-use lib.ListN.{length, get_or, set, drop, length-set, length-append, length-drop, get_or-append}
-use lib.Seq.{ext_get_or, get_or-set_same, get_or-set_other, get_or-append-add, get_or-drop}
+use lib.ListN.{length, get_or, set, drop, length-append, length-drop, get_or-append}
+use lib.Seq.{ext_get_or, get_or-set_other, get_or-append-add, get_or-drop}
 use Rattle.definition.specs.Handed.{mesh_of, Handed, used}
 use Rattle.lists.specs.Loops.{list_of}
 use Rattle.lists.proofs.Loops.{length-list_of, get_or-list_of}
-use Rattle.unions.specs.Unions.{Beyond, Downward, Level, United}
+use Rattle.unions.specs.Unions.{Beyond, Downward, United}
 use Rattle.unions.proofs.Stores.{either, after, beyond-set, beyond-trans}
 use Rattle.islands.specs.Islands.{no_island, island_of}
 use Rattle.islands.specs.Rows.{Woven, Struck, labelled}

@@ -1,5 +1,5 @@
 -- Request E9: islands of faces, and the number that each face is given. Definitions only.
-use Rattle.std.specs.Prelude.{ℕ, zero, suc, ◌≤◌, ◌<◌, min, max, ◌≡◌, Bool, true, false, cond, List, [], ◌∷◌, eqb, length, get_or}
+use Rattle.std.specs.Prelude.{ℕ, ◌≤◌, min, max, ◌≡◌, Bool, true, false, cond, List, [], eqb, length, get_or}
 use Rattle.definition.specs.declared.Corner.{Corner}
 use Rattle.definition.specs.Handed.{used}
 use Rattle.lists.specs.Lists.{has}

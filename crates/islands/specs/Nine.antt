@@ -1,5 +1,5 @@
 -- Request E9: refusal 9. Definitions only.
-use Rattle.std.specs.Prelude.{ℕ, Bool, true, cond}
+use Rattle.std.specs.Prelude.{Bool, true, cond}
 use Rattle.std.proofs.Math.Option.{Option, none, some}
 use Rattle.definition.specs.Desk.{Row}
 

@@ -1,6 +1,5 @@
 -- The corners of the faces of 3 or 4 in rows, four a face, and what uniting their faces leaves. Definitions only.
-use Rattle.std.specs.Prelude.{ℕ, ◌+◌, ◌*◌, ◌-◌, ◌/◌, ◌≤◌, ◌<◌, ◌≡◌, Bool, true, cond, List, [], ◌∷◌, ◌++◌, length, get_or, set, take, drop}
-use Rattle.definition.specs.declared.Corner.{Corner}
+use Rattle.std.specs.Prelude.{ℕ, ◌+◌, ◌*◌, ◌-◌, ◌/◌, ◌≤◌, ◌<◌, ◌≡◌, true, cond, List, [], ◌∷◌, ◌++◌, length, get_or, set, take, drop}
 use Rattle.definition.specs.Handed.{mesh_of, Handed, used, corner_count}
 use Rattle.lists.specs.Loops.{list_of}
 use Rattle.table.specs.Table.{cell}

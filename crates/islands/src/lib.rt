@@ -1,5 +1,6 @@
 // Request E9: the mesh in islands.
 #![tactic(auto)]
+
 ghost use Rattle.std.specs.Prelude.{◌≡◌, true, cond, List, [], ◌∷◌, ℕ, ◌+◌, ◌*◌, ◌-◌, ◌/◌, ◌<◌, ◌≤◌, ◌^◌, length, drop};
 ghost use Rattle.definition.specs.Handed.{handed, used};
 ghost use Rattle.definition.specs.Limits.{face_limit};

@@ -1,15 +1,13 @@
 -- Steps 7 to 9, from what each of them leaves to the final readings. Assumes nothing.
 use Prim.Native.Nat.{ℕ, ◌+◌, ◌*◌, ◌≤◌, ◌<◌}
 use native.Mathlib.Omega.{arith}
-use mathlib.Core.Path.{◌≡◌, refl, sym, ap, ◌∙◌, subst}
-use mathlib.Core.Bool.{true}
+use mathlib.Core.Path.{◌≡◌, refl, sym, ◌∙◌, subst}
 use mathlib.Core.List.{List, [], ◌∷◌, ◌++◌}
 use lib.Dec.{T}
 use lib.ListN.{length, get_or, length-append}
 use lib.Ieee.{Float, nan, binary32, fits}
 use Rattle.math.specs.Held.{HeldVec}
 use Rattle.tangent.specs.declared.Reading.TheVariants.{Absent}
-use Rattle.table.specs.Table.{cell}
 use Rattle.table.specs.Columns.{columns, met_column, order_column, joined_column}
 use Rattle.definition.specs.declared.Kept.{Kept}
 use Rattle.definition.specs.declared.Triangle.{Triangle}

@@ -1,5 +1,6 @@
 // Steps 7 to 9, one after the other, for either edition: what steps 1 to 6 left is handed in by what it stands for.
 #![tactic(auto)]
+
 ghost use Rattle.std.specs.Prelude.{◌≡◌, true, ◌*◌, ◌<◌, ◌≤◌, length};
 ghost use Rattle.table.specs.Columns.{columns};
 ghost use Rattle.view.specs.Frame.{outside};

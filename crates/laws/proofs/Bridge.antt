@@ -2,10 +2,10 @@
 use Prim.Native.Nat.{ℕ, zero, suc, ◌+◌, ◌*◌, ◌<◌}
 use native.Mathlib.Omega.{arith}
 use mathlib.Core.Path.{◌≡◌, refl, sym, ◌∙◌, ap}
-use mathlib.Core.Bool.{Bool, false, cond, not, ◌&&◌, ◌||◌}
+use mathlib.Core.Bool.{Bool, false, cond}
 use mathlib.Core.List.{List, [], ◌∷◌, ◌++◌, map, flat_map}
 use lib.Dec.{eqb, eqb-zero-suc, eqb-suc-zero, eqb-suc-suc}
-use lib.ListN.{length, get_or, length-append, length-map, replicate}
+use lib.ListN.{length, get_or, length-append, length-map}
 use lib.Ieee.{Float}
 use borrow.Author.Tests.{ne_eqb}
 use Rattle.laws.proofs.Laws.{tri-refl}
@@ -15,18 +15,16 @@ use Rattle.tangent.specs.Slot as slot
 use Rattle.tangent.specs.Slot.{slot_words}
 use Rattle.tangent.proofs.Slots.{words-length}
 use Rattle.definition.specs.declared.Corner.{Corner}
-use Rattle.definition.specs.declared.Kept.{Kept}
 use Rattle.definition.specs.declared.Triangle.{Triangle}
 use Rattle.definition.specs.Frames.{numbered, frames_from, frames_of, frames}
 use Rattle.definition.specs.Handed.{corners_from, mesh_from, used, slots_of, slot_count}
 use Rattle.definition.specs.Mesh.{Face, Spot, prior, corner_of, same_triangle}
 use Rattle.definition.specs.Outcome.{answer_words}
-use Rattle.definition.specs.Step4Order.{sound}
 use Rattle.definition.specs.Step5Links.{links}
-use Rattle.definition.specs.Step6Groups.{Mark, stops, over, going, marks}
-use Rattle.definition.specs.Step7Sums.{Brought, brought_all}
+use Rattle.definition.specs.Step6Groups.{Mark, stops, over, going}
+use Rattle.definition.specs.Step7Sums.{Brought}
 use Rattle.definition.specs.Step9Copies.{nooks, face_readings}
-use Rattle.definition.specs.Triangles.{usable, nook, pieces}
+use Rattle.definition.specs.Triangles.{usable}
 use Rattle.lists.specs.Every.{Every, every_nil, every_cons}
 use Rattle.laws.proofs.World.{eqb-sym}
 use Rattle.laws.proofs.Enough.{Near, walked, walked-eq}

@@ -1,31 +1,26 @@
 -- Steps 7 and 8 in a shuffle: what is brought to each slot, and its reading. Assumes nothing.
-use Prim.Native.Nat.{ℕ, zero, suc}
-use mathlib.Core.Path.{◌≡◌, refl, sym, ◌∙◌, ap}
-use mathlib.Core.Bool.{Bool, true, false, cond, not, ◌&&◌, ◌||◌}
-use mathlib.Core.List.{List, [], ◌∷◌, ◌++◌, map}
+use Prim.Native.Nat.{ℕ}
+use mathlib.Core.Path.{◌≡◌, refl, ap}
+use mathlib.Core.Bool.{false, ◌&&◌}
+use mathlib.Core.List.{List, map}
 use mathlib.Core.Option.{Option, none, some}
 use lib.Dec.{eqb}
 use lib.Ieee.{Float}
 use Rattle.math.specs.declared.Vec3.{Vec3}
-use Rattle.tangent.specs.declared.RawTangentSpace.{RawTangentSpace}
 use Rattle.tangent.specs.declared.Reading.{Reading}
 use Rattle.tangent.specs.declared.Reading.TheVariants.{Absent, Single, Combined, Copied, Filled}
-use Rattle.bits.specs.Single.{zeroᶠ}
-use Rattle.tangent.specs.Space.{zero_tangent}
 use Rattle.definition.specs.declared.Corner.{Corner}
 use Rattle.definition.specs.declared.Triangle.{Triangle}
 use Rattle.definition.specs.declared.Sum.{Sum}
-use Rattle.lists.specs.Lists.{keep, has, run}
-use Rattle.definition.specs.Mesh.{Spot, next, prior, corner_of, slot_of, same_triangle, same_spot}
-use Rattle.definition.specs.Step4Order.{welded, spots}
-use Rattle.definition.specs.Step6Groups.{Mark, members, corner_in}
-use Rattle.definition.specs.Step7Sums.{joins, subgroup, opening, weighed, add_spot, contribute, finish, evaluate, Brought, bring, brought_all}
+use Rattle.definition.specs.Mesh.{Spot, next, prior, corner_of, same_triangle}
+use Rattle.definition.specs.Step6Groups.{Mark, members}
+use Rattle.definition.specs.Step7Sums.{joins, subgroup, opening, add_spot, contribute, finish, evaluate, Brought, bring, brought_all}
 use Rattle.definition.specs.Step8Slots.{put, reading}
-use Rattle.lists.specs.Every.{Each, each_none, each_some, Every, every_nil, every_cons}
-use Rattle.laws.proofs.Part.{Part, nothing, mine, other, mapped, part-only, part-every, every-keep, part-map, has-map, has-none, run-map, every_map}
-use Rattle.laws.proofs.World.{World, OursT, TheirsT, moved, moved_spot, OursS, TheirsS, next-moved, prior-moved, corner-moved, slot-moved, tri-moved, tri-theirs, spot-moved, theirs-spot, corner-ours}
-use Rattle.laws.proofs.Pieces.{Triangles, Spots}
-use Rattle.laws.proofs.Walking.{moved_mark, OursM, TheirsM, Marks, corner_in-moved, corner_in-ours}
+use Rattle.lists.specs.Every.{Every}
+use Rattle.laws.proofs.Part.{Part, mapped, part-only, part-every, every-keep, part-map, has-map, has-none, run-map}
+use Rattle.laws.proofs.World.{World, OursT, moved, moved_spot, next-moved, prior-moved, corner-moved, slot-moved, tri-moved, tri-theirs, spot-moved, theirs-spot, corner-ours}
+use Rattle.laws.proofs.Pieces.{Triangles}
+use Rattle.laws.proofs.Walking.{moved_mark, OursM, TheirsM, Marks, corner_in-moved}
 
 module _ (w : World) where
   -- ---- subgroups

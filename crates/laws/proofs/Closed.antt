@@ -1,15 +1,14 @@
 -- The links of a list of triangles stay among them; laws of links; a walk from a corner stays at its corner. Assumes nothing.
-use Prim.Native.Nat.{ℕ, zero, suc}
-use mathlib.Core.Path.{◌≡◌, refl, sym, ◌∙◌, ap}
-use mathlib.Core.Bool.{Bool, true, false, cond, not, ◌&&◌, ◌||◌}
+use mathlib.Core.Path.{◌≡◌, refl}
+use mathlib.Core.Bool.{Bool, true, false, cond, not, ◌&&◌}
 use mathlib.Core.List.Memᴰ
-use mathlib.Core.List.{List, [], ◌∷◌, ◌++◌, Memᴰ}
+use mathlib.Core.List.{List, [], ◌∷◌, Memᴰ}
 use mathlib.Core.Option.{Option, none, some}
 use Rattle.bits.proofs.Bools.{and_left}
 use Rattle.definition.specs.declared.Corner.{Corner}
 use Rattle.definition.specs.declared.Triangle.{Triangle}
-use Rattle.lists.specs.Lists.{keep, first, has}
-use Rattle.definition.specs.Mesh.{Third, one, two, three, Spot, next, prior, corner_of, same_spot}
+use Rattle.lists.specs.Lists.{first}
+use Rattle.definition.specs.Mesh.{Third, one, two, three, Spot, corner_of, same_spot}
 use Rattle.definition.specs.Step4Order.{welded, spots}
 use Rattle.definition.specs.Step5Links.{Link, opposite, linked, add_link, link_one, link_all, links, beyond}
 use Rattle.definition.specs.Step6Groups.{corner_in, over_to, over}

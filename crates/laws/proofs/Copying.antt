@@ -1,30 +1,24 @@
 -- Step 9 in a shuffle: each face of a mesh has the readings that it had alone. Assumes nothing.
-use Prim.Native.Nat.{ℕ, zero, suc}
-use mathlib.Core.Path.{◌≡◌, refl, sym, ◌∙◌, ap}
-use mathlib.Core.Bool.{Bool, true, false, cond, not, ◌&&◌, ◌||◌}
-use mathlib.Core.List.{List, [], ◌∷◌, ◌++◌, map}
+use Prim.Native.Nat.{ℕ, suc}
+use mathlib.Core.Path.{◌≡◌, refl, ap}
+use mathlib.Core.Bool.{Bool, true, false}
+use mathlib.Core.List.{List, [], ◌∷◌, map}
 use mathlib.Core.Option.{Option, none, some}
-use lib.Dec.{eqb}
-use Rattle.tangent.specs.declared.Reading.{Reading}
-use Rattle.tangent.specs.declared.Reading.TheVariants.{Absent}
 use Rattle.tangent.specs.Space.{copy_of}
 use Rattle.math.specs.Vector.{equals}
 use Rattle.definition.specs.declared.Corner.{Corner}
 use Rattle.definition.specs.declared.Kept.{Kept}
 use Rattle.definition.specs.declared.Triangle.{Triangle}
-use Rattle.lists.specs.Lists.{keep, first}
+use Rattle.lists.specs.Lists.{first}
 use Rattle.definition.specs.Mesh.{Face, Spot, corner_of, slot_of}
-use Rattle.definition.specs.Step4Order.{welded, is_sound, sound, spots}
-use Rattle.definition.specs.Step5Links.{links}
-use Rattle.definition.specs.Step6Groups.{marks}
-use Rattle.definition.specs.Step7Sums.{Brought, brought_all}
-use Rattle.definition.specs.Step8Slots.{reading}
+use Rattle.definition.specs.Step4Order.{welded, is_sound, spots}
+use Rattle.definition.specs.Step7Sums.{Brought}
 use Rattle.definition.specs.Step9Copies.{copied, from_sound, from_kept, from_marked, final_of, nooks, face_readings}
-use Rattle.definition.specs.Triangles.{usable, pieces, nook}
+use Rattle.definition.specs.Triangles.{pieces}
 use Rattle.lists.specs.Every.{Every, every_nil, every_cons}
-use Rattle.laws.proofs.Part.{Part, nothing, mine, other, mapped, part-first, first-map, map-cong, every_map}
-use Rattle.laws.proofs.World.{World, OursT, TheirsT, moved, moved_spot, OursS, TheirsS, corner-moved, slot-moved, weld-theirs}
-use Rattle.laws.proofs.Pieces.{Triangles, Spots, spots-part, pieces-moved, moved_face, OursF, TheirsF}
+use Rattle.laws.proofs.Part.{mapped, part-first, first-map, map-cong}
+use Rattle.laws.proofs.World.{World, moved, moved_spot, corner-moved, slot-moved, weld-theirs}
+use Rattle.laws.proofs.Pieces.{Triangles, spots-part, pieces-moved, moved_face, OursF}
 use Rattle.laws.proofs.Bringing.{Broughts, reading-moved}
 
 module _ (w : World) where

@@ -13,9 +13,9 @@ use Rattle.definition.specs.declared.Triangle.{Triangle}
 use Rattle.lists.specs.Lists.{keep, has}
 use Rattle.definition.specs.Mesh.{Third, one, two, three, Spot, prior, corner_of, same_third, same_triangle, same_spot}
 use Rattle.definition.specs.Step4Order.{welded, spots}
-use Rattle.definition.specs.Step5Links.{Link, beyond}
-use Rattle.definition.specs.Step6Groups.{Mark, grouped, stops, corner_in, over_to, over, going, walk, fan}
-use Rattle.lists.specs.Every.{Each, each_none, each_some, Every, every_nil, every_cons}
+use Rattle.definition.specs.Step5Links.{Link}
+use Rattle.definition.specs.Step6Groups.{Mark, grouped, stops, over, going, walk, fan}
+use Rattle.lists.specs.Every.{Each, each_none, each_some}
 
 -- ---- counting
 

@@ -21,7 +21,6 @@ use Rattle.definition.specs.Step5Links.{links}
 use Rattle.definition.specs.Step6Groups.{Mark, marks}
 use Rattle.definition.specs.Step7Sums.{empty_sum, contribute, finish, evaluate, Brought, bring, brought_all}
 use Rattle.definition.specs.Step8Slots.{put, reading}
-use Rattle.definition.specs.Step9Copies.{copied}
 use Rattle.definition.specs.Frames.{numbered, frames}
 use Rattle.lists.specs.Every.{Every, every_nil, every_cons}
 use Rattle.laws.proofs.Part.{every-keep}

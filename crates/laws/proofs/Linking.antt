@@ -1,18 +1,15 @@
 -- Step 5 in a shuffle: the links of a mesh are a part of the links of the larger one. Assumes nothing.
-use Prim.Native.Nat.{ℕ, zero, suc}
-use mathlib.Core.Path.{◌≡◌, refl, sym, ◌∙◌, ap}
-use mathlib.Core.Bool.{Bool, true, false, cond, not, ◌&&◌, ◌||◌}
-use mathlib.Core.List.{List, [], ◌∷◌, ◌++◌, map}
+use mathlib.Core.Path.{◌≡◌, refl}
+use mathlib.Core.Bool.{Bool, true, false, cond, not, ◌&&◌}
+use mathlib.Core.List.{List}
 use mathlib.Core.Option.{Option, none, some}
-use Rattle.definition.specs.declared.Corner.{Corner}
 use Rattle.definition.specs.declared.Triangle.{Triangle}
-use Rattle.lists.specs.Lists.{keep, first, has}
+use Rattle.lists.specs.Lists.{first}
 use Rattle.definition.specs.Mesh.{Spot, next, corner_of, same_spot}
-use Rattle.definition.specs.Step4Order.{welded, spots}
 use Rattle.definition.specs.Step5Links.{Link, end_of, opposite, linked, add_link, link_one, link_all, links, beyond}
 use Rattle.lists.specs.Every.{Each, each_none, each_some}
 use Rattle.laws.proofs.Part.{Part, nothing, mine, other, mapped, part-first, first-ours, first-theirs, part-has, part-cond, part-cond-other, cond-each₂}
-use Rattle.laws.proofs.World.{World, OursT, TheirsT, moved, moved_spot, OursS, TheirsS, next-moved, next-ours, next-theirs, corner-moved, spot-moved, spot-theirs, theirs-spot, corner-ours, corner-theirs, weld-theirs, weld-ours}
+use Rattle.laws.proofs.World.{World, moved_spot, OursS, TheirsS, next-moved, next-ours, next-theirs, corner-moved, spot-moved, spot-theirs, theirs-spot, corner-ours, corner-theirs, weld-theirs, weld-ours}
 use Rattle.laws.proofs.Pieces.{Triangles, Spots, spots-part}
 
 module _ (w : World) where

@@ -1,10 +1,10 @@
 -- Request E11's law of links: a link is mutual, and no side is linked twice. Assumes nothing.
 use borrow.Author.Tests.{not-true}
-use Prim.Native.Nat.{ℕ, zero, suc}
+use Prim.Native.Nat.{ℕ}
 use native.Mathlib.Omega.{arith}
 use mathlib.Core.Path.{◌≡◌, refl, sym, ◌∙◌, ap, subst}
 use mathlib.Core.Bool.{Bool, true, false, cond, not, ◌&&◌, ◌||◌, true≢false, and-false}
-use mathlib.Core.List.{List, [], ◌∷◌, ◌++◌, Memᴰ}
+use mathlib.Core.List.{List, [], ◌∷◌, Memᴰ}
 use mathlib.Core.Option.{Option, none, some}
 use Rattle.definition.specs.declared.Triangle.{Triangle}
 use Rattle.lists.specs.Lists.{first, has}
@@ -15,7 +15,7 @@ use Rattle.definition.specs.Step5Links.{Link, opposite, linked, add_link, link_o
 use Rattle.lists.specs.Every.{Each, each_none, each_some, Every, every_nil, every_cons}
 use Rattle.laws.proofs.World.{eqb-sym}
 use Rattle.laws.proofs.Enough.{spot-refl}
-use Rattle.bits.proofs.Bools.{and_left, and_right, beq-sym}
+use Rattle.bits.proofs.Bools.{and_right, beq-sym}
 use Rattle.laws.proofs.Closed.{first_found, Sound, all_sound, beyond-known, each_map, spots-every, corners-in}
 use Rattle.laws.proofs.Shuffled.{every-mem}
 

@@ -1,21 +1,21 @@
 -- The triangles of a mesh have names of their own. Assumes nothing.
-use Prim.Native.Nat.{ℕ, zero, suc, ◌≤◌, ◌<◌}
+use Prim.Native.Nat.{ℕ, suc, ◌≤◌}
 use native.Mathlib.Omega.{arith}
-use mathlib.Core.Path.{◌≡◌, refl, sym, ◌∙◌, ap, subst}
+use mathlib.Core.Path.{◌≡◌, refl, ◌∙◌, ap}
 use mathlib.Core.Bool.{Bool, true, false, cond, ◌&&◌, beq, and-false}
 use mathlib.Core.List.{List, [], ◌∷◌, ◌++◌, Memᴰ}
-use mathlib.Core.Option.{Option, none, some}
+use mathlib.Core.Option.{some}
 use lib.Dec.{eqb}
 use borrow.Author.Tests.{ne_eqb}
 use Rattle.definition.specs.declared.Corner.{Corner}
 use Rattle.definition.specs.declared.Triangle.{Triangle}
 use Rattle.definition.specs.Frames.{numbered}
 use Rattle.lists.specs.Lists.{keep}
-use Rattle.definition.specs.Mesh.{Face, Spot, same_triangle}
+use Rattle.definition.specs.Mesh.{Spot, same_triangle}
 use Rattle.definition.specs.Step1Cut.{cut02}
 use Rattle.definition.specs.Step4Order.{is_sound, sound, spots}
 use Rattle.definition.specs.Step5Links.{links, beyond}
-use Rattle.definition.specs.Triangles.{make, settled, pair, nook, quad, usable, pieces, triangles}
+use Rattle.definition.specs.Triangles.{make, settled, pair, quad, usable, pieces, triangles}
 use Rattle.lists.specs.Every.{Every, every_nil, every_cons}
 use Rattle.laws.proofs.Part.{every_map, every_append, every-keep}
 use Rattle.laws.proofs.Pieces.{Of, pieces-of}

@@ -1,9 +1,9 @@
 -- Steps 1 to 4 in a shuffle: the triangles of a mesh are a part of the triangles of the larger one. Assumes nothing.
-use Prim.Native.Nat.{ℕ, zero, suc, ◌*◌, ◌≤◌}
+use Prim.Native.Nat.{ℕ, suc, ◌*◌, ◌≤◌}
 use native.Mathlib.Omega.{arith}
-use mathlib.Core.Path.{◌≡◌, refl, sym, ◌∙◌, ap}
+use mathlib.Core.Path.{◌≡◌, refl}
 use mathlib.Core.Bool.{Bool, true, false, cond}
-use mathlib.Core.List.{List, [], ◌∷◌, ◌++◌, map}
+use mathlib.Core.List.{List, [], ◌∷◌, map}
 use lib.Dec.{eqb}
 use lib.ListN.{length, length-append}
 use Rattle.definition.specs.declared.Corner.{Corner}
@@ -12,11 +12,11 @@ use Rattle.definition.specs.declared.Triangle.{Triangle}
 use Rattle.definition.specs.Mesh.{Face, Third, one, two, three, Spot, kept}
 use Rattle.definition.specs.Step1Cut.{cut02}
 use Rattle.definition.specs.Step3Tangents.{quad_way, area}
-use Rattle.definition.specs.Step4Order.{is_sound, sound, broken, spots}
+use Rattle.definition.specs.Step4Order.{is_sound, sound, spots}
 use Rattle.definition.specs.Triangles.{make, settled, agree, pair, nook, quad, usable, pieces, triangles}
 use Rattle.definition.specs.Frames.{numbered}
 use Rattle.lists.specs.Every.{Every, every_nil, every_cons}
-use Rattle.laws.proofs.Part.{Part, nothing, mine, other, all-mine, all-other, part-append, part-keep, every_map, every_append, every-cond}
+use Rattle.laws.proofs.Part.{Part, nothing, mine, other, all-mine, all-other, part-append, part-keep, every_map, every-cond}
 use Rattle.laws.proofs.World.{World, OursT, TheirsT, moved, moved_spot, OursS, TheirsS}
 
 -- a triangle of face n whose corners are all Q

@@ -1,16 +1,11 @@
 -- Meshes whose words are those of the crate built without the corrected features, with our root and angle. Written by tools/samples_old.py. Groundwork of request E13: no public call uses it yet. Assumes nothing.
 use Prim.Native.Nat.{ℕ}
 use mathlib.Core.Path.{◌≡◌, refl}
-use mathlib.Core.Bool.{Bool, true, false, not, ◌&&◌, xor}
-use mathlib.Core.List.{List, [], ◌∷◌, ◌++◌, map, flat_map}
-use lib.Dec.{eqb}
-use lib.ListN.{take, drop, replicate}
-use lib.IntN.{ℤ, pos, negsuc, neg_ℤ}
-use lib.Signed.{le_z}
-use lib.Ieee.{Float, nan, is_nan, add, sub, mul, div, neg, lt, le, eq, to_bits, of_bits, round, to_unsigned, to_signed, of_int, size, units}
+use mathlib.Core.Bool.{xor}
+use mathlib.Core.List.{List, [], ◌∷◌, map, flat_map}
+use lib.Ieee.{Float, is_nan, add, sub, mul, div, neg, lt, le, eq, to_bits, of_bits, round, to_unsigned, to_signed, of_int, size, units}
 use Rattle.bits.specs.Word.{word, number}
 use Rattle.math.specs.Vector.{vec}
-use Rattle.tangent.specs.declared.Reading.TheVariants.{Absent}
 use Rattle.definition.specs.Handed.{handed, call}
 use Rattle.definition.specs.Desk.{shown}
 use Rattle.root.specs.Root as Root'

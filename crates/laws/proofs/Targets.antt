@@ -1,6 +1,6 @@
 -- Step 9 never copies from a slot that it copies to: its sources are corners of sound triangles, and no slot of such a corner takes a copy. So the order of the copies does not matter. Assumes nothing.
 use Prim.Native.Nat.{ℕ}
-use mathlib.Core.Path.{◌≡◌, refl, sym, ◌∙◌, ap}
+use mathlib.Core.Path.{◌≡◌, refl, ap}
 use mathlib.Core.Bool.{Bool, true, false, cond, not, xor, true≢false, false≢true}
 use mathlib.Core.List.{List, [], ◌∷◌}
 use mathlib.Core.Option.{Option, none, some}
@@ -10,7 +10,7 @@ use Rattle.definition.specs.declared.Corner.{Corner}
 use Rattle.definition.specs.declared.Kept.{Kept}
 use Rattle.definition.specs.declared.Triangle.{Triangle}
 use Rattle.lists.specs.Lists.{keep, first}
-use Rattle.definition.specs.Mesh.{Third, one, two, three, Spot, kept, slot_of}
+use Rattle.definition.specs.Mesh.{Third, one, two, three, kept, slot_of}
 use Rattle.definition.specs.Step1Cut.{cut02}
 use Rattle.definition.specs.Step2Degenerate.{exactly_one}
 use Rattle.definition.specs.Triangles.{make, settled, pair, nook, quad, pieces}

@@ -1,20 +1,20 @@
 -- Step 6 in a shuffle: the marks of a mesh are a part of the marks of the larger one. Assumes nothing.
 use Prim.Native.Nat.{ℕ, zero, suc}
-use mathlib.Core.Path.{◌≡◌, refl, sym, ◌∙◌, ap}
-use mathlib.Core.Bool.{Bool, true, false, cond, not, ◌&&◌, ◌||◌, beq}
-use mathlib.Core.List.{List, [], ◌∷◌, ◌++◌, map}
+use mathlib.Core.Path.{◌≡◌, refl, ◌∙◌, ap}
+use mathlib.Core.Bool.{Bool, false, ◌||◌}
+use mathlib.Core.List.{List, [], ◌∷◌, ◌++◌}
 use mathlib.Core.Option.{Option, none, some}
 use lib.ListN.{length, length-map}
 use Rattle.definition.specs.declared.Corner.{Corner}
 use Rattle.definition.specs.declared.Triangle.{Triangle}
-use Rattle.lists.specs.Lists.{keep, has, run}
-use Rattle.definition.specs.Mesh.{Third, one, two, three, Spot, next, prior, corner_of, same_triangle, same_spot}
+use Rattle.lists.specs.Lists.{keep, run}
+use Rattle.definition.specs.Mesh.{Spot, prior, corner_of}
 use Rattle.definition.specs.Step4Order.{welded, spots}
 use Rattle.definition.specs.Step5Links.{Link, beyond}
-use Rattle.definition.specs.Step6Groups.{Mark, grouped, way_of, touched, facing, stops, corner_in, over_to, over, going, walk, fan, start_at, marks, members}
+use Rattle.definition.specs.Step6Groups.{Mark, grouped, way_of, touched, facing, stops, corner_in, over_to, over, going, walk, fan, start_at, marks}
 use Rattle.lists.specs.Every.{Each, each_none, each_some}
-use Rattle.laws.proofs.Part.{Part, nothing, mine, other, mapped, part-keep, part-only, part-first, first-ours, first-theirs, part-has, part-append, part-snoc, part-cond, part-cond-other}
-use Rattle.laws.proofs.World.{World, OursT, TheirsT, moved, moved_spot, OursS, TheirsS, prior-moved, prior-theirs, corner-moved, tri-moved, tri-theirs, theirs-tri, spot-moved, spot-theirs, theirs-spot, corner-ours, corner-theirs, weld-theirs, weld-ours}
+use Rattle.laws.proofs.Part.{Part, nothing, mine, other, mapped, part-only, part-first, first-ours, first-theirs, part-has, part-append, part-snoc, part-cond, part-cond-other}
+use Rattle.laws.proofs.World.{World, OursT, TheirsT, moved, moved_spot, OursS, TheirsS, prior-moved, prior-theirs, corner-moved, tri-moved, theirs-tri, spot-moved, theirs-spot, corner-ours, corner-theirs, weld-theirs, weld-ours}
 use Rattle.laws.proofs.Pieces.{Triangles, Spots, spots-part}
 use Rattle.laws.proofs.Linking.{Links, beyond-moved, beyond-ours, beyond-theirs}
 

@@ -1,9 +1,8 @@
 -- Two corners are welded to the same corner exactly when they have the same bits; then they have one normal. Assumes nothing.
-use Prim.Native.Nat.{ℕ}
-use mathlib.Core.Path.{◌≡◌, refl, sym, ◌∙◌, ap, subst}
-use mathlib.Core.Bool.{Bool, true, false, ◌&&◌, false≢true}
-use mathlib.Core.List.{List, [], ◌∷◌, ◌++◌}
-use mathlib.Core.Option.{Option, none, some}
+use mathlib.Core.Path.{◌≡◌, refl, ◌∙◌, ap, subst}
+use mathlib.Core.Bool.{Bool, true, ◌&&◌}
+use mathlib.Core.List.{List, [], ◌∷◌}
+use mathlib.Core.Option.{Option, some}
 use lib.Dec.{T, eqb}
 use lib.Ieee.{Float, binary32, to_bits, fits}
 use borrow.Author.Tests.{eq-eqb, eqb-true}
@@ -14,8 +13,8 @@ use Rattle.definition.specs.declared.Corner.{Corner}
 use Rattle.definition.specs.declared.Triangle.{Triangle}
 use Rattle.lists.specs.Lists.{first}
 use Rattle.definition.specs.Mesh.{Spot, corner_of}
-use Rattle.definition.specs.Step4Order.{same_bits, same_vector, same_numbers, welded, sound, broken, spots, welded_to}
-use Rattle.lists.specs.Every.{Each, each_none, each_some, Every, every_nil, every_cons}
+use Rattle.definition.specs.Step4Order.{same_bits, same_vector, same_numbers, welded, welded_to}
+use Rattle.lists.specs.Every.{Each, each_some, Every, every_nil, every_cons}
 use Rattle.laws.proofs.World.{welded-sym}
 use Rattle.bits.proofs.Bools.{and_left, and_right}
 use Rattle.laws.proofs.Closed.{Found, first_found}

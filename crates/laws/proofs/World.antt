@@ -1,14 +1,13 @@
 -- One mesh's triangles inside a larger mesh, where its faces have other numbers: what the names and the corners say. Assumes nothing.
 use Prim.Native.Nat.{ℕ, zero, suc}
 use mathlib.Core.Path.{◌≡◌, refl, sym, ◌∙◌, ap}
-use mathlib.Core.Bool.{false, beq}
+use mathlib.Core.Bool.{false}
 use lib.Dec.{eqb, eqb-zero-suc, eqb-suc-zero, eqb-suc-suc}
 use lib.Ieee.{Float, binary32, to_bits}
 use Rattle.math.specs.declared.Vec3.{Vec3}
 use Rattle.definition.specs.declared.Corner.{Corner}
-use Rattle.definition.specs.declared.Kept.{Kept}
 use Rattle.definition.specs.declared.Triangle.{Triangle}
-use Rattle.definition.specs.Mesh.{Face, Third, one, two, three, after, before, Spot, next, prior, kept, corner_of, slot_of, same_third, same_triangle, same_spot}
+use Rattle.definition.specs.Mesh.{Third, one, two, three, Spot, next, prior, kept, corner_of, slot_of, same_triangle, same_spot}
 use Rattle.definition.specs.Step4Order.{same_bits, same_vector, same_numbers, welded}
 
 -- ---- the tests are symmetric

@@ -37,7 +37,7 @@ use Rattle.view.proofs.Answer.{mesh-slotted, slotted-sound-broken}
 use Rattle.listing.specs.Listing.{Listed}
 use Rattle.edges.specs.Tags.{Tagged}
 use Rattle.merge.specs.Rows.{merge_columns, Merged}
-use Rattle.merge.specs.Names.{name_columns, tag_in, tag_at, corner_into, tags, Named}
+use Rattle.merge.specs.Names.{name_columns, tag_in, tag_at, corner_into, Named}
 use Rattle.merge.proofs.Tags.{all-follow, tag-means, tag_fits}
 use Rattle.merge.proofs.Recornered.{marked, tags-weld, one_corner}
 use Rattle.merge.proofs.Old as old

@@ -1,6 +1,7 @@
 // Steps 1 to 6 of the old edition, one after the other: from the lists handed in to the groups of corners, as met and in triangle order.
 // Groundwork of request E13: no public call uses it yet.
 #![tactic(auto)]
+
 ghost use Rattle.std.specs.Prelude.{◌*◌, ◌≤◌, length};
 ghost use Rattle.definition.specs.Handed.{handed};
 ghost use Rattle.definition.specs.Limits.{face_limit};

@@ -1,15 +1,13 @@
 -- How many triangles there are; where as many are sound, none is degenerate. Assumes nothing.
-use Prim.Native.Nat.{ℕ, zero, suc, ◌+◌, ◌*◌, ◌≤◌, ◌<◌, zero-le}
-use native.Mathlib.Nat.{le_of_suc-le-suc, le_refl, le_trans, le_of_eq}
+use Prim.Native.Nat.{ℕ, zero, suc, ◌+◌, ◌≤◌, ◌<◌, zero-le}
+use native.Mathlib.Nat.{le_of_suc-le-suc}
 use native.Mathlib.Omega.{arith}
 use mathlib.Core.Path.{◌≡◌, refl, sym, ◌∙◌, ap, subst}
-use mathlib.Core.Bool.{Bool, true, false, cond}
-use mathlib.Core.List.{List, [], ◌∷◌, ◌++◌}
+use mathlib.Core.Bool.{true, false}
+use mathlib.Core.List.{List, [], ◌∷◌}
 use lib.ListN.{length, length-append, get_or, take}
-use lib.Seq.{take-length}
 use lib.Ieee.{Float}
 use Rattle.table.specs.Columns.{rows_of}
-use Rattle.definition.specs.declared.Corner.{Corner}
 use Rattle.definition.specs.declared.Triangle.{Triangle}
 use Rattle.definition.specs.Handed.{Handed, mesh_from, corners_from}
 use Rattle.definition.specs.Step1Cut.{cut02}

@@ -1,6 +1,7 @@
 // The triangles of all faces in columns of the work list: sound ones first, then degenerate ones, each in slot order (steps 1 to 3, and the order of step 4).
 // Carried over from mikktspace.rs (generate_triangle_info_list, generate_tangent_space) of the Rust crate bevy_mikktspace and ALTERED: written anew in Rattle. See NOTICE.
 #![tactic(auto)]
+
 ghost use Rattle.std.specs.Prelude.{◌≡◌, [], ◌∷◌, ◌+◌, ◌*◌, ◌<◌, ◌≤◌, length};
 ghost use Rattle.definition.specs.Handed.{handed, corner_at, corners_from};
 ghost use Rattle.definition.specs.Limits.{face_limit};

@@ -1,18 +1,16 @@
 -- Where no component counts, the squared length is zero or NaN: so the first ground of request E6 is part of the second, and a vector points exactly where its squared length spans. Assumes nothing.
 use mathlib.Core.Path.{◌≡◌, refl, sym, ap, ◌∙◌, subst}
-use mathlib.Core.Bool.{Bool, true, false, not, cond, ◌||◌, true≢false, false≢true}
+use mathlib.Core.Bool.{Bool, true, false, not, cond, ◌||◌, true≢false}
 use Prim.Native.Nat.{ℕ, zero, suc, ◌+◌, ◌*◌, ◌^◌, ◌≤◌, ◌<◌}
-use native.Mathlib.Nat.{le_trans, le_of_eq, zero-lt-suc, mul-pos, mul_comm, mul-mul-mul_comm, mul-le-mul, zero-mul}
+use native.Mathlib.Nat.{le_trans, le_of_eq, zero-lt-suc, mul-pos, mul-mul-mul_comm, mul-le-mul, zero-mul}
 use native.Mathlib.Omega.{arith}
-use lib.IntN.{ℤ, pos, negsuc}
-use lib.Dec.{T, ltb, nltb→le}
+use lib.Dec.{T, nltb→le}
 use lib.Pow.{pow_pos}
 use lib.Ieee.{Float, nan, inf, fin, binary32, up, down, round, add, sum, mul, lt, eq, le, of_bits}
 use lib.Ieee.Fits.{up_pos, down_pos}
 use lib.Ieee.Order.{round_mono}
-use lib.Ieee.Scale.{finite}
-use Rattle.bits.specs.Word.{is_finite, number}
-use Rattle.bits.specs.Single.{◌+ᶠ◌, ◌*ᶠ◌, zeroᶠ}
+use Rattle.bits.specs.Word.{is_finite}
+use Rattle.bits.specs.Single.{◌+ᶠ◌, ◌*ᶠ◌}
 use Rattle.bits.proofs.Zeros.{O, side, zero_bits}
 use Rattle.math.specs.declared.Vec3.{Vec3}
 use Rattle.math.specs.Vector.{dot, abs, counts, spans, points}

@@ -1,9 +1,8 @@
 -- Equality by float comparison is symmetric. Assumes nothing.
 use mathlib.Core.Path.{◌≡◌, refl, sym, ap, ◌∙◌}
 use mathlib.Core.Bool.{Bool, true, false, ◌&&◌, ◌||◌, beq}
-use Prim.Native.Nat.{ℕ, zero, suc, ◌*◌}
-use borrow.Author.Tests.{eqb-true, eqb-false, eq-eqb, ne_eqb}
-use lib.IntN.{ℤ}
+use Prim.Native.Nat.{ℕ, ◌*◌}
+use borrow.Author.Tests.{eqb-true, eqb-false, ne_eqb}
 use lib.Dec.{eqb}
 use lib.Ieee.{Float, nan, inf, fin, eq, up, down, level}
 use Rattle.bits.proofs.Bools.{beq-sym}

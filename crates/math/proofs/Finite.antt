@@ -4,21 +4,21 @@ use mathlib.Core.Path.{◌≡◌, refl, sym, ap, ◌∙◌, subst}
 use mathlib.Core.Logic.{◌⊎◌, inl, inr}
 use mathlib.Core.Bool.{Bool, true, false, not, cond, ◌||◌, true≢false, false≢true}
 use Prim.Native.Nat.{ℕ, zero, suc, ◌+◌, ◌*◌, ◌^◌, ◌≤◌, ◌<◌}
-use native.Mathlib.Nat.{le_refl, le_trans, le_of_eq, lt_of_lt_of_le, lt_irrefl, zero-lt-suc, zero-mul, mul-pos, mul_assoc, mul_comm, mul_right_comm, mul-le-mul, mul-le-mul_right, mul-mul-mul_comm, le_of_mul-le-mul_right}
+use native.Mathlib.Nat.{le_trans, le_of_eq, lt_of_lt_of_le, lt_irrefl, zero-lt-suc, zero-mul, mul-pos, mul_assoc, mul_comm, mul-le-mul, mul-le-mul_right, mul-mul-mul_comm, le_of_mul-le-mul_right}
 use native.Mathlib.Omega.{arith}
-use lib.IntN.{ℤ, pos, negsuc}
-use lib.Dec.{T, leb, ltb, eqb, leb→le, nleb→lt, lit≤}
+use lib.IntN.{ℤ, negsuc}
+use lib.Dec.{T, leb, eqb, leb→le, nleb→lt, lit≤}
 use lib.Pow.{pow_pos}
 use borrow.Author.Tests.{ne_eqb}
-use lib.Ieee.{Float, nan, inf, fin, binary32, up, down, round, unlike, mul, div, lt, eq, le, fits, of_bits}
-use lib.Ieee.Fits.{up_pos, down_pos, add-fits, mul-fits, div-fits}
+use lib.Ieee.{Float, nan, inf, fin, binary32, up, down, round, unlike, mul, div, eq, le, fits, of_bits}
+use lib.Ieee.Fits.{up_pos, down_pos, add-fits, div-fits}
 use lib.Ieee.Exact.{HasValue}
 use lib.Ieee.Scale.{finite}
-use Rattle.bits.specs.Word.{is_finite, number}
+use Rattle.bits.specs.Word.{is_finite}
 use Rattle.bits.specs.Single.{◌+ᶠ◌, ◌*ᶠ◌, ◌/ᶠ◌, zeroᶠ, oneᶠ}
-use Rattle.bits.proofs.Zeros.{O, Side, zeros, side, zero_bits}
+use Rattle.bits.proofs.Zeros.{Side, zeros, side, zero_bits}
 use Rattle.root.specs.Root.{sqrt}
-use Rattle.root.specs.Nearest.{Units, Nearest, NearestRoot}
+use Rattle.root.specs.Nearest.{Units, Nearest}
 use Rattle.root.proofs.Nearest.{read, nearest}
 use Rattle.root.proofs.Patterns.{finer}
 use Rattle.math.specs.declared.Vec3.{Vec3}

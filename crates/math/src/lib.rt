@@ -1,6 +1,7 @@
 // Vectors of three single-precision numbers, by value.
 // Carried over from math.rs of the Rust crate bevy_mikktspace and ALTERED: written anew in Rattle, with one root for `Ops`. See NOTICE.
 #![tactic(auto)]
+
 ghost use Rattle.std.specs.Prelude.{◌≡◌};
 ghost use Rattle.math.specs.Vector as spec;
 

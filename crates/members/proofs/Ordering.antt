@@ -1,41 +1,38 @@
 -- The sorted stretches are the groups' corners in triangle order. Assumes nothing.
-use Prim.Native.Nat.{ℕ, zero, suc, ◌+◌, ◌*◌, ◌/◌, ◌%◌, ◌^◌, ◌-◌, ◌≤◌, ◌<◌, min}
-use native.Mathlib.Numerals.{add-one}
+use Prim.Native.Nat.{ℕ, zero, suc, ◌+◌, ◌*◌, ◌/◌, ◌%◌, ◌-◌, ◌≤◌, ◌<◌, min}
 use native.Mathlib.Omega.{arith}
 use mathlib.Core.Path.{◌≡◌, refl, sym, ap, ◌∙◌, subst}
-use mathlib.Core.Bool.{Bool, true, false, cond, not, true≢false, false≢true}
-use mathlib.Core.List.{List, [], ◌∷◌, ◌++◌}
-use lib.Dec.{eqb, leb, ltb}
+use mathlib.Core.Bool.{Bool, true, false, cond, not, true≢false}
+use mathlib.Core.List.{List, [], ◌∷◌}
+use lib.Dec.{eqb, ltb}
 use lib.ListN.{length, get_or}
-use lib.Seq.{slice, length-slice, sets}
+use lib.Seq.{slice, length-slice}
 use borrow.Author.Tests.{eq-eqb, eqb-true, ne_eqb, leb-true, leb-false, le-leb, lt-leb, lt-ltb, le-ltb, ltb-true, ltb-false}
 use Rattle.laws.proofs.Closed.{Between}
-use Rattle.table.specs.Table.{cell, column, filled_to}
+use Rattle.table.specs.Table.{cell, column}
 use Rattle.lists.specs.Loops.{list_of}
-use Rattle.table.specs.Columns.{columns, group_column, met_column, lower_column, higher_column, order_column, spare_column, begin_column}
-use Rattle.table.proofs.Laws.{get_or-column, length-column, filled-column, run-fills}
-use Rattle.lists.proofs.Loops.{length-list_of, get_or-list_of}
+use Rattle.table.specs.Columns.{columns, group_column, met_column, order_column, spare_column, begin_column}
+use Rattle.table.proofs.Laws.{get_or-column, length-column}
 use Rattle.definition.specs.declared.Triangle.{Triangle}
-use Rattle.lists.specs.Lists.{keep, has}
-use Rattle.definition.specs.Mesh.{Third, Spot, same_spot}
+use Rattle.lists.specs.Lists.{keep}
+use Rattle.definition.specs.Mesh.{Third, same_spot}
 use Rattle.definition.specs.Step5Links.{Link}
 use Rattle.definition.specs.Step6Groups.{Mark, grouped, marks}
-use Rattle.lists.specs.Every.{Every}
 use Rattle.definition.specs.Names.{Names}
 use Rattle.laws.proofs.Enough.{spot-refl}
 use Rattle.laws.proofs.Laws.{mark, Once, once-nil, once-cons, at_most_one}
-use Rattle.sort.specs.Sort.{sorted, ends, key, SortedPart}
-use Rattle.sort.proofs.Keys.{ends_at, key-kept}
+use Rattle.sort.specs.Sort.{sorted, key, SortedPart}
+use Rattle.sort.proofs.Keys.{key-kept}
 use Rattle.sort.proofs.Rising.{sorted-kept}
 use Rattle.view.specs.Frame.{outside, Only}
-use Rattle.view.specs.Rows.{third, row, spot_at, spot_row}
-use Rattle.view.specs.Groups.{number_of, Member, Grouping, begin_at, InOrder}
+use Rattle.view.specs.Rows.{third, row, spot_at}
+use Rattle.view.specs.Groups.{number_of, Grouping, begin_at}
 use Rattle.view.proofs.Lists.{every-index}
-use Rattle.view.proofs.Frame.{only_none, only-trans, only-more, only-run, cell-kept}
+use Rattle.view.proofs.Frame.{only_none, only-trans, cell-kept}
 use Rattle.view.proofs.Rows.{row_is, tri-lt, row_lt, row-inj, at-inj, spot-row}
-use Rattle.groups.proofs.Finished.{Index, has-index}
-use Rattle.members.specs.Members.{begin_of, Sorts, idle, sorts, Sorting, unsorted, next, order_columns}
-use Rattle.members.proofs.Stretches.{get_or-slice, slice-same, part-sorted, part_low, part-high, Far, far_none, far-more, far-idle, up-to}
+use Rattle.groups.proofs.Finished.{has-index}
+use Rattle.members.specs.Members.{begin_of, Sorts, idle, sorts, Sorting, unsorted, next}
+use Rattle.members.proofs.Stretches.{get_or-slice, part-sorted, part_low, part-high, Far, far_none, far-more, far-idle}
 
 -- ---- what the sorting leaves
 

@@ -2,9 +2,9 @@
 use Prim.Native.Nat.{ℕ, zero, suc, ◌+◌, ◌*◌, ◌/◌, ◌≤◌, ◌<◌}
 use native.Mathlib.Nat.{le_refl}
 use native.Mathlib.Omega.{arith}
-use mathlib.Core.Path.{◌≡◌, refl, sym, ap, ◌∙◌, subst}
+use mathlib.Core.Path.{◌≡◌, refl, sym, ap, ◌∙◌}
 use mathlib.Core.Bool.{Bool, true, false, cond, ◌||◌, true≢false}
-use mathlib.Core.List.{List, [], ◌∷◌, ◌++◌, map, append_assoc, append-nil}
+use mathlib.Core.List.{List, [], ◌∷◌, ◌++◌, map, append-nil}
 use lib.Dec.{eqb}
 use lib.ListN.{length, get_or, take}
 use lib.Seq.{slice, take-suc, take-length}
@@ -12,10 +12,10 @@ use borrow.Author.Tests.{eqb-true}
 use Rattle.laws.proofs.Closed.{Between}
 use Rattle.table.specs.Table.{cell, column}
 use Rattle.lists.specs.Loops.{list_of}
-use Rattle.table.specs.Columns.{group_column, met_column, order_column, begin_column}
+use Rattle.table.specs.Columns.{group_column, order_column}
 use Rattle.definition.specs.declared.Triangle.{Triangle}
 use Rattle.lists.specs.Lists.{keep, has}
-use Rattle.definition.specs.Mesh.{Third, one, two, three, Spot, after, corner_of, same_triangle}
+use Rattle.definition.specs.Mesh.{Third, one, two, three, after, corner_of, same_triangle}
 use Rattle.definition.specs.Step4Order.{welded}
 use Rattle.definition.specs.Step5Links.{Link}
 use Rattle.definition.specs.Step6Groups.{Mark, marks, members}

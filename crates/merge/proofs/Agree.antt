@@ -10,7 +10,7 @@ use Rattle.math.specs.declared.Vec3.{Vec3}
 use Rattle.math.specs.Vector.{vec}
 use Rattle.lists.specs.Lists.{first, run}
 use Rattle.definition.specs.declared.Corner.{Corner}
-use Rattle.definition.specs.Mesh.{Third, one}
+use Rattle.definition.specs.Mesh.{Third}
 use Rattle.definition.specs.Step5Quick.{swapped, seek_up, seek_down}
 use Rattle.definition.specs.Step5Old.{numbers_from, run_end}
 use Rattle.definition.specs.Step5Sorted.{sorted_by}

@@ -1,5 +1,5 @@
 -- A face's corner as one number, and the part of a list that belongs to a face. Definitions only.
-use Rattle.std.specs.Prelude.{ℕ, ◌+◌, ◌*◌, ◌/◌, ◌%◌, ◌≤◌, ◌≡◌, Bool, cond, ◌||◌, List, [], eqb, leb, ltb, length, get_or, take, drop, Float}
+use Rattle.std.specs.Prelude.{ℕ, ◌*◌, ◌/◌, ◌%◌, ◌≤◌, ◌≡◌, Bool, cond, ◌||◌, List, [], eqb, leb, ltb, length, get_or, take, drop, Float}
 use Rattle.definition.specs.Handed.{Handed, corner_count}
 use Rattle.definition.specs.Limits.{face_limit}
 use Rattle.definition.specs.Desk.{too_many, misfit}

@@ -1,6 +1,7 @@
 // What is handed in, read: a corner of the lists, the sums of the sizes, the part of a list that belongs to a face.
 // FaceVertex is carried over from mikktspace/face_vertex.rs of the Rust crate bevy_mikktspace and ALTERED: written anew in Rattle. See NOTICE.
 #![tactic(auto)]
+
 ghost use Rattle.std.specs.Prelude.{◌≡◌, false, cond, [], ◌+◌, ◌*◌, ◌%◌, ◌^◌, ◌≤◌, ◌<◌, min, length, get_or, take};
 ghost use Rattle.std.specs.Float.{nan};
 ghost use Rattle.definition.specs.Handed.{handed, vector_at, corner_at, corner_count, slots_of, slot_count};

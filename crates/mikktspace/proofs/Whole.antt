@@ -2,11 +2,10 @@
 use Prim.Native.Nat.{ℕ, ◌+◌, ◌*◌, ◌≤◌, ◌<◌}
 use native.Mathlib.Omega.{arith}
 use mathlib.Core.Path.{◌≡◌, refl, sym, ◌∙◌, subst}
-use mathlib.Core.List.{List, [], ◌∷◌, ◌++◌}
+use mathlib.Core.List.{List, ◌++◌}
 use mathlib.Core.Option.{none}
 use lib.ListN.{length, get_or, drop, replicate, length-append, get_or-append}
 use lib.Ieee.{Float}
-use Rattle.tangent.specs.declared.Reading.TheVariants.{Absent}
 use Rattle.tangent.specs.Slot.{slot_words}
 use Rattle.table.specs.Columns.{columns, rows_of, corner_column}
 use Rattle.definition.specs.declared.Triangle.{Triangle}

@@ -1,6 +1,7 @@
 // The public call: the desk, then steps 1 to 9.
 // Carried over from mikktspace.rs (generate_tangent_space) of the Rust crate bevy_mikktspace and ALTERED: written anew in Rattle, over lists that are lent. See NOTICE.
 #![tactic(auto)]
+
 ghost use Rattle.std.specs.Prelude.{◌≡◌, ◌*◌, ◌≤◌, length};
 ghost use Rattle.std.proofs.Math.Option.{none};
 ghost use Rattle.definition.specs.Handed.{call, handed};

@@ -1,6 +1,7 @@
 // The side beyond each side: step 5 on the columns of the work list, by a sort and then a number of steps that is linear in the sides.
 // Carried over from mikktspace.rs (build_neighbors) of the Rust crate bevy_mikktspace and ALTERED: written anew in Rattle. See NOTICE.
 #![tactic(auto)]
+
 ghost use Rattle.std.specs.Prelude.{◌≡◌, List, [], ◌∷◌, ℕ, ◌*◌, ◌≤◌, ◌<◌, min, max, length};
 ghost use Rattle.table.specs.Columns.{columns, link_column};
 ghost use Rattle.lists.specs.Loops.{up_to};

@@ -1,6 +1,7 @@
 // Frames packed to 16 bits for the viewer, and back: the packer and the reader of request E5, over lent lists.
 // A number of 16 bits is a u16 in two's complement: -1 is 65535, -32,768 is 32768.
 #![tactic(auto)]
+
 ghost use Rattle.std.specs.Prelude.{◌≡◌, ◌+◌, ◌*◌, ◌^◌, ◌≤◌, ◌<◌, ◌++◌, length, get_or, drop};
 ghost use Rattle.std.proofs.lemmas.List.Edits.{sets};
 ghost use Rattle.tangent.specs.Slot.{slot_words};

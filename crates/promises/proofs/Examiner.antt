@@ -1,5 +1,5 @@
 -- Request E10: the promises of the examiner, and that our own lists are accepted. Assumes nothing.
-use Prim.Native.Nat.{ℕ, zero, suc, ◌+◌, ◌*◌, ◌≤◌}
+use Prim.Native.Nat.{ℕ, ◌*◌, ◌≤◌}
 use native.Mathlib.Omega.{arith}
 use mathlib.Core.Path.{◌≡◌, refl, sym, subst, ap, ◌∙◌}
 use mathlib.Core.Bool.{Bool, true, false, cond, not, ◌||◌, true≢false}
@@ -24,7 +24,6 @@ use Rattle.lists.specs.Lists.{first}
 use Rattle.definition.specs.Mesh.{corner_of}
 use Rattle.definition.specs.Handed.{Handed, corner_at, used, slots_of, slot_count}
 use Rattle.definition.specs.Desk.{not_finite, no_normal, Row, is_there, or_zero, too_many, misfit, table, verdict, shown}
-use Rattle.definition.specs.Step4Order.{sound, welded}
 use Rattle.laws.proofs.Laws.{some-triangle}
 use Rattle.laws.proofs.Weld.{welded-refl, welded-as, found_at}
 use Rattle.laws.proofs.Verdict.{verdict-numbered, fine, Numbered}
@@ -32,7 +31,7 @@ use Rattle.view.specs.Rows.{spot_row}
 use Rattle.view.specs.Weld.{Welds}
 use Rattle.grouped.specs.declared.MeshCounts.{MeshCounts}
 use Rattle.grouped.specs.Grouped.{LeftBySix}
-use Rattle.asked.specs.Lowest.{Verdict, accepted}
+use Rattle.asked.specs.Lowest.{accepted}
 use Rattle.asked.specs.Links.{Equal, LinksFit}
 use Rattle.asked.specs.Groups.{GroupsFit}
 use Rattle.asked.specs.Meaning.{LinksAccepted, GroupsAccepted, Same, any_of, way_of}
@@ -41,7 +40,6 @@ use Rattle.asked.proofs.Stages.{verdict-one, verdict-clear}
 use Rattle.asked.proofs.Fits.{clear-links, clear-groups, clear-long, all-clear}
 use Rattle.asked.proofs.Likes.{links-like, groups-like}
 use Rattle.asked.proofs.Bridge.{fit-accepted, accepted-fit, groups-accepted, accepted-groups}
-use Rattle.examine.specs.declared.Examined.{Examined}
 use Rattle.examine.specs.declared.Owned as outcome
 use Rattle.mikktspace.specs.Alone.{longest_answer as longest}
 use Rattle.examine.specs.Contract.{refusal, sound_of, too_short, Decided, HandedOut}

@@ -1,20 +1,20 @@
 -- What the columns hold is as request E10 asks, so that our own lists are accepted. Assumes nothing.
-use Prim.Native.Nat.{ℕ, zero, suc, ◌+◌, ◌*◌, ◌-◌, ◌/◌, ◌%◌, ◌≤◌, ◌<◌}
+use Prim.Native.Nat.{ℕ, zero, suc, ◌*◌, ◌-◌, ◌/◌, ◌%◌, ◌≤◌, ◌<◌}
 use native.Mathlib.Omega.{arith}
-use mathlib.Core.Path.{◌≡◌, refl, sym, subst, ap, ◌∙◌}
-use mathlib.Core.Bool.{Bool, true, false}
+use mathlib.Core.Path.{◌≡◌, sym, subst, ap, ◌∙◌}
+use mathlib.Core.Bool.{true, false}
 use mathlib.Core.List.{List}
 use lib.ListN.{get_or}
 use Rattle.table.specs.Table.{cell}
 use Rattle.lists.specs.Loops.{list_of}
 use Rattle.table.specs.Columns.{orientation_column, any_column, vertex_column, link_column, group_column, met_column, begin_column}
 use Rattle.lists.proofs.Loops.{get_or-list_of}
-use Rattle.definition.specs.Mesh.{Third, one, two, three, after as next-third, before as prior-third}
+use Rattle.definition.specs.Mesh.{Third, before as prior-third}
 use Rattle.neighbors.specs.Sides.{end_row}
-use Rattle.neighbors.proofs.Sided.{end_lt, end_is}
+use Rattle.neighbors.proofs.Sided.{end_lt}
 use Rattle.view.specs.Rows.{row, third}
 use Rattle.view.specs.Groups.{number_of}
-use Rattle.view.proofs.Rows.{row_is, tri-lt, row-div}
+use Rattle.view.proofs.Rows.{row_is, tri-lt}
 use Rattle.promises.specs.OwnColumns as own
 use Rattle.promises.specs.OwnColumns.{LinkWords, GroupWords, Besides, OwnWords}
 use Rattle.asked.specs.Links.{Equal, Leads, Opposed, LinksFit}

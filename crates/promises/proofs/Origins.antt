@@ -25,10 +25,10 @@ use Rattle.definition.specs.Desk.{at_desk}
 use Rattle.definition.specs.Outcome.{Result}
 use Rattle.definition.specs.Step4Order.{is_sound, sound}
 use Rattle.definition.specs.Step5Links.{links}
-use Rattle.definition.specs.Step6Groups.{Mark, marks}
+use Rattle.definition.specs.Step6Groups.{Mark}
 use Rattle.definition.specs.Step7Sums.{Brought, subgroup, bring, brought_all}
 use Rattle.definition.specs.Step8Slots.{put, reading}
-use Rattle.definition.specs.Triangles.{usable, triangles}
+use Rattle.definition.specs.Triangles.{usable}
 use Rattle.definition.specs.Names.{Names}
 use Rattle.definition.proofs.Lengths.{mesh-length}
 use Rattle.laws.proofs.Part.{every-keep, keep-map, keep-length}

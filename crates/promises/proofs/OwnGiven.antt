@@ -1,28 +1,25 @@
 -- Our own lists are the definition's, and the call for them has one outcome. Assumes nothing.
-use Prim.Native.Nat.{ℕ, zero, suc, ◌+◌, ◌*◌, ◌-◌, ◌/◌, ◌%◌, ◌≤◌, ◌<◌}
-use native.Mathlib.Nat.{le_antisymm}
+use Prim.Native.Nat.{ℕ, zero, suc, ◌+◌, ◌*◌, ◌/◌, ◌%◌, ◌≤◌, ◌<◌}
 use native.Mathlib.Omega.{arith}
 use mathlib.Core.Path.{◌≡◌, refl, sym, subst, ap, ◌∙◌}
 use mathlib.Core.Bool.{Bool, true, false, cond, not, true≢false}
 use mathlib.Core.List.{List, ◌++◌}
-use mathlib.Core.Option.{Option, none, some, some-injective, none-ne-some}
+use mathlib.Core.Option.{Option, none, some-injective, none-ne-some}
 use lib.Dec.{eqb}
-use lib.ListN.{length, get_or, take, drop, length-append}
+use lib.ListN.{length, get_or, take, drop}
 use lib.Seq.{sets, sets-eq, drop-append_seam}
 use borrow.Author.Tests.{eq-eqb, eqb-true, eqb-false}
 use Rattle.definition.specs.Frames.{triangles_of}
-use Rattle.tangent.specs.Slot.{flag}
 use Rattle.table.specs.Table.{cell}
 use Rattle.lists.specs.Loops.{list_of}
-use Rattle.table.specs.Columns.{rows_of, orientation_column, link_column, group_column, met_column, begin_column}
+use Rattle.table.specs.Columns.{rows_of, orientation_column, link_column, group_column, begin_column}
 use Rattle.lists.proofs.Loops.{length-list_of, get_or-list_of}
 use Rattle.definition.specs.declared.Triangle.{Triangle}
 use Rattle.definition.specs.Handed.{Handed, corner_at}
 use Rattle.definition.specs.Desk.{not_finite}
 use Rattle.definition.specs.Mesh.{Third, one, Spot, same_spot}
-use Rattle.definition.specs.Step4Order.{sound, broken}
 use Rattle.definition.specs.Step5Links.{links, beyond}
-use Rattle.definition.specs.Step6Groups.{Mark, marks, grouped, facing}
+use Rattle.definition.specs.Step6Groups.{Mark, marks, grouped}
 use Rattle.laws.proofs.Closed.{links-sound}
 use Rattle.laws.proofs.Laws.{mark, some-triangle}
 use Rattle.definition.specs.Names.{Names}
@@ -34,12 +31,10 @@ use Rattle.view.proofs.Rows.{row_is, tri-lt, row_lt, row-inj, at-inj}
 use Rattle.members.proofs.Ordering.{member_of}
 use Rattle.grouped.specs.Grouped.{Six}
 use Rattle.asked.proofs.Fits.{ordered}
-use Rattle.examine.specs.declared.Owned as outcome
 use Rattle.examine.specs.Contract.{refusal, sound_of, too_short, front, Withheld, HandedOut}
 use Rattle.examine.proofs.Columns.{grouped-fit}
 use Rattle.examine.proofs.Fronts.{front-take}
-use Rattle.examine.proofs.Results.{long-enough}
-use Rattle.promises.specs.Examiner.{Asking, Fetched, sound_in, group_number, Own, OwnGiven, OwnLists}
+use Rattle.promises.specs.Examiner.{Asking, Fetched, sound_in, group_number, OwnGiven, OwnLists}
 use Rattle.promises.proofs.OwnColumns.{same_row, linked-words}
 use Rattle.promises.proofs.Examiner.{either, given_out, good-mesh, long-lists, place_is}
 

@@ -10,7 +10,7 @@ use Rattle.lists.specs.Lists.{first, run}
 use Rattle.definition.specs.Desk.{at_desk}
 use Rattle.definition.specs.declared.Corner.{Corner}
 use Rattle.definition.specs.declared.Triangle.{Triangle}
-use Rattle.definition.specs.Mesh.{one, Spot, next, corner_of, same_triangle}
+use Rattle.definition.specs.Mesh.{Spot, next, corner_of, same_triangle}
 use Rattle.definition.specs.Frames.{numbered, triangles_of}
 use Rattle.definition.specs.Handed.{mesh_of}
 use Rattle.definition.specs.Triangles.{triangles}

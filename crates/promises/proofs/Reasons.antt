@@ -5,7 +5,7 @@ use mathlib.Core.Path.{◌≡◌, refl, sym, ◌∙◌, ap, subst}
 use mathlib.Core.Bool.{Bool, true, false, cond, ◌&&◌, true≢false}
 use mathlib.Core.List.Memᴰ
 use mathlib.Core.List.{List, [], ◌∷◌, Memᴰ}
-use mathlib.Core.Option.{Option, none, none-ne-some}
+use mathlib.Core.Option.{none, none-ne-some}
 use lib.Dec.{eqb}
 use lib.ListN.{length, get_or}
 use lib.Ieee.{Float}
@@ -26,7 +26,6 @@ use Rattle.definition.specs.Step4Order.{is_sound, sound, spots}
 use Rattle.definition.specs.Step5Links.{links}
 use Rattle.definition.specs.Step6Groups.{Mark, grouped}
 use Rattle.definition.specs.Step7Sums.{brought_all}
-use Rattle.definition.specs.Step8Slots.{reading}
 use Rattle.definition.specs.Step9Copies.{copied, nooks}
 use Rattle.bits.proofs.Bools.{and_left, and_right}
 use Rattle.definition.specs.Names.{Names}

@@ -2,13 +2,12 @@
 use Prim.Native.Nat.{ℕ, zero, suc, ◌+◌, ◌*◌, ◌-◌, ◌/◌, ◌≤◌, ◌<◌}
 use native.Mathlib.Omega.{arith}
 use mathlib.Core.Path.{◌≡◌, refl, sym, subst, ap, ◌∙◌}
-use mathlib.Core.Bool.{Bool, true, false, not, ◌&&◌, ◌||◌, cond, xor, beq, true≢false}
-use mathlib.Core.List.{List, [], ◌∷◌, map}
+use mathlib.Core.Bool.{Bool, true, false, not, ◌&&◌, ◌||◌, xor, beq, true≢false}
+use mathlib.Core.List.{List, [], ◌∷◌}
 use lib.Dec.{eqb, leb}
 use lib.ListN.{length, get_or, replicate}
 use lib.Ieee.{is_nan, add, sub, mul, div, neg, lt, le, eq, to_bits, of_bits, round, to_unsigned, to_signed, of_int, size, units}
 use borrow.Author.Tests.{eqb-true, eq-eqb, leb-true}
-use Rattle.bits.specs.Word.{number}
 use Rattle.bits.proofs.Bools.{and_left, and_right}
 use Rattle.lists.specs.Parts.{every_below}
 use Rattle.lists.proofs.Parts.{every-at}
@@ -31,12 +30,11 @@ use Rattle.neighbors.specs.Sides.{end_row}
 use Rattle.view.specs.Rows.{num, third, spot_row}
 use Rattle.view.proofs.Rows.{tri-lt}
 use Rattle.asked.specs.Links.{Equal, Leads, Opposed, LinksFit}
-use Rattle.asked.specs.Groups.{Together, GroupsFit}
+use Rattle.asked.specs.Groups.{GroupsFit}
 use Rattle.asked.specs.Meaning.{Same, any_of, way_of}
 use Rattle.asked.proofs.Likes.{links-like}
 use Rattle.asked.proofs.Bridge.{fit-accepted, groups-accepted}
-use Rattle.examine.specs.Contract.{sound_of}
-use Rattle.promises.specs.Small.{one, up}
+use Rattle.promises.specs.Small.{up}
 use Rattle.promises.specs.Examiner.{sound_in, Sound}
 use Rattle.promises.specs.ThreeSides.{three_sides, linked_by, with_first, with_second, Promised}
 

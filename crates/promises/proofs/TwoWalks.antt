@@ -1,5 +1,4 @@
 -- Request E8's sentence, from the contracts of the two walks. Assumes nothing.
-use Prim.Native.Nat.{ℕ}
 use mathlib.Core.Path.{sym}
 use Rattle.table.specs.Columns.{rows_of}
 use lib.ListN.{length}
@@ -11,7 +10,7 @@ use Rattle.laws.proofs.Closed.{links-sound}
 use Rattle.laws.proofs.Laws.{some-triangle}
 use Rattle.grouped.proofs.Grouped.{asked}
 use Rattle.flat.proofs.Same as same
-use Rattle.promises.specs.TwoWalks.{Promised, SameMembers, SameWords}
+use Rattle.promises.specs.TwoWalks.{Promised, SameWords}
 
 pub same_members : Promised
 unfolding Promised

@@ -1,5 +1,5 @@
 -- Request E10: 'Being accepted doesn't mean being equal to ours, because where three sides meet several pairings may be sound.' An example. Definitions only.
-use Rattle.std.specs.Prelude.{ℕ, ◌≡◌, List, [], ◌∷◌, map, replicate}
+use Rattle.std.specs.Prelude.{ℕ, List, [], ◌∷◌, map, replicate}
 use Rattle.bits.specs.Word.{number}
 use Rattle.definition.specs.declared.Triangle.{Triangle}
 use Rattle.definition.specs.Handed.{Handed}

@@ -1,7 +1,7 @@
 -- Bytes that are stored one after another, from those that stood there. Assumes nothing.
 use Prim.Native.Nat.{ℕ, ◌≤◌}
 use native.Mathlib.Omega.{arith}
-use mathlib.Core.Path.{◌≡◌, sym, ◌∙◌, ap}
+use mathlib.Core.Path.{◌≡◌, ◌∙◌, ap}
 use mathlib.Core.List.{List, ◌++◌}
 use lib.ListN.{length, get_or, drop}
 use lib.Seq.{get_or-append-add, get_or-drop}

@@ -13,7 +13,6 @@ use Rattle.tangent.specs.Space.{reached}
 use Rattle.tangent.specs.Held.{HeldReading, absent}
 use Rattle.tangent.proofs.Held.{zero_held}
 use Rattle.definition.specs.declared.Corner.{Corner}
-use Rattle.definition.specs.declared.Kept.{Kept}
 use Rattle.lists.specs.Lists.{keep, run}
 use Rattle.lists.specs.Every.{Every, every_nil, every_cons}
 use Rattle.definition.specs.Mesh.{Face}

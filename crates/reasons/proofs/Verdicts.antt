@@ -5,7 +5,7 @@ use mathlib.Core.Path.{◌≡◌, refl, sym, ap, ◌∙◌}
 use mathlib.Core.Bool.{Bool, true}
 use mathlib.Core.List.{List, ◌++◌}
 use mathlib.Core.Option.{Option, none, some}
-use lib.ListN.{length, get_or, drop, replicate, length-append, length-drop, get_or-append}
+use lib.ListN.{length, get_or, drop, length-append, length-drop, get_or-append}
 use lib.Ieee.{Float}
 use lib.Seq.{drop_at}
 use Rattle.lists.specs.Loops.{list_of}
@@ -13,7 +13,6 @@ use Rattle.lists.proofs.Loops.{length-list_of}
 use Rattle.tangent.specs.Slot.{slot_words}
 use Rattle.table.specs.Columns.{columns, rows_of}
 use Rattle.definition.specs.Handed.{Handed, call, mesh_of, slot_count}
-use Rattle.definition.specs.Limits.{work_words}
 use Rattle.definition.specs.Desk.{Row}
 use Rattle.definition.specs.Frames.{frames}
 use Rattle.definition.specs.Outcome.{answer_words, accepted}

@@ -1,13 +1,13 @@
 -- The trial, from what its steps leave to the definition's readings. Assumes nothing.
 use Prim.Native.Nat.{ℕ, ◌*◌, ◌≤◌}
 use native.Mathlib.Omega.{arith}
-use mathlib.Core.Path.{◌≡◌, refl, sym, ap, ◌∙◌, subst}
+use mathlib.Core.Path.{◌≡◌, sym, ◌∙◌}
 use mathlib.Core.List.{List, ◌++◌}
 use mathlib.Core.Option.{none}
 use lib.ListN.{length, get_or, drop, length-append}
 use Rattle.lists.specs.Parts.{joined}
 use Rattle.tangent.specs.Slot.{slot_words}
-use Rattle.table.specs.Columns.{columns, rows_of}
+use Rattle.table.specs.Columns.{rows_of}
 use Rattle.definition.proofs.Lengths.{mesh-length}
 use Rattle.definition.specs.declared.Triangle.{Triangle}
 use Rattle.definition.specs.Handed.{mesh_of, Handed, corner_at, slot_count}

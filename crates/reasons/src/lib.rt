@@ -2,6 +2,7 @@
 // A trial tells them apart: step 9 over an answer list in which every slot has a frame. A slot that has none afterwards had nothing to copy; one
 // that has a copy copies; any other is a sound triangle's own.
 #![tactic(auto)]
+
 ghost use Rattle.std.specs.Prelude.{◌≡◌, ◌++◌, ◌+◌, ◌*◌, ◌≤◌, length, get_or, drop};
 ghost use Rattle.std.proofs.Math.Option.{none};
 ghost use Rattle.lists.specs.Loops.{list_of};

@@ -2,6 +2,7 @@
 // Carried over from mikktspace.rs (TriangleInfo) of the Rust crate bevy_mikktspace and ALTERED: written anew in Rattle, over columns. See NOTICE.
 // Columns 2 to 9 of crate `table`. Read elsewhere as well: ORIENTATION, which step 6 alters, and ANY in `groups`, `flat` and `fellows`; ORIENTATION in `spaces` and `examine`.
 #![tactic(auto)]
+
 ghost use Rattle.std.specs.Prelude.{◌≡◌, [], ◌∷◌, ◌+◌, ◌*◌, ◌<◌, ◌≤◌, eqb, length, get_or};
 ghost use Rattle.std.proofs.lemmas.List.Edits.{sets};
 ghost use Rattle.bits.specs.Word.{number};

@@ -1,5 +1,6 @@
 // Runs the meshes of standard input through the public call and compares every word of what comes back with the oracle's: number, place, slots, the answer list and the work list, the words that the call must leave alone among them.
 #![tactic(auto)]
+
 mod tally;
 mod text;
 

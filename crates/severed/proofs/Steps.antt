@@ -1,11 +1,11 @@
 -- The steps of the walk in the columns. Assumes nothing.
-use Prim.Native.Nat.{ℕ, zero, suc, ◌+◌, ◌*◌, ◌-◌, ◌≤◌, ◌<◌}
+use Prim.Native.Nat.{ℕ, ◌+◌, ◌*◌, ◌-◌, ◌≤◌, ◌<◌}
 use native.Mathlib.Nat.{le_antisymm}
 use native.Mathlib.Omega.{arith}
 use mathlib.Core.Path.{◌≡◌, refl, sym, subst, ap, ◌∙◌}
 use mathlib.Core.Bool.{Bool, true, false, true≢false}
 use mathlib.Core.List.{List, [], ◌∷◌}
-use lib.ListN.{length, get_or, set}
+use lib.ListN.{length, get_or}
 use lib.Seq.{get_or-set_same, get_or-set_other}
 use Rattle.table.specs.Table.{cell, put, column, filled_to}
 use Rattle.table.specs.Columns.{columns, next_column, head_column}
@@ -15,15 +15,13 @@ use Rattle.lists.specs.Loops.{list_of}
 use Rattle.view.specs.Frame.{Only}
 use Rattle.view.proofs.Frame.{cell-kept, only-run}
 use Rattle.neighbors.specs.Sides.{end_row}
-use Rattle.asked.specs.Lowest.{None, Lowest}
-use Rattle.asked.specs.Links.{Equal, Leads, LinksFit, Wide}
+use Rattle.asked.specs.Lowest.{Lowest}
+use Rattle.asked.specs.Links.{Equal, LinksFit}
 use Rattle.asked.specs.Groups.{group_word, Together, Connected, Way, after, before, Severed}
 use Rattle.lists.specs.Zeros.{zeros}
 use Rattle.lists.proofs.Zeros.{zeros-set}
-use Rattle.severed.specs.Walk.{Adds, NextIs, Going, Walked, Marked, WayTo, Still, GoingIn, Goes, WalksGroup, Firsts, WalksTo, TurnsAt, unmarked}
-use Rattle.asked.proofs.Rows.{not-lt}
-use Rattle.asked.proofs.Fits.{same-unless}
-use Rattle.asked.proofs.Ways.{end-one, way-one, together-back}
+use Rattle.severed.specs.Walk.{Adds, NextIs, Marked, WayTo, Still, Goes, WalksGroup, Firsts, WalksTo, TurnsAt, unmarked}
+use Rattle.asked.proofs.Ways.{end-one, way-one}
 use Rattle.severed.proofs.Walks.{going_on, going-first, going-back, walked_none, walked_more, walked-pass, walked-severed, walked_all, connected-none}
 
 -- ---- where a way leads

@@ -1,5 +1,5 @@
 -- The walk round a corner that finds out whether a group is connected: first one way from its lowest row, then the other. M: the corner at a row is marked. Definitions only.
-use Rattle.std.specs.Prelude.{ℕ, zero, suc, ◌+◌, ◌*◌, ◌≤◌, ◌<◌, ◌≡◌, Bool, true, false, not, List, [], ◌∷◌}
+use Rattle.std.specs.Prelude.{ℕ, ◌+◌, ◌*◌, ◌≤◌, ◌<◌, ◌≡◌, Bool, true, false, not, List}
 use Rattle.lists.specs.Zeros.{zeros}
 use Rattle.table.specs.Table.{cell, column}
 use Rattle.table.specs.Columns.{next_column, head_column}

@@ -1,6 +1,7 @@
 // Whether each group of corners is connected over linked sides that end in its corner (request E10): objection 12. Round one corner each member has at most two ways on, so that a group is a path or a ring,
 // and a walk one way from its first member and then the other meets all that chains lead to: no stack.
 #![tactic(auto)]
+
 ghost use Rattle.std.specs.Prelude.{◌≡◌, true, false, [], ◌∷◌, ℕ, ◌*◌, ◌≤◌, ◌<◌, length, get_or};
 ghost use Rattle.table.specs.Columns.{columns, next_column, head_column};
 ghost use Rattle.table.specs.Table.{cell, put};

@@ -10,7 +10,7 @@ use borrow.Author.Tests.{lt-ltb, le-ltb}
 use Rattle.tangent.specs.Slot.{slot_words}
 use Rattle.lists.specs.Loops.{list_of}
 use Rattle.lists.proofs.Loops.{length-list_of, get_or-list_of}
-use Rattle.slots.specs.Slots.{words_at, written_at, copy_at, copied_at}
+use Rattle.slots.specs.Slots.{written_at, copy_at, copied_at}
 
 -- n words from place p on
 pub run-read : (n p : ℕ) (a : List ℕ) → p + n ≤ length a → list_of n (λ i. get_or a (p + i) 0) ≡ take n (drop p a)

@@ -19,7 +19,7 @@ use Rattle.slots.specs.Slots.{reached_at}
 use Rattle.members.specs.Members.{begin_of}
 use Rattle.members.proofs.Ordering.{begin-kept}
 use Rattle.subgroups.specs.Subgroups.{Ranged}
-use Rattle.subgroups.specs.Spans.{Whole, summed}
+use Rattle.subgroups.specs.Spans.{Whole}
 use Rattle.subgroups.proofs.Laws.{value-kept}
 use Rattle.subgroups.proofs.Spans.{whole-value}
 use Rattle.spaces.specs.Spaces.{reach_row, reach_group, reach_with, reach_whole}

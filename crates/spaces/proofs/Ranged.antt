@@ -1,17 +1,15 @@
 -- Where the columns stand for the groups, every member is a row, as met and in triangle order. Assumes nothing.
-use Prim.Native.Nat.{ℕ, suc, ◌+◌, ◌-◌, ◌*◌, ◌≤◌, ◌<◌}
+use Prim.Native.Nat.{ℕ, ◌+◌, ◌-◌, ◌*◌, ◌≤◌, ◌<◌}
 use native.Mathlib.Omega.{arith}
-use mathlib.Core.Path.{◌≡◌, refl, sym, ap, ◌∙◌, subst}
+use mathlib.Core.Path.{◌≡◌, sym, ap, ◌∙◌, subst}
 use mathlib.Core.List.{List}
 use lib.Dec.{eqb}
 use lib.ListN.{length, get_or}
 use lib.Seq.{slice, length-slice}
 use Rattle.table.specs.Table.{cell, column}
-use Rattle.lists.specs.Loops.{list_of}
 use Rattle.table.specs.Columns.{columns, group_column, met_column, order_column}
 use Rattle.table.proofs.Laws.{length-column, get_or-column}
 use Rattle.definition.specs.declared.Triangle.{Triangle}
-use Rattle.lists.specs.Lists.{keep}
 use Rattle.definition.specs.Step6Groups.{Mark}
 use Rattle.lists.specs.Every.{Every}
 use Rattle.laws.proofs.Part.{every-keep}

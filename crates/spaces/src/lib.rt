@@ -1,6 +1,7 @@
 // Steps 7 and 8: groups in the order they started, members as they were met; each brings its subgroup's sum to its slot.
 // Carried over from mikktspace.rs (generate_tangent_spaces) of the Rust crate bevy_mikktspace and ALTERED: written anew in Rattle, over columns. See NOTICE.
 #![tactic(auto)]
+
 ghost use Rattle.std.specs.Prelude.{◌≡◌, [], ◌∷◌, ◌+◌, ◌-◌, ◌*◌, ◌<◌, ◌≤◌, length};
 ghost use Rattle.table.specs.Columns.{columns, joined_column};
 ghost use Rattle.view.specs.Frame.{Only};

@@ -1,5 +1,5 @@
 -- Where the hulls of a group pass the test, its members all join one another, and each brings the one sum. Assumes nothing.
-use Prim.Native.Nat.{ℕ, zero, suc, ◌+◌, ◌*◌, ◌/◌, ◌≤◌, ◌<◌}
+use Prim.Native.Nat.{ℕ, zero, suc, ◌+◌, ◌*◌, ◌/◌, ◌<◌}
 use native.Mathlib.Nat.{eq-or-lt_of_le, le_of_suc-le-suc}
 use native.Mathlib.Omega.{arith}
 use mathlib.Core.Path.{◌≡◌, refl, sym, ap, ◌∙◌, subst}
@@ -7,17 +7,15 @@ use mathlib.Core.Logic.{inl, inr}
 use mathlib.Core.Bool.{Bool, true, false, cond, true≢false}
 use mathlib.Core.List.{List}
 use lib.Dec.{eqb}
-use lib.Ieee as Ieee
 use lib.Ieee.{Float}
-use Rattle.math.specs.Vector.{dot}
 use Rattle.lists.specs.Loops.{up_to}
 use Rattle.table.specs.Table.{cell}
 use Rattle.table.specs.Columns.{any_column, name_column, met_column, order_column}
 use Rattle.lists.proofs.Loops.{up_to-same}
 use Rattle.definition.specs.Step7Sums.{empty_sum, finish}
 use Rattle.view.specs.Contributions.{s_at, t_at}
-use Rattle.hulls.specs.Hull.{nothing, widened, above}
-use Rattle.hulls.proofs.Covers.{Covers, Wider, Regular, wider-covers, wider-regular, widened-law, above-law, above-regular}
+use Rattle.hulls.specs.Hull.{widened, above}
+use Rattle.hulls.proofs.Covers.{Covers, Regular, wider-covers, wider-regular, widened-law, above-law, above-regular}
 use Rattle.subgroups.specs.declared.Span.{Span}
 use Rattle.subgroups.specs.Subgroups.{peer_at, joins_by, joins_at, add_row, add_joined, value_of}
 use Rattle.subgroups.specs.Spans.{absorbed, absorbed_at, span_of, Whole, summed}

@@ -1,5 +1,5 @@
 -- A group whose members all join one another: the hulls of their directions, and the one sum. Definitions only.
-use Rattle.std.specs.Prelude.{ℕ, ◌+◌, ◌*◌, ◌/◌, ◌<◌, ◌≡◌, Bool, true, cond, List, eqb, Float}
+use Rattle.std.specs.Prelude.{ℕ, ◌+◌, ◌/◌, ◌<◌, ◌≡◌, true, cond, List, eqb, Float}
 use Rattle.tangent.specs.declared.Evaluated.{Evaluated}
 use Rattle.lists.specs.Loops.{up_to}
 use Rattle.table.specs.Table.{cell}

@@ -2,6 +2,7 @@
 // Carried over from mikktspace.rs (generate_tangent_spaces, evaluate_tangent_space) of the Rust crate bevy_mikktspace and ALTERED: written anew in Rattle, over columns. See NOTICE.
 // A pair of members costs two dot products and two comparisons; a sum is worked out again only where the subgroup is another than that of the member before.
 #![tactic(auto)]
+
 ghost use Rattle.std.specs.Prelude.{◌≡◌, true, [], ◌∷◌, ◌-◌, ◌*◌, ◌<◌, ◌≤◌, length};
 ghost use Rattle.table.specs.Columns.{columns, met_column, order_column, joined_column};
 ghost use Rattle.table.specs.Table.{cell, put};

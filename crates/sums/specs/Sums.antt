@@ -1,5 +1,5 @@
 -- Step 7 with directions that are projected already. Definitions only.
-use Rattle.std.specs.Prelude.{Bool, cond, ◌&&◌, Float}
+use Rattle.std.specs.Prelude.{cond, Float}
 use Rattle.std.specs.Float.Ieee as Ieee
 use Rattle.bits.specs.Single.{◌+ᶠ◌, ◌*ᶠ◌, ◌/ᶠ◌, zeroᶠ}
 use Rattle.angle.specs.Angle.{angle}

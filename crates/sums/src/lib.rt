@@ -1,6 +1,7 @@
 // Step 7 by value: a direction projected, the angle at a corner, one contribution, and the sum made a tangent space.
 // Carried over from mikktspace.rs (generate_tangent_spaces, evaluate_tangent_space) of the Rust crate bevy_mikktspace and ALTERED: written anew in Rattle. See NOTICE.
 #![tactic(auto)]
+
 ghost use Rattle.std.specs.Prelude.{◌≡◌};
 ghost use Rattle.angle.specs.Table.{cosines};
 ghost use Rattle.definition.specs.Step7Sums as step7;

@@ -4,9 +4,9 @@ use mathlib.Core.Bool.{Bool, true, false, cond}
 use mathlib.Core.List.{List, [], ◌∷◌, ◌++◌, append-nil}
 use mathlib.Core.Logic.{◌⊎◌, inl, inr, ⊎_elim}
 use Prim.Native.Nat.{ℕ, zero, suc, ◌+◌, ◌*◌, ◌-◌, ◌≤◌, ◌<◌}
-use native.Mathlib.Nat.{suc-mul, mul-le-mul_right, add-zero, add-suc, suc-add, le_of_lt}
+use native.Mathlib.Nat.{suc-mul, mul-le-mul_right, add-zero, add-suc, suc-add}
 use native.Mathlib.Omega.{arith}
-use lib.ListN.{length, take, drop, get_or, set, replicate, length-drop, length-set, get_or-append}
+use lib.ListN.{length, take, drop, get_or, set, replicate, length-drop, get_or-append}
 use lib.Seq.{length-take-le, get_or-take, get_or-drop, drop-set-add, drop-set-lt, take-set-lt, take-set-le, sets, sets-eq, length-sets, drop-length}
 use lib.Arith.{lt_of_le-ne}
 use Rattle.lists.specs.Loops.{list_of}

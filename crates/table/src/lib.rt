@@ -1,6 +1,7 @@
 // The lent work list seen as a table: COLUMNS columns of 6F rows, since a face gives at most two triangles, six corners.
 // The cell of a column at a row is word column * rows + row. Each column has its name here and in specs/Columns.antt.
 #![tactic(auto)]
+
 ghost use Rattle.std.specs.Prelude.{◌≡◌, ◌*◌, ◌≤◌, ◌<◌, ◌++◌, length, drop, replicate};
 ghost use Rattle.table.specs.Columns.{columns};
 ghost use Rattle.table.specs.Table.{filled_to};

@@ -10,13 +10,12 @@ use Rattle.bits.proofs.Back.{number_word}
 use Rattle.math.specs.declared.Vec3.{Vec3}
 use Rattle.math.specs.Held.{HeldVec}
 use Rattle.bits.specs.Word.{word}
-use Rattle.tangent.specs.declared.RawTangentSpace.{RawTangentSpace}
 use Rattle.tangent.specs.declared.Reading.{Reading}
 use Rattle.tangent.specs.declared.Evaluated.{Evaluated}
 use Rattle.tangent.specs.declared.Reading.TheVariants.{Absent, Single, Combined, Copied, Filled}
-use Rattle.tangent.specs.Space.{reached, copy_of}
+use Rattle.tangent.specs.Space.{reached}
 use Rattle.tangent.specs.Slot.{slot_words, flag, ten_words, present, words, vector_of, space_of, of_origin, reading_of}
-use Rattle.tangent.specs.Held.{HeldSpace, HeldReading, absent, single, combined, copied, filled}
+use Rattle.tangent.specs.Held.{HeldSpace, HeldReading, single, combined, copied, filled}
 
 pub words-length : (r : Reading) → length (words r) ≡ slot_words
 unfolding words present ten_words

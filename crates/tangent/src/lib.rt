@@ -1,6 +1,7 @@
 // A corner's tangent space, its reading, and a slot's twelve words.
 // Carried over from mikktspace/raw_tangent_space.rs of the Rust crate bevy_mikktspace and ALTERED: written anew in Rattle; readings and words are added. See NOTICE.
 #![tactic(auto)]
+
 ghost use Rattle.std.specs.Prelude.{◌≡◌};
 ghost use Rattle.tangent.specs.Slot as slot;
 ghost use Rattle.tangent.specs.Space as spec;

@@ -1,6 +1,7 @@
 // Steps 1 to 3 of one face, by value: the cut of a quad, degenerate triangles, first-order tangents and orientation.
 // Carried over from mikktspace.rs (generate_triangle_info_list, calculate_texture_area) of the Rust crate bevy_mikktspace and ALTERED: written anew in Rattle, with document 01's root. See NOTICE.
 #![tactic(auto)]
+
 ghost use Rattle.std.specs.Prelude.{◌≡◌, List, [], ◌∷◌};
 ghost use Rattle.definition.specs.Step1Cut as cut;
 ghost use Rattle.definition.specs.Step2Degenerate as degenerate;

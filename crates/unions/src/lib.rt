@@ -1,5 +1,6 @@
 // Numbers that are joined, as a list of parents: the parent of each number is itself or a lower one.
 #![tactic(auto)]
+
 ghost use Rattle.std.specs.Prelude.{◌≡◌, ◌+◌, ◌*◌, ◌<◌, ◌≤◌, length};
 ghost use Rattle.unions.specs.Unions as spec;
 

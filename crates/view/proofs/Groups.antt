@@ -17,7 +17,7 @@ use Rattle.definition.specs.Mesh.{Third, one, two, three}
 use Rattle.definition.specs.Step6Groups.{Mark}
 use Rattle.view.specs.Frame.{outside, disjoint, Only}
 use Rattle.view.specs.Rows.{row}
-use Rattle.view.specs.Groups.{number_of, Member, Grouping, begin_at, InOrder}
+use Rattle.view.specs.Groups.{number_of, Grouping, begin_at, InOrder}
 use Rattle.view.proofs.Frame.{apart, cell-kept}
 use Rattle.laws.proofs.Part.{keep_same}
 use Rattle.view.proofs.Lists.{index-every}

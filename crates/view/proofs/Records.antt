@@ -22,7 +22,7 @@ use Rattle.definition.specs.Mesh.{Third, one, two, three, kept, corner_of}
 use Rattle.definition.specs.Handed.{Handed, vector_at, corner_at, slot_count}
 use Rattle.view.specs.Frame.{outside, Only, disjoint}
 use Rattle.view.specs.Rows.{num, row, spot_at}
-use Rattle.view.specs.Records.{three_words, numbers, three_of, lengths, names, Stored, Held, record_columns, Told, Tells, told_columns, Cornered, Reads}
+use Rattle.view.specs.Records.{three_words, numbers, three_of, Stored, Held, record_columns, Told, told_columns, Cornered, Reads}
 use Rattle.view.proofs.Frame.{apart, cell-kept}
 use Rattle.view.proofs.Rows.{num-lt}
 

@@ -4,7 +4,7 @@ use native.Mathlib.Nat.{mul-add-div, div-eq_of_lt, add-zero, div-add-mod, mod-lt
 use native.Mathlib.Omega.{arith}
 use mathlib.Core.Path.{◌≡◌, refl, sym, ◌∙◌, ap}
 use mathlib.Core.Bool.{Bool, true, false, ◌&&◌}
-use mathlib.Core.List.{List, [], ◌∷◌, ◌++◌, map, Memᴰ}
+use mathlib.Core.List.{List, [], ◌∷◌, map, Memᴰ}
 use lib.Dec.{eqb}
 use lib.ListN.{length, get_or, length-map, get_or-map}
 use lib.Seq.{ext_get_or}
@@ -12,7 +12,7 @@ use borrow.Author.Tests.{eq-eqb, ne_eqb, eqb-true, eqb-false}
 use Rattle.lists.specs.Loops.{list_of}
 use Rattle.lists.proofs.Loops.{length-list_of, get_or-list_of}
 use Rattle.definition.specs.declared.Triangle.{Triangle}
-use Rattle.definition.specs.Mesh.{Third, one, two, three, Spot, after, same_third, same_spot}
+use Rattle.definition.specs.Mesh.{Third, one, two, three, Spot, same_third, same_spot}
 use Rattle.definition.specs.Step4Order.{spots}
 use Rattle.definition.specs.Names.{Names}
 use Rattle.laws.proofs.Bridge.{index_same}

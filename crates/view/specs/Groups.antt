@@ -1,5 +1,5 @@
 -- The columns of groups: step 6. Definitions only.
-use Rattle.std.specs.Prelude.{ℕ, ◌+◌, ◌*◌, ◌≤◌, ◌<◌, ◌≡◌, Bool, cond, not, ◌||◌, List, eqb, leb, ltb, length, get_or}
+use Rattle.std.specs.Prelude.{ℕ, ◌+◌, ◌*◌, ◌≤◌, ◌<◌, ◌≡◌, cond, not, ◌||◌, List, eqb, leb, ltb, length, get_or}
 use Rattle.std.proofs.Math.Seq.{slice}
 use Rattle.tangent.specs.Slot.{flag}
 use Rattle.table.specs.Table.{cell, column}

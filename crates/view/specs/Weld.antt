@@ -3,7 +3,7 @@ use Rattle.std.specs.Prelude.{ℕ, ◌<◌, ◌≡◌, Bool, true, false, List, 
 use Rattle.table.specs.Table.{cell}
 use Rattle.table.specs.Columns.{vertex_column}
 use Rattle.definition.specs.declared.Triangle.{Triangle}
-use Rattle.definition.specs.Mesh.{Third, Spot, after, corner_of}
+use Rattle.definition.specs.Mesh.{Third, after, corner_of}
 use Rattle.definition.specs.Step4Order.{welded}
 use Rattle.view.specs.Rows.{row, spot_at, spot_row}
 

@@ -2,6 +2,7 @@
 // Carried over from mikktspace/weld_vertices.rs of the Rust crate bevy_mikktspace and ALTERED: written anew in Rattle, by buckets. See NOTICE.
 // Each corner is compared with those of its bucket; on a mesh whose corners all fall into one bucket that is every corner with every other.
 #![tactic(auto)]
+
 ghost use Rattle.std.specs.Prelude.{◌≡◌, List, ℕ, ◌+◌, ◌*◌, ◌<◌, ◌≤◌, length};
 ghost use Rattle.bits.specs.Word.{word};
 ghost use Rattle.table.specs.Columns.{columns, corner_column, next_column};

@@ -1,5 +1,6 @@
 // A verdict on every slot of an answer: whether it is absent, lost, or a frame, and whether that frame has two directions that can be packed.
 #![tactic(auto)]
+
 ghost use Rattle.std.specs.Prelude.{◌≡◌, ◌*◌, ◌≤◌, cond, ◌++◌, length, get_or, drop, eqb};
 ghost use Rattle.tangent.specs.Slot.{slot_words};
 ghost use Rattle.packed.specs.Component.{within};

@@ -1,5 +1,5 @@
 -- `angle::raised` meets its contract. The invariant: the entry at k is at least u. Assumes nothing.
-use Rattle.std.proofs.Common.{ℕ, ◌-◌, ◌<◌, ◌≤◌, ap, ◌∙◌, subst, not-le_of_lt, add-one, arith}
+use Rattle.std.proofs.Common.{ℕ, ◌<◌, ◌≤◌, ap, ◌∙◌, subst, not-le_of_lt, add-one, arith}
 use Rattle.angle.proofs.Entries.{C, found}
 use Rattle.angle.proofs.raised.Goals as goal
 

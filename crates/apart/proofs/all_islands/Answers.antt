@@ -1,5 +1,4 @@
 -- Proof that `all_islands` meets its contract. The invariant: the islands below t are done. Assumes nothing.
-use Prim.Native.Nat.{◌-◌}
 use native.Mathlib.Omega.{arith}
 use mathlib.Core.Path.{◌≡◌, refl, ◌∙◌, subst}
 use lib.ListN.{length}

@@ -1,5 +1,5 @@
 -- Proof that `link_faces` meets its contract. The invariant: the faces from i on are linked. Assumes nothing.
-use Prim.Native.Nat.{◌*◌, ◌-◌, ◌≤◌}
+use Prim.Native.Nat.{◌*◌, ◌≤◌}
 use Rattle.apart.specs.Lists.{Past}
 use Rattle.apart.specs.Order.{Linked, label_at}
 use Rattle.apart.proofs.link_faces.Given as goal

@@ -1,5 +1,4 @@
 -- Proof that `scatter` meets its contract. The invariant: the words of the island's faces below f are in their places. Assumes nothing.
-use Prim.Native.Nat.{◌-◌}
 use native.Mathlib.Omega.{arith}
 use Rattle.apart.proofs.Putting.{slots-few, walks-none, put_all, safe, walks_more}
 use Rattle.apart.proofs.scatter.Goals as goal

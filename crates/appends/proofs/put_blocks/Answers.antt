@@ -1,6 +1,6 @@
 -- `appends::put_blocks` meets its contract. Assumes nothing.
 use native.Mathlib.Omega.{arith}
-use Prim.Native.Nat.{◌+◌, ◌*◌, ◌-◌, ◌<◌}
+use Prim.Native.Nat.{◌+◌, ◌*◌, ◌<◌}
 use native.Mathlib.Nat.{le_antisymm}
 use mathlib.Core.Path.{refl, ◌∙◌}
 use Rattle.lists.specs.Parts.{part}

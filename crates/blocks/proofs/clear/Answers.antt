@@ -1,6 +1,6 @@
 -- `blocks::clear` meets its contract. Assumes nothing.
 use native.Mathlib.Omega.{arith}
-use Prim.Native.Nat.{◌+◌, ◌-◌}
+use Prim.Native.Nat.{◌+◌}
 use mathlib.Core.Path.{refl, sym, ◌∙◌, ap}
 use lib.ListN.{set, replicate, length-set}
 use lib.Seq.{sets, take_all}

@@ -9,7 +9,7 @@ use lib.ListN.{get_or}
 use Rattle.blocks.specs.Format.{block_words, header_words, room_words}
 use Rattle.lists.specs.Parts.{every_below}
 use Rattle.words.specs.Words.{word_at}
-use Rattle.blocks.specs.Judged.{headed, records_marked, emptied, checked, block_at}
+use Rattle.blocks.specs.Judged.{headed, records_marked, emptied, block_at}
 use Rattle.blocks.proofs.Judged.{headed-words, marked-words, emptied-words, good_none, bad-header, bad-mark, bad-rest, by-sum}
 use Rattle.blocks.proofs.good.Goals as goal
 use Rattle.blocks.proofs.good.Tie as tie

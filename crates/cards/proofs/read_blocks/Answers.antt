@@ -1,6 +1,6 @@
 -- `cards::read_blocks` meets its contract. Assumes nothing.
 use native.Mathlib.Omega.{arith}
-use Prim.Native.Nat.{◌*◌, ◌-◌}
+use Prim.Native.Nat.{◌*◌}
 use native.Mathlib.Nat.{le_antisymm}
 use mathlib.Core.Path.{refl, ◌∙◌}
 use Rattle.words.proofs.Stores.{joined-none, joined-stored, joined-front}

@@ -1,5 +1,4 @@
 -- `contributions::contribute_all` meets its contract. Assumes nothing.
-use Prim.Native.Nat.{◌-◌}
 use native.Mathlib.Nat.{le_antisymm}
 use native.Mathlib.Omega.{arith}
 use Rattle.contributions.proofs.Laws.{none_done, one_more}

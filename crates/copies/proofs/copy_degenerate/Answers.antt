@@ -1,5 +1,4 @@
 -- `copies::copy_degenerate` meets its contract. The invariant: the triangles before number t have copied. Assumes nothing.
-use Prim.Native.Nat.{◌-◌}
 use native.Mathlib.Nat.{le_antisymm}
 use native.Mathlib.Omega.{arith}
 use mathlib.Core.Path.{refl, ◌∙◌}

@@ -1,6 +1,5 @@
 -- `copies::copy_missing` meets its contract. Assumes nothing.
 use native.Mathlib.Omega.{arith}
-use borrow.Author.Tests.{not-true, not-false}
 use Rattle.copies.proofs.Words.{missed-same, missing-unmarked, missing-copied}
 use Rattle.copies.proofs.copy_missing.Goals as goal
 

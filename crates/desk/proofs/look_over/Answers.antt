@@ -1,5 +1,5 @@
 -- `desk::look_over` meets its contract. The invariant: the sums are those of the faces passed, and what was found, or else is found in the faces that are left, is what all of them give, for each of the two tests. Assumes nothing.
-use Prim.Native.Nat.{◌+◌, ◌-◌}
+use Prim.Native.Nat.{◌+◌}
 use native.Mathlib.Omega.{arith}
 use mathlib.Core.Path.{◌≡◌, sym, ap, ◌∙◌}
 use lib.ListN.{take}

@@ -1,5 +1,4 @@
 -- `examiner::first_crooked` meets its contract. Assumes nothing.
-use Prim.Native.Nat.{◌-◌}
 use native.Mathlib.Omega.{arith}
 use Rattle.asked.proofs.Rows.{not-lt, none-zero, none_more, lowest-here, lowest-end}
 use Rattle.examiner.proofs.first_crooked.Goals as goal

@@ -1,5 +1,4 @@
 -- `examiner::first_wide` meets its contract. Assumes nothing.
-use Prim.Native.Nat.{◌-◌}
 use native.Mathlib.Omega.{arith}
 use Rattle.asked.proofs.Rows.{none-zero, none_more, lowest-here, lowest-end}
 use Rattle.examiner.proofs.first_wide.Goals as goal

@@ -1,5 +1,4 @@
 -- `examiner::scan_all` meets its contract. Assumes nothing.
-use Prim.Native.Nat.{◌-◌}
 use native.Mathlib.Omega.{arith}
 use Rattle.examiner.proofs.Turning.{scans-none, scans-more, scans-all}
 use Rattle.examiner.proofs.scan_all.Goals as goal

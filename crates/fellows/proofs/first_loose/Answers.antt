@@ -1,5 +1,4 @@
 -- `fellows::first_loose` meets its contract. Assumes nothing.
-use Prim.Native.Nat.{◌-◌}
 use native.Mathlib.Omega.{arith}
 use Rattle.asked.proofs.Rows.{passed-zero, passed-more, passed_here, passed-end}
 use Rattle.fellows.proofs.first_loose.Goals as goal

@@ -1,5 +1,4 @@
 -- `fellows::first_no_flag` meets its contract. Assumes nothing.
-use Prim.Native.Nat.{◌-◌}
 use native.Mathlib.Omega.{arith}
 use Rattle.asked.proofs.Rows.{none-zero, none_more, lowest-here, lowest-end}
 use Rattle.fellows.proofs.first_no_flag.Goals as goal

@@ -1,5 +1,4 @@
 -- `fellows::first_parted` meets its contract. Assumes nothing.
-use Prim.Native.Nat.{◌-◌}
 use native.Mathlib.Omega.{arith}
 use Rattle.asked.proofs.Rows.{not-lt, passed-zero, passed-more, passed_here, passed-end}
 use Rattle.fellows.proofs.first_parted.Goals as goal

@@ -1,5 +1,5 @@
 -- `fellows::first_unlike` meets its contract. Assumes nothing.
-use Prim.Native.Nat.{◌*◌, ◌-◌}
+use Prim.Native.Nat.{◌*◌}
 use native.Mathlib.Omega.{arith}
 use Rattle.fellows.proofs.Beside.{lowest-unlike, no-unlike}
 use Rattle.asked.proofs.Rows.{passed-zero, passed-more}

@@ -1,5 +1,4 @@
 -- Proof that `put_heads` meets its contract. Assumes nothing.
-use Prim.Native.Nat.{◌-◌}
 use native.Mathlib.Omega.{arith}
 use Rattle.firsts.proofs.Heading.{heading-none, heading-more, heading-all, runs-right, order-stands}
 use Rattle.firsts.proofs.put_heads.Goals as goal

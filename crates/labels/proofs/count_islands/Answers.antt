@@ -1,5 +1,4 @@
 -- `labels::count_islands` meets its contract. The invariant: the count is that of the faces passed. Assumes nothing.
-use Prim.Native.Nat.{◌-◌}
 use native.Mathlib.Nat.{le_antisymm}
 use native.Mathlib.Omega.{arith}
 use mathlib.Core.Path.{ap, ◌∙◌}

@@ -4,7 +4,7 @@ use mathlib.Core.Path.{◌≡◌}
 use mathlib.Core.List.{List, [], ◌∷◌}
 use Rattle.definition.specs.declared.Triangle.{Triangle}
 use Rattle.definition.specs.Triangles.{pieces}
-use Rattle.definition.specs.Handed.{call, corners_from}
+use Rattle.definition.specs.Handed.{corners_from}
 use Rattle.listing.proofs.Faces.{Fine, small_of, three-x, four-x, one-done, two-done, none_done, room-one, room-two, pieces-other}
 use Rattle.listing.proofs.add_face.Goals as goal
 use Rattle.listing.proofs.add_face.Tie as tie

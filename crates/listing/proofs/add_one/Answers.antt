@@ -4,7 +4,6 @@ use native.Mathlib.Omega.{arith}
 use mathlib.Core.Path.{◌≡◌, sym, ap}
 use mathlib.Core.List.{[], ◌∷◌}
 use lib.ListN.{length}
-use Rattle.definition.specs.Handed.{call}
 use Rattle.listing.specs.Listing.{pick}
 use Rattle.listing.proofs.Laws.{pick_yes, pick_no, add-yes, add-no}
 use Rattle.listing.proofs.add_one.Goals as goal

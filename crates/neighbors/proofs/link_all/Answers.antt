@@ -1,6 +1,5 @@
 -- `neighbors::link_all` meets its contract. The invariant: the list has the turns of all places below `near`, and the cursors stand as they may.
 -- The measure: both move at most n places, so that there are at most 2n steps. Assumes nothing.
-use Prim.Native.Nat.{◌-◌}
 use native.Mathlib.Nat.{le_antisymm}
 use native.Mathlib.Omega.{arith}
 use Rattle.lists.proofs.Loops.{up_to-none}

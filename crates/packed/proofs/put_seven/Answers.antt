@@ -1,6 +1,5 @@
 -- `packed::put_seven` meets its contract. Assumes nothing.
 use native.Mathlib.Omega.{arith}
-use Prim.Native.Nat.{◌-◌}
 use mathlib.Core.Path.{refl}
 use Rattle.packed.specs.Packer.{packed_words}
 use Rattle.packed.proofs.Copies.{store-none, store-more, stored}

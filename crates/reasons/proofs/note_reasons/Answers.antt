@@ -1,8 +1,6 @@
 -- `reasons::note_reasons` meets its contract. Assumes nothing.
 use native.Mathlib.Omega.{arith}
-use Prim.Native.Nat.{◌-◌}
 use Rattle.worth.proofs.Filling.{filled_none, filled_more, filled-all}
-use Rattle.reasons.specs.Reasons.{reason_by}
 use Rattle.reasons.proofs.note_reasons.Goals as goal
 use Rattle.reasons.proofs.note_reasons.Invariants.{stored}
 

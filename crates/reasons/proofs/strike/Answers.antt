@@ -1,6 +1,6 @@
 -- `reasons::strike` meets its contract. Assumes nothing.
 use native.Mathlib.Omega.{arith}
-use Prim.Native.Nat.{◌*◌, ◌-◌}
+use Prim.Native.Nat.{◌*◌}
 use mathlib.Core.Path.{◌∙◌, ap}
 use lib.ListN.{get_or}
 use Rattle.tangent.specs.Slot.{slot_words}

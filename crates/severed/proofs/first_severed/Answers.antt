@@ -1,5 +1,4 @@
 -- `severed::first_severed` meets its contract. Assumes nothing.
-use Prim.Native.Nat.{◌-◌}
 use native.Mathlib.Omega.{arith}
 use mathlib.Core.Path.{◌∙◌}
 use Rattle.view.proofs.Frame.{only_none, only-trans}

@@ -1,5 +1,5 @@
 -- Proof that `settle` meets its contract. The invariant: the numbers below x are settled. Assumes nothing.
-use Prim.Native.Nat.{◌-◌, ◌≤◌}
+use Prim.Native.Nat.{◌≤◌}
 use native.Mathlib.Nat.{le_antisymm}
 use native.Mathlib.Omega.{arith}
 use mathlib.Core.Path.{sym, subst}

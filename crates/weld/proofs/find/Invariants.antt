@@ -1,5 +1,4 @@
 -- Proof that `find` meets its contract. The invariant: what is found from here on is what is found. Assumes nothing.
-use Prim.Native.Nat.{◌-◌}
 use Rattle.table.specs.Table.{column}
 use Rattle.table.specs.Columns.{corner_column, next_column}
 use Rattle.definition.specs.Step4Order.{welded}

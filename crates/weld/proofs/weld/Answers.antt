@@ -1,5 +1,5 @@
 -- Proof that `weld` meets its contract. The invariant: the first r rows are welded. Assumes nothing.
-use Prim.Native.Nat.{ℕ, ◌-◌}
+use Prim.Native.Nat.{ℕ}
 use native.Mathlib.Nat.{le_antisymm}
 use native.Mathlib.Omega.{arith}
 use mathlib.Core.Path.{subst}

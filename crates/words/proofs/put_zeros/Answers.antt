@@ -1,6 +1,6 @@
 -- `words::put_zeros` meets its contract. Assumes nothing.
 use native.Mathlib.Omega.{arith}
-use Prim.Native.Nat.{◌*◌, ◌-◌}
+use Prim.Native.Nat.{◌*◌}
 use native.Mathlib.Nat.{le_antisymm}
 use mathlib.Core.Path.{refl, ◌∙◌, ap}
 use lib.ListN.{replicate}

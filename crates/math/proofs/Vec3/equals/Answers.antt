@@ -17,8 +17,8 @@ At-Joined-self-other = lts.Joined1 reads.Pre reads.Post
 flag : (c : At-Joined-self-other) → c.if-self-other.value ≡ (Ieee.eq c.args.self.x c.args.other.x && Ieee.eq c.args.self.y c.args.other.y)
 flag c =
     elim c.if-self-other.branch [
-      then-self-other w ↦ and-held w.if-self-other.true w.value-is
-    | else-self-other w ↦ and-failed _ w.if-self-other.false w.value-is
+      | then-self-other w ↦ and-held w.if-self-other.true w.value-is
+      | else-self-other w ↦ and-failed _ w.if-self-other.false w.value-is
     ]
 
 pub returns-then-self-other-2 : goal.returns-then-self-other-2

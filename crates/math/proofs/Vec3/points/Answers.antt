@@ -18,15 +18,15 @@ At-Joined-not_zero-2 = lts.Joined2 tie.the-claims reads.Pre reads.Post
 two : (c : At-Joined-not_zero) → c.if-not_zero.value ≡ (counts c.args.self.x || counts c.args.self.y)
 two c =
     elim c.if-not_zero.branch [
-      then-not_zero w ↦ or-held _ c.not_zero.ensures w.if-not_zero.true w.value-is
-    | else-not_zero w ↦ or-failed c.not_zero.ensures w.if-not_zero.false w.not_zero-else-not_zero.ensures w.value-is
+      | then-not_zero w ↦ or-held _ c.not_zero.ensures w.if-not_zero.true w.value-is
+      | else-not_zero w ↦ or-failed c.not_zero.ensures w.if-not_zero.false w.not_zero-else-not_zero.ensures w.value-is
     ]
 
 three : (c : At-Joined-not_zero-2) → c.if-not_zero-2.value ≡ (counts c.args.self.x || counts c.args.self.y || counts c.args.self.z)
 three c =
     elim c.if-not_zero-2.branch [
-      then-not_zero-2 w ↦ or-held _ (two c.before) w.if-not_zero-2.true w.value-is
-    | else-not_zero-2 w ↦ or-failed (two c.before) w.if-not_zero-2.false w.not_zero-else-not_zero-2.ensures w.value-is
+      | then-not_zero-2 w ↦ or-held _ (two c.before) w.if-not_zero-2.true w.value-is
+      | else-not_zero-2 w ↦ or-failed (two c.before) w.if-not_zero-2.false w.not_zero-else-not_zero-2.ensures w.value-is
     ]
 
 pub returns-then-not_zero-3 : goal.returns-then-not_zero-3
