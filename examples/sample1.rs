@@ -1,10 +1,10 @@
 //! Document 01's sample 1 through the archive: one triangle, and its three slots of twelve words.
 //!
-//!     rt staticlib dokphalun
-//!     rustc -O examples/sample1.rs -L target/staticlib -l static=dokphalun -o target/sample1
+//!     (cd crates/dokphalun && rt lib)
+//!     rustc -O examples/sample1.rs -L crates/dokphalun/out -l static=dokphalun -o target/sample1
 //!     target/sample1
 //!
-//! (`rt staticlib` writes an archive for x86-64.)
+//! (`rt lib` writes an archive for x86-64.)
 
 /// The words of a slot.
 const SLOT_WORDS: usize = 12;

@@ -1,9 +1,9 @@
 //! Finds the proved archives, or makes them, and names them for the linker: libdokphalun.a, and with the feature `exports`
 //! libexports.a too.
 //!
-//! An archive is taken from the folder that DOKPHALUN_ARCHIVE names. Else it is looked for in target/staticlib (on x86-64,
-//! where `rt staticlib` leaves it) and in target/archive of the repository, and taken if no source in crates/ is newer. Else
-//! it is made: by `rt staticlib`, and on another machine than x86-64 by tools/native_archive.
+//! An archive is taken from the folder that DOKPHALUN_ARCHIVE names. Else it is looked for in out/ of its crate (on x86-64,
+//! where `rt lib` leaves it) and in target/archive of the repository, and taken if no source in crates/ is newer. Else
+//! it is made: by `rt lib` in its crate, and on another machine than x86-64 by tools/native_archive.
 //! Cargo shows nothing of what a build script says, so what they say goes to the terminal, where there is one.
 use std::env::{var, var_os};
 use std::fs::{self, File};
@@ -50,8 +50,9 @@ fn find(library: &str) -> Result<PathBuf, String> {
     let root = repository(library)?;
     let newest = newest_source(&root)?;
     let intel = var("CARGO_CFG_TARGET_ARCH").is_ok_and(|arch| arch == "x86_64");
+    let own = format!("crates/{library}/out");
     let folders = match intel {
-        true => vec!["target/staticlib", "target/archive"],
+        true => vec![own.as_str(), "target/archive"],
         false => vec!["target/archive"],
     };
     let archives = folders
@@ -127,7 +128,7 @@ fn newest_source(root: &Path) -> Result<SystemTime, String> {
 fn make(root: &Path, library: &str, intel: bool) -> Result<(), String> {
     let archive = file(library);
     if intel {
-        return run(root, "rt", &["staticlib", library], &archive);
+        return run(&root.join("crates").join(library), "rt", &["lib"], &archive);
     }
     let native = root.join("tools/native_archive");
     let out = root.join("target/archive").join(&archive);
@@ -135,8 +136,8 @@ fn make(root: &Path, library: &str, intel: bool) -> Result<(), String> {
     run(root, &native.to_string_lossy(), &words, &archive)
 }
 
-/// Runs a program in the repository. What it says is shown on the terminal as it comes, and again where it fails.
-fn run(root: &Path, program: &str, words: &[&str], archive: &str) -> Result<(), String> {
+/// Runs a program in a folder of the repository. What it says is shown on the terminal as it comes, and again where it fails.
+fn run(folder: &Path, program: &str, words: &[&str], archive: &str) -> Result<(), String> {
     let line = format!("{program} {}", words.join(" "));
     let mut terminal = File::options().write(true).open("/dev/tty").ok();
     show(
@@ -147,7 +148,7 @@ fn run(root: &Path, program: &str, words: &[&str], archive: &str) -> Result<(), 
     let (reader, writer) = pipe().map_err(unread)?;
     let mut child = Command::new(program)
         .args(words)
-        .current_dir(root)
+        .current_dir(folder)
         .stdin(std::process::Stdio::null())
         .stdout(writer.try_clone().map_err(unread)?)
         .stderr(writer)

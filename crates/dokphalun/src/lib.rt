@@ -1,4 +1,4 @@
-// The archive: the public calls for programs in other languages. `rt staticlib dokphalun` writes libdokphalun.a.
+// The archive: the public calls for programs in other languages. `rt lib` here writes libdokphalun.a.
 // A list is handed over as a pointer to its first element and a number of elements.
 #![tactic(auto)]
 
