@@ -54,13 +54,13 @@ def theorem(name, mesh, answer, names):
     lent = [0xA5A5_0000 + i for i in range(a)]
     hexes = lambda l: "(map number " + samples.words(l) + ")"
     call = (
-        f"Outcome′.outcome (call (handed {samples.sizes(sizes)} {hexes(places)} {hexes(normals)} {hexes(texture)}) (number {samples.numeral(h)}) "
+        f"Outcome'.outcome (call (handed {samples.sizes(sizes)} {hexes(places)} {hexes(normals)} {hexes(texture)}) (number {samples.numeral(h)}) "
         f"{samples.words(lent)} (replicate {w} 9))"
     )
     start = 0 if number == 0 and w > 0 and sizes else 9
     seen = f"seen ({call})"
     expected = samples.words([number, place, slots] + ([start] if w else []) + words)
-    return f"{name} : {seen} ≡ {expected}\nunfolding {names} {samples.IEEE} xor flatMap\n{name} = refl\n\n"
+    return f"{name} : {seen} ≡ {expected}\nunfolding {names} {samples.IEEE} xor flat_map\n{name} = refl\n\n"
 
 
 def main():
@@ -69,9 +69,8 @@ def main():
     oracle, seed, count = sys.argv[1], sys.argv[2], sys.argv[3]
     most = int(sys.argv[4]) if len(sys.argv) == 5 else 12
     uses, names = samples.unfolded()
-    uses = uses.replace("Rattle·definition·specs.specs.", "Rattle·definition.specs.")
     with tempfile.TemporaryDirectory() as room:
-        text = samples.HEAD + uses + "\n-- number, place, slots, the first word of the work list, the answer\nabbrev seen : Outcome′.Result → List ℕ\nseen r = (r .number ∷ r .place ∷ r .slots ∷ []) ++ (take 1 (r .work) ++ r .answer)\n\n"
+        text = samples.HEAD + uses + "\n-- number, place, slots, the first word of the work list, the answer\nabbrev seen : Outcome'.Result → List ℕ\nseen r = (r.number ∷ r.place ∷ r.slots ∷ []) ++ (take 1 (r.work) ++ r.answer)\n\n"
         compared = 0
         for kind in KINDS:
             mesh_file, out_file = f"{room}/{kind}.ext", f"{room}/{kind}.out"
@@ -83,7 +82,6 @@ def main():
                     text += theorem(f"{kind}-{compared}", mesh, answer, names)
                     compared += 1
         shutil.copytree("crates", f"{room}/crates", ignore=shutil.ignore_patterns("must-fail"))
-        shutil.copytree("target", f"{room}/target", ignore=shutil.ignore_patterns("bench", "must-fail", "archive"))
         os.makedirs(f"{room}/crates/outside/src")
         os.makedirs(f"{room}/crates/outside/proofs")
         open(f"{room}/crates/outside/src/lib.rt", "w").write("// The oracle's meshes.\n")
@@ -91,7 +89,7 @@ def main():
         open(f"{room}/crates/outside/proofs/Outside.antt", "w", encoding="utf-8").write(text.rstrip("\n") + "\n")
         shutil.copy("crates.txt", f"{room}/crates.txt")
         open(f"{room}/crates.txt", "a").write("outside: definition bits root angle math tangent\n")
-        ran = subprocess.run(["rt", "check", "outside"], cwd=room, capture_output=True, text=True, env=dict(os.environ, RT_CUT="0"))
+        ran = subprocess.run(["rt", "check"], cwd=f"{room}/crates/outside", capture_output=True, text=True)
         said = ran.stdout + ran.stderr
         wrong = sorted(set(re.findall(rf"error: `((?:{'|'.join(KINDS)})-\d+)`", said)))
         if ran.returncode and not wrong:

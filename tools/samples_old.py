@@ -14,7 +14,7 @@ from oracle import RULES, ask, build_oracle
 PATH = "crates/laws/proofs/SamplesOld.antt"
 MODULES = ["Step5Sorted", "Step5Quick", "Step5Old", "Step4Old", "FramesOld"]
 CALL = re.compile(
-    r"oldFrames \(number (0x[0-9a-f_]+)\) \(Handed′\.meshFrom \(numbers \(([^)]*)\[\]\)\) \(numbers \(([^)]*)\[\]\)\) \(numbers \(([^)]*)\[\]\)\) 0 \(([^)]*)\[\]\)\)\)"
+    r"old_frames \(number (0x[0-9a-f_]+)\) \(Handed'\.mesh_from \(numbers \(([^)]*)\[\]\)\) \(numbers \(([^)]*)\[\]\)\) \(numbers \(([^)]*)\[\]\)\) 0 \(([^)]*)\[\]\)\)\)"
 )
 
 
@@ -51,13 +51,12 @@ def main():
     samples.CRATES["definition"] = samples.CRATES["definition"] + MODULES
     uses, names = samples.unfolded()
     out = text[: text.index("use Prim.Native.Nat")] + samples.HEAD.split("\n", 1)[1] + uses
-    out = out.replace("Rattle·definition·specs.specs.", "Rattle·definition.specs.")
     out += "\n-- numbers, by their bits\nabbrev numbers : List ℕ → List Float\nnumbers l = map number l\n"
     for note, name, call in re.findall(r"^-- (.*)\npub (old-\d+) : (.*?) ≡ ", text, re.M):
         threshold, *lists, sizes = CALL.search(call).groups()
         words = answer(oracle, int(threshold, 0), numbers(sizes), [numbers(l) for l in lists])
         told = said(note) if "Stat {" in note else note
-        out += f"\n-- {told}\npub {name} : {call} ≡ {samples.words(words)}\nunfolding {names} {samples.IEEE} xor flatMap\n{name} = refl\n"
+        out += f"\n-- {told}\npub {name} : {call} ≡ {samples.words(words)}\nunfolding {names} {samples.IEEE} xor flat_map\n{name} = refl\n"
     open(PATH, "w", encoding="utf-8").write(out)
 
 
