@@ -10,7 +10,7 @@ Outside of blocks of code these are looked for:
 - '`a`, `b` of `FILE`', '`FILE`: `a`, `b`' and '`FILE` (`a`, `b`)': a and b in that very file; '`a` of `CRATE`': in that crate;
 - '`returns` of `f`': a function f; `File.a`, where there is such a file: a in it;
 - each crate of crates.txt in crates/README.md and in docs/crates.svg.
-docs/LANDINGS.md tells of trees that were: of it only the links."""
+docs/LANDINGS.md and docs/PORT.md tell of trees that were: of them only the links."""
 import functools
 import itertools
 import os
@@ -20,7 +20,7 @@ import sys
 
 ROOT = pathlib.Path(__file__).resolve().parent.parent
 PAPERS = ["README.md", "crates/README.md", "bench/README.md", "side_by_side/README.md"]
-PAST = {"docs/LANDINGS.md"}
+PAST = {"docs/LANDINGS.md", "docs/PORT.md"}
 # below which a paper's short paths stand
 BELOW = {"docs/PROMISES.md": ["crates/promises"], "docs/EXAMINER.md": ["crates/promises/specs"]}
 # what papers name and the tree has not: a function of the crate, words of the kit, a form of a line, a program that is gone

@@ -15,6 +15,7 @@ pub struct Hull {
 }
 
 // The lesser of two numbers; a NaN where they cannot be compared.
+#[tactic(auto, unfolding(crate::specs::Hull::lesser))]
 fn lesser(a: f32, x: f32) -> f32
     ensures { result ≡ spec.lesser a x }
 {

@@ -24,19 +24,14 @@ number_is n slots faces answer work five six zero = go (ltb answer (slot_words *
 pub returns-then-answer-slots : goal.returns-then-answer-slots
 returns-then-answer-slots c =
     let a = c.args in
-    let t = c.if-answer-slots.true in
-    number_is _ a.slots (length a.sizes.now) a.answer a.work (λ h. omega (arith, h, t)) (λ g h. omega (arith, g, h, t)) (λ g h. omega (arith, g, h, t))
+    number_is _ a.slots (length a.sizes.now) a.answer a.work (λ h. omega arith) (λ g h. omega arith) (λ g h. omega arith)
 
 pub returns-then-work-sizes : goal.returns-then-work-sizes
 returns-then-work-sizes c =
     let a = c.args in
-    let l = c.if-answer-slots.false in
-    let t = c.if-work-sizes.true in
-    number_is _ a.slots (length a.sizes.now) a.answer a.work (λ h. omega (arith, h, l, t)) (λ g h. omega (arith, g, h, l, t)) (λ g h. omega (arith, g, h, l, t))
+    number_is _ a.slots (length a.sizes.now) a.answer a.work (λ h. omega arith) (λ g h. omega arith) (λ g h. omega arith)
 
 pub returns : goal.returns
 returns c =
     let a = c.args in
-    let l = c.if-answer-slots.false in
-    let t = c.if-work-sizes.false in
-    number_is _ a.slots (length a.sizes.now) a.answer a.work (λ h. omega (arith, h, l, t)) (λ g h. omega (arith, g, h, l, t)) (λ g h. omega (arith, g, h, l, t))
+    number_is _ a.slots (length a.sizes.now) a.answer a.work (λ h. omega arith) (λ g h. omega arith) (λ g h. omega arith)

@@ -1,15 +1,7 @@
--- `hulls::lesser` meets its contract. Assumes nothing.
+-- `hulls::lesser` meets its contract: the check finds the ways out that return a number; where there is none it is a NaN. Assumes nothing.
 use lib.Ieee.{of_bits, div, neg}
 use Rattle.hulls.specs.Hull.{lesser}
 use Rattle.hulls.proofs.lesser.Goals as goal
-
-pub returns-then-a-x : goal.returns-then-a-x
-unfolding lesser
-returns-then-a-x c = simp c.if-a-x.true
-
-pub returns-then-x-a : goal.returns-then-x-a
-unfolding lesser
-returns-then-x-a c = simp (c.if-a-x.false, c.if-x-a.true)
 
 pub returns : goal.returns
 unfolding lesser of_bits div neg

@@ -1,4 +1,5 @@
 -- `spaces::reach_one` meets its contract. Assumes nothing.
+use native.Mathlib.Omega.{arith}
 use Prim.Native.Nat.{ℕ}
 use mathlib.Core.Path.{◌≡◌, ap, ◌∙◌}
 use mathlib.Core.Bool.{Bool}
@@ -14,4 +15,4 @@ slot_same s s' g way a u e f = e ∙ ap (λ (n : ℕ). reached_at n g way a) f
 
 pub returns : goal.returns
 unfolding reach_with
-returns c = slot_same _ _ _ _ _ _ c.reach.ensures c.slot_at-slot.ensures
+returns c = slot_same _ _ _ _ _ _ c.reach.ensures (omega arith)
