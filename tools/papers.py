@@ -23,8 +23,9 @@ PAPERS = ["README.md", "crates/README.md", "bench/README.md", "side_by_side/READ
 PAST = {"docs/LANDINGS.md", "docs/PORT.md"}
 # below which a paper's short paths stand
 BELOW = {"docs/PROMISES.md": ["crates/promises"], "docs/EXAMINER.md": ["crates/promises/specs"]}
-# what papers name and the tree has not: a function of the crate, words of the kit, a form of a line, a program that is gone
+# what papers name and the tree has not: a function of the crate, words of the kit, a form of a line, a program that is gone, what rt makes
 OUTSIDE = {"generate_triangle_info_list", "deps", "same-length-N", "v/vt/vn", "tools/steps"}
+MADE = re.compile(r"crates/\w+/out(?:/|$)|target/|\.\./shared|/")
 CODE = {".rt", ".antt", ".rs", ".h", ".py", ".toml", ".sh", ".txt", ""}
 FILE = r"[^`\s]+\.(?:antt|rt|rs|py|h|toml|sh)"
 NAMES = r"(?:`[^`]+`(?:, | and |,\n *)?)+"
@@ -32,7 +33,7 @@ NAMES = r"(?:`[^`]+`(?:, | and |,\n *)?)+"
 
 def tree():
     for folder, below, names in os.walk(ROOT):
-        below[:] = sorted(d for d in below if d not in {".git", "target", "dokphalun-demo", "__pycache__"})
+        below[:] = sorted(d for d in below if d not in {".git", "target", "out", "dokphalun-demo", "__pycache__"})
         yield from (pathlib.Path(folder, name).relative_to(ROOT) for name in sorted(names))
 
 
@@ -120,7 +121,7 @@ def links(paper, text):
 def plain_paths(text):
     """Paths below the repository's own folders, wherever they stand: in sentences and in commands too."""
     for m in re.finditer(r"(?<![\w./*-])(?:docs|tools|crates|bindings|command|side_by_side|bench|include|examples|\.ci)/[\w./-]*\w", text):
-        if m[0] not in PATHS | OUTSIDE and not place(m[0], "README.md"):
+        if m[0] not in PATHS | OUTSIDE and not MADE.match(m[0]) and not place(m[0], "README.md"):
             yield m.start(), f"no file {m[0]}"
 
 
@@ -128,7 +129,7 @@ def cited(paper, part, folders):
     """What a paragraph, an item or a row cites: paths, names, and names of a file, a crate or a function."""
     for m in re.finditer(r"`([^`]+)`", part):
         name = m[1]
-        outside = name in OUTSIDE or name.startswith(("target/", "../shared", "/"))
+        outside = name in OUTSIDE or MADE.match(name)
         if is_path(name) and not outside and not place(name, paper, folders):
             yield m.start(), f"no file {name}"
         elif is_name(name) and not outside and not parts(name) <= ALL:
