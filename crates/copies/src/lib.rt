@@ -105,7 +105,8 @@ fn kept_at(work: &[u32], rows: usize, positions: &[f32], t: usize, place: Vec3) 
     if corner_place(work, rows, positions, at).equals(place) {
         return at;
     }
-    if corner_place(work, rows, positions, at + 1).equals(place) {
+    let second = corner_place(work, rows, positions, at + 1).equals(place);
+    if second {
         return at + 1;
     }
     at + 2 // neither of the others

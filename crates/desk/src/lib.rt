@@ -139,7 +139,8 @@ fn flaws_of_face(
     requires { from + size < 2 ^ 32 }
     ensures { (result.bad ≡ spec.found (spec.unless_found before.bad (cond (used size) (desk.bad_in desk.finite_corner from (corners_from positions.now normals.now texture.now from size)) none))) × (result.bare ≡ spec.found (spec.unless_found before.bare (cond (used size) (desk.bad_in desk.has_normal from (corners_from positions.now normals.now texture.now from size)) none))) }
 {
-    if mesh::slots_of(size) == 0 {
+    let unused = mesh::slots_of(size) == 0;
+    if unused {
         return before;
     }
     flaws_in(positions, normals, texture, before, from, size as u32)

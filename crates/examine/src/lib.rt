@@ -227,7 +227,8 @@ pub fn own_links(
             sound: 0,
         };
     }
-    if short(sizes.len(), links.len(), groups.len(), orientations.len()) {
+    let few = short(sizes.len(), links.len(), groups.len(), orientations.len());
+    if few {
         return Owned {
             number: 9,
             place: 0,

@@ -63,10 +63,12 @@ fn unlike(work: &[u32], rows: usize, tris: usize, r: usize, q: usize) -> bool
     let b = vertex_at(work, rows, f);
     let c = vertex_at(work, rows, e);
     let d = vertex_at(work, rows, q);
-    if a != b {
+    let near = a != b;
+    if near {
         return true;
     }
-    if c != d {
+    let far = c != d;
+    if far {
         return true;
     }
     false

@@ -19,7 +19,8 @@ pub struct Hull {
 fn lesser(a: f32, x: f32) -> f32
     ensures { result ≡ spec.lesser a x }
 {
-    if a <= x {
+    let first = a <= x;
+    if first {
         return a;
     }
     if x < a {

@@ -153,7 +153,8 @@ pub fn fabsf(x: f32) -> f32
 fn spans(q: f32) -> bool
     ensures { result ≡ spec.spans q }
 {
-    if q == 0.0 { false } else { bits::is_finite(q) }
+    let zero = q == 0.0;
+    if zero { false } else { bits::is_finite(q) }
 }
 
 // Strictly above 2 ^ -126, bits 00800000, in size.

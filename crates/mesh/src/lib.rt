@@ -235,7 +235,8 @@ pub fn texture_of<'a>(
 fn width_of(list: u32) -> usize
     ensures { (result ≡ spec.width_of list) × (result ≤ 3) }
 {
-    if list < 2 {
+    let space = list < 2;
+    if space {
         return 3;
     }
     if list == 2 {

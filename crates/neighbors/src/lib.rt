@@ -167,7 +167,8 @@ fn look(work: &mut [u32], rows: usize, n: usize, s: usize, c: Cursors) -> Cursor
             far: c.far,
         };
     }
-    if !suits(work, rows, s, u) {
+    let fits = suits(work, rows, s, u);
+    if !fits {
         return Cursors {
             near: c.near,
             far: c.far + 1,

@@ -91,7 +91,8 @@ fn cut(w: u32) -> u32
     ensures { (result ≡ spec.cut w) × (result ≤ spec.one_bits) }
 {
     let m = w % SIGN;
-    if m < ONE {
+    let inside = m < ONE;
+    if inside {
         return m;
     }
     ONE

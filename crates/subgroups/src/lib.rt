@@ -111,7 +111,8 @@ fn add_row(work: &[u32], rows: usize, r: usize, z: Sum) -> Sum
     requires { (r < rows) × (columns * rows ≤ length work.now) }
     ensures { result ≡ spec.add_row rows work.now r z }
 {
-    if records::is_any(work, rows, r / 3) { // it brings nothing
+    let none = records::is_any(work, rows, r / 3); // it brings nothing
+    if none {
         return none_added(z);
     }
     let s = contributions::s_at(work, rows, r);
@@ -250,7 +251,8 @@ pub fn space_of(
     ensures { (result ≡ spec.value_of rows threshold r from (to - from) work.old) × (result ≡ spec.evaluated rows from (to - from) work.new) × Only (joined_column ∷ []) rows work.old work.new }
 {
     let m = peer_at(work, rows, r);
-    if mark_subgroup(work, rows, threshold, m, from, to) {
+    let same = mark_subgroup(work, rows, threshold, m, from, to);
+    if same {
         return before;
     }
     evaluate_tangent_space(work, rows, from, to)

@@ -217,7 +217,8 @@ fn of_origin(origin: u32, e: Evaluated, orientation: bool) -> Reading
     if origin == SINGLE {
         return Reading::Single(e, orientation);
     }
-    if origin == COPIED {
+    let copied = origin == COPIED;
+    if copied {
         return Reading::Copied(e, orientation);
     }
     if origin == FILLED {

@@ -143,7 +143,8 @@ fn unsure(w: f32, s: Vec3, t: Vec3, g: RawTangentSpace) -> bool
     if math::not_zero(w) {
         if math::not_zero(g.s_magnitude) {
             if math::not_zero(g.t_magnitude) {
-                if s.points() {
+                let first = s.points();
+                if first {
                     return !t.points();
                 }
             }
@@ -229,7 +230,8 @@ fn area(t: Triangle) -> f32
 fn quad_way(s: Triangle, t: Triangle) -> bool
     ensures { result ≡ tangents.quad_way s t }
 {
-    if t.any {
+    let alone = t.any;
+    if alone {
         return s.orientation;
     }
     let x = area(t);

@@ -37,7 +37,8 @@ pub fn unite(parents: &mut [u32], count: usize, a: u32, b: u32)
 {
     let x = root(parents, count, a);
     let y = root(parents, count, b);
-    if x < y {
+    let lower = x < y;
+    if lower {
         parents[y as usize] = x;
         return;
     }

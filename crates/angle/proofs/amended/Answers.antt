@@ -40,11 +40,11 @@ below x b r h e = e ∙ sym (ap (λ (t : Bool). cond t (2 * b) (2 ^ 30 - 2 * b))
 above : (x : Float) (b r : ℕ) → lt x zeroᶠ ≡ false → r ≡ 2 ^ 30 - 2 * b → r ≡ doubled_way x b
 above x b r h e = e ∙ sym (ap (λ (t : Bool). cond t (2 * b) (2 ^ 30 - 2 * b)) h)
 
-pub returns-then-x : goal.returns-then-x
-returns-then-x c = below c.args.x c.half-b.result _ c.if-x.true (omega arith) ∙ sym (doubled c.before)
+pub returns-then-below : goal.returns-then-below
+returns-then-below c = below c.args.x c.half-b.result _ c.if-below.true (omega arith) ∙ sym (doubled c.before)
 
 pub returns-then-a : goal.returns-then-a
-returns-then-a c = above c.args.x c.half-b.result _ c.if-x.false (omega arith) ∙ sym (doubled c.before)
+returns-then-a c = above c.args.x c.half-b.result _ c.if-below.false (omega arith) ∙ sym (doubled c.before)
 
 pub returns : goal.returns
 returns c = c.plain.ensures ∙ sym (wide c.args.x c.without_sign-a.result c.without_sign-a.ensures c.if-a.false)

@@ -10,12 +10,12 @@ returns-then-equals c =
     let a = c.args in
     (sym (kept_by a.rows a.positions.now a.work.now a.t a.place _ _ c.corner_place.ensures refl true _ (sym c.equals.ensures ∙ c.if-equals.true) refl), omega (arith, c.requires.0))
 
-pub returns-then-equals-2 : goal.returns-then-equals-2
-returns-then-equals-2 c =
+pub returns-then-second : goal.returns-then-second
+returns-then-second c =
     let a = c.args in
-    (sym (kept_by a.rows a.positions.now a.work.now a.t a.place _ _ c.corner_place.ensures c.corner_place-2.ensures false true (sym c.equals.ensures ∙ c.if-equals.false) (sym c.equals-2.ensures ∙ c.if-equals-2.true)), omega (arith, c.requires.0))
+    (sym (kept_by a.rows a.positions.now a.work.now a.t a.place _ _ c.corner_place.ensures c.corner_place-2.ensures false true (sym c.equals.ensures ∙ c.if-equals.false) (sym c.equals-second.ensures ∙ c.if-second.true)), omega (arith, c.requires.0))
 
 pub returns : goal.returns
 returns c =
     let a = c.args in
-    (sym (kept_by a.rows a.positions.now a.work.now a.t a.place _ _ c.corner_place.ensures c.corner_place-2.ensures false false (sym c.equals.ensures ∙ c.if-equals.false) (sym c.equals-2.ensures ∙ c.if-equals-2.false)), omega (arith, c.requires.0))
+    (sym (kept_by a.rows a.positions.now a.work.now a.t a.place _ _ c.corner_place.ensures c.corner_place-2.ensures false false (sym c.equals.ensures ∙ c.if-equals.false) (sym c.equals-second.ensures ∙ c.if-second.false)), omega (arith, c.requires.0))

@@ -18,15 +18,15 @@ passed_over b u o e = at_last b ∙ ap (λ (x : Bool). found (unless_found b (co
 looked-at : (a b : FirstBad) (u : Bool) (o : Option ℕ) → u ≡ true → a ≡ found (unless_found b o) → a ≡ found (unless_found b (cond u o none))
 looked-at a b u o e f = f ∙ ap (λ (x : Bool). found (unless_found b (cond x o none))) (sym e)
 
-pub returns-then-slots_of-eq0 : goal.returns-then-slots_of-eq0
-returns-then-slots_of-eq0 c =
+pub returns-then-unused : goal.returns-then-unused
+returns-then-unused c =
     let n = c.args.size in
-    let z : slots_of n ≡ 0 = omega (arith, c.slots_of.ensures.0, c.if-slots_of-eq0.true) in
+    let z : slots_of n ≡ 0 = omega (arith, c.slots_of-unused.ensures.0, c.if-unused.true) in
     let e : used n ≡ false = takes_none n z in
     (passed_over _ _ _ e, passed_over _ _ _ e)
 
 pub returns : goal.returns
 returns c =
     let n = c.args.size in
-    let e : used n ≡ true = takes-some n (λ h. omega (arith, h, c.slots_of.ensures.0, c.if-slots_of-eq0.false)) in
+    let e : used n ≡ true = takes-some n (λ h. omega (arith, h, c.slots_of-unused.ensures.0, c.if-unused.false)) in
     (looked-at _ _ _ _ e c.flaws_in.ensures.0, looked-at _ _ _ _ e c.flaws_in.ensures.1)

@@ -17,23 +17,23 @@ returns-then-said-ne0 c =
     let t = c.args in
     hands-refused (handed t.sizes.now t.positions.now t.normals.now t.texture.now) t.links.now t.groups.now t.orientations.now t.work.now _ _ c.ask-said.ensures (λ h. c.if-said-ne0.true (omega (arith, h))) refl
 
-pub short-requires : goal.short-requires
-short-requires c =
+pub short-few-requires : goal.short-few-requires
+short-few-requires c =
     let t = c.args in
     (fine (shown (handed t.sizes.now t.positions.now t.normals.now t.texture.now) zeroᶠ longest (length t.work.now)) (no-refusal (shown (handed t.sizes.now t.positions.now t.normals.now t.texture.now) zeroᶠ longest (length t.work.now)) (omega (arith, ap (λ (x : Verdict). x.number) c.ask-said.ensures, c.if-said-ne0.false)))).few
 
-pub returns-then-short : goal.returns-then-short
-returns-then-short c =
+pub returns-then-few : goal.returns-then-few
+returns-then-few c =
     let t = c.args in
-    hands-short (handed t.sizes.now t.positions.now t.normals.now t.texture.now) t.links.now t.groups.now t.orientations.now t.work.now _ c.short.ensures (no-refusal (shown (handed t.sizes.now t.positions.now t.normals.now t.texture.now) zeroᶠ longest (length t.work.now)) (omega (arith, ap (λ (x : Verdict). x.number) c.ask-said.ensures, c.if-said-ne0.false))) _ c.if-short.true refl
+    hands-short (handed t.sizes.now t.positions.now t.normals.now t.texture.now) t.links.now t.groups.now t.orientations.now t.work.now _ c.short-few.ensures (no-refusal (shown (handed t.sizes.now t.positions.now t.normals.now t.texture.now) zeroᶠ longest (length t.work.now)) (omega (arith, ap (λ (x : Verdict). x.number) c.ask-said.ensures, c.if-said-ne0.false))) _ c.if-few.true refl
 
 pub hand_out-sound-requires : goal.hand_out-sound-requires
 hand_out-sound-requires c =
     let t = c.args in
-    let l = long-enough _ _ _ _ (sym c.short.ensures ∙ c.if-short.false) in
+    let l = long-enough _ _ _ _ (sym c.short-few.ensures ∙ c.if-few.false) in
     (no-refusal (shown (handed t.sizes.now t.positions.now t.normals.now t.texture.now) zeroᶠ longest (length t.work.now)) (omega (arith, ap (λ (x : Verdict). x.number) c.ask-said.ensures, c.if-said-ne0.false)), l.0, l.1, l.2)
 
 pub returns : goal.returns
 returns c =
     let t = c.args in
-    hands-given (handed t.sizes.now t.positions.now t.normals.now t.texture.now) t.links.now t.groups.now t.orientations.now t.work.now _ c.short.ensures (no-refusal (shown (handed t.sizes.now t.positions.now t.normals.now t.texture.now) zeroᶠ longest (length t.work.now)) (omega (arith, ap (λ (x : Verdict). x.number) c.ask-said.ensures, c.if-said-ne0.false))) _ _ _ _ _ c.if-short.false (record { number = refl; place = refl; handed = c.hand_out-sound.ensures })
+    hands-given (handed t.sizes.now t.positions.now t.normals.now t.texture.now) t.links.now t.groups.now t.orientations.now t.work.now _ c.short-few.ensures (no-refusal (shown (handed t.sizes.now t.positions.now t.normals.now t.texture.now) zeroᶠ longest (length t.work.now)) (omega (arith, ap (λ (x : Verdict). x.number) c.ask-said.ensures, c.if-said-ne0.false))) _ _ _ _ _ c.if-few.false (record { number = refl; place = refl; handed = c.hand_out-sound.ensures })

@@ -26,14 +26,14 @@ module _ (s : At-Start) where
   abbrev vertex : ℕ → ℕ
   vertex x = cell s.args.rows vertex_column x s.args.work.now
 
-pub returns-then-a-b : goal.returns-then-a-b
-returns-then-a-b c =
-    told (unlike-start (vertex c.before.before.before.before.before.before.before.before.before) c.args.r c.args.q _ c.vertex_at-a.result c.vertex_at-b.result c.vertex_at-a.ensures c.vertex_at-b.ensures c.end_of-f.ensures (λ h. c.if-a-b.true (omega (arith, h))))
+pub returns-then-near : goal.returns-then-near
+returns-then-near c =
+    told (unlike-start (vertex c.before.before.before.before.before.before.before.before.before) c.args.r c.args.q _ c.vertex_at-a.result c.vertex_at-b.result c.vertex_at-a.ensures c.vertex_at-b.ensures c.end_of-f.ensures (λ h. c.if-near.true (omega (arith, h))))
 
-pub returns-then-c-d : goal.returns-then-c-d
-returns-then-c-d c =
-    told (unlike-end (vertex c.before.before.before.before.before.before.before.before.before.before) c.args.r c.args.q _ c.vertex_at-c.result c.vertex_at-d.result c.vertex_at-c.ensures c.vertex_at-d.ensures c.end_of-e.ensures (λ h. c.if-c-d.true (omega (arith, h))))
+pub returns-then-far : goal.returns-then-far
+returns-then-far c =
+    told (unlike-end (vertex c.before.before.before.before.before.before.before.before.before.before) c.args.r c.args.q _ c.vertex_at-c.result c.vertex_at-d.result c.vertex_at-c.ensures c.vertex_at-d.ensures c.end_of-e.ensures (λ h. c.if-far.true (omega (arith, h))))
 
 pub returns : goal.returns
 returns c =
-    told-not (alike (vertex c.before.before.before.before.before.before.before.before.before.before) c.args.r c.args.q _ _ c.vertex_at-a.result c.vertex_at-b.result c.vertex_at-c.result c.vertex_at-d.result c.end_of-e.ensures c.end_of-f.ensures c.vertex_at-a.ensures c.vertex_at-b.ensures c.vertex_at-c.ensures c.vertex_at-d.ensures (omega (arith, c.if-a-b.false)) (omega (arith, c.if-c-d.false)))
+    told-not (alike (vertex c.before.before.before.before.before.before.before.before.before.before) c.args.r c.args.q _ _ c.vertex_at-a.result c.vertex_at-b.result c.vertex_at-c.result c.vertex_at-d.result c.end_of-e.ensures c.end_of-f.ensures c.vertex_at-a.ensures c.vertex_at-b.ensures c.vertex_at-c.ensures c.vertex_at-d.ensures (omega (arith, c.if-near.false)) (omega (arith, c.if-far.false)))

@@ -5,4 +5,4 @@ use Rattle.hulls.proofs.lesser.Goals as goal
 
 pub returns : goal.returns
 unfolding lesser of_bits div neg
-returns c = simp (c.if-a-x.false, c.if-x-a.false)
+returns c = simp (c.if-first.false, c.if-x-a.false)

@@ -5,10 +5,10 @@ use Rattle.bits.specs.Word.{is_finite}
 use Rattle.math.specs.Vector.{spans}
 use Rattle.math.proofs.spans.Goals as goal
 
-pub returns-then-q : goal.returns-then-q
+pub returns-then-zero : goal.returns-then-zero
 unfolding spans
-returns-then-q c = sym (ap (λ (b : Bool). cond b false (is_finite c.args.q)) c.if-q.true)
+returns-then-zero c = sym (ap (λ (b : Bool). cond b false (is_finite c.args.q)) c.if-zero.true)
 
-pub returns-else-q : goal.returns-else-q
+pub returns-else-zero : goal.returns-else-zero
 unfolding spans
-returns-else-q c = c.is_finite.ensures ∙ sym (ap (λ (b : Bool). cond b false (is_finite c.args.q)) c.if-q.false)
+returns-else-zero c = c.is_finite.ensures ∙ sym (ap (λ (b : Bool). cond b false (is_finite c.args.q)) c.if-zero.false)

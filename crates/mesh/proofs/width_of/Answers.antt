@@ -4,14 +4,14 @@ use borrow.Author.Tests.{lt-ltb, le-ltb, ne_eqb}
 use Rattle.mesh.specs.Parts.{width_of}
 use Rattle.mesh.proofs.width_of.Goals as goal
 
-pub returns-then-list-lt2 : goal.returns-then-list-lt2
+pub returns-then-space : goal.returns-then-space
 unfolding width_of
-returns-then-list-lt2 c = let a = c.args.list in (rw (lt-ltb a 2 (omega (arith, c.if-list-lt2.true))), omega arith)
+returns-then-space c = let a = c.args.list in (rw (lt-ltb a 2 (omega (arith, c.if-space.true))), omega arith)
 
 pub returns-then-list-eq2 : goal.returns-then-list-eq2
 unfolding width_of
-returns-then-list-eq2 c = let a = c.args.list in (rw (le-ltb a 2 (omega (arith, c.if-list-lt2.false)), c.if-list-eq2.true), omega arith)
+returns-then-list-eq2 c = let a = c.args.list in (rw (le-ltb a 2 (omega (arith, c.if-space.false)), c.if-list-eq2.true), omega arith)
 
 pub returns : goal.returns
 unfolding width_of
-returns c = let a = c.args.list in (rw (le-ltb a 2 (omega (arith, c.if-list-lt2.false)), ne_eqb a 2 c.if-list-eq2.false), omega arith)
+returns c = let a = c.args.list in (rw (le-ltb a 2 (omega (arith, c.if-space.false)), ne_eqb a 2 c.if-list-eq2.false), omega arith)

@@ -18,14 +18,14 @@ returns-then-not-same_ends c =
     parted a.rows a.n a.c.near a.c.far a.work.now p.near_lt_far.2 p.s_value.2 p.near_lt_far.0 p.near_lt_far.1
     (told (λ x y. same_ends a.rows x y a.work.now) p.s_value.0 at.ensures.0 c.same_ends.ensures c.if-not-same_ends.true)
 
-pub returns-then-not-suits : goal.returns-then-not-suits
-returns-then-not-suits c =
+pub returns-then-not-fits : goal.returns-then-not-fits
+returns-then-not-fits c =
     let at = c.side_at-u in
     let a = c.args in
     let p = c.requires in
     unsuited a.rows a.n a.c.near a.c.far a.work.now p.near_lt_far.2 p.s_value.2 p.near_lt_far.0 p.near_lt_far.1
     (told (λ x y. same_ends a.rows x y a.work.now) p.s_value.0 at.ensures.0 c.same_ends.ensures c.if-not-same_ends.false)
-    (told (λ x y. suits a.rows x y a.work.now) p.s_value.0 at.ensures.0 c.suits.ensures c.if-not-suits.true)
+    (told (λ x y. suits a.rows x y a.work.now) p.s_value.0 at.ensures.0 c.suits-fits.ensures c.if-not-fits.true)
 
 pub returns : goal.returns
 returns c =
@@ -35,4 +35,4 @@ returns c =
     linked-as a.rows a.n a.c.near a.c.far a.work.now p.near_lt_far.2 p.s_value.2 p.near_lt_far.0 p.near_lt_far.1
     (told (λ x y. same_ends a.rows x y a.work.now) p.s_value.0 at.ensures.0 c.same_ends.ensures c.if-not-same_ends.false)
     _ _ _ p.s_value.0 at.ensures.0 c.join.ensures
-    (told (λ x y. suits a.rows x y a.work.now) p.s_value.0 at.ensures.0 c.suits.ensures c.if-not-suits.false)
+    (told (λ x y. suits a.rows x y a.work.now) p.s_value.0 at.ensures.0 c.suits-fits.ensures c.if-not-fits.false)

@@ -3,9 +3,9 @@ use native.Mathlib.Omega.{arith}
 use Rattle.packed.specs.Component.{cut}
 use Rattle.packed.proofs.cut.Goals as goal
 
-pub returns-then-m-lt-ONE : goal.returns-then-m-lt-ONE
+pub returns-then-inside : goal.returns-then-inside
 unfolding cut
-returns-then-m-lt-ONE c = omega arith
+returns-then-inside c = omega arith
 
 pub returns : goal.returns
 unfolding cut

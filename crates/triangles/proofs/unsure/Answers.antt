@@ -2,15 +2,15 @@
 use Rattle.triangles.proofs.Ways.{unsure-1, unsure-2, unsure-3, unsure-4, unsure-5}
 use Rattle.triangles.proofs.unsure.Goals as goal
 
-pub returns-then-points : goal.returns-then-points
-returns-then-points c =
+pub returns-then-first : goal.returns-then-first
+returns-then-first c =
     let x = c.args in
-    unsure-1 x.w x.s x.t x.g _ _ _ _ _ c.not_zero.ensures c.if-not_zero.true c.not_zero-then-not_zero.ensures c.if-not_zero-2.true c.not_zero-then-not_zero-2.ensures c.if-not_zero-3.true c.points.ensures c.if-points.true c.points-then-points.ensures
+    unsure-1 x.w x.s x.t x.g _ _ _ _ _ c.not_zero.ensures c.if-not_zero.true c.not_zero-then-not_zero.ensures c.if-not_zero-2.true c.not_zero-then-not_zero-2.ensures c.if-not_zero-3.true c.points-first.ensures c.if-first.true c.points.ensures
 
-pub returns-else-points : goal.returns-else-points
-returns-else-points c =
+pub returns-else-first : goal.returns-else-first
+returns-else-first c =
     let x = c.args in
-    unsure-2 x.w x.s x.t x.g _ _ _ _ c.not_zero.ensures c.if-not_zero.true c.not_zero-then-not_zero.ensures c.if-not_zero-2.true c.not_zero-then-not_zero-2.ensures c.if-not_zero-3.true c.points.ensures c.if-points.false
+    unsure-2 x.w x.s x.t x.g _ _ _ _ c.not_zero.ensures c.if-not_zero.true c.not_zero-then-not_zero.ensures c.if-not_zero-2.true c.not_zero-then-not_zero-2.ensures c.if-not_zero-3.true c.points-first.ensures c.if-first.false
 
 pub returns-else-not_zero-3 : goal.returns-else-not_zero-3
 returns-else-not_zero-3 c =

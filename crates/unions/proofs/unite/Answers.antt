@@ -58,11 +58,11 @@ root-y-requires c = let r = c.root-x.ensures in (omega (arith, c.requires.0, r.s
 pub bounds-parents-y : goal.bounds-parents-y
 bounds-parents-y c = omega (arith, enough c.before, y-below c.before)
 
-pub shape_of-parents-then-x-y : goal.shape_of-parents-then-x-y
-shape_of-parents-then-x-y c = simp length-set (long c.before)
+pub shape_of-parents-then-lower : goal.shape_of-parents-then-lower
+shape_of-parents-then-lower c = simp length-set (long c.before)
 
-pub returns-then-x-y : goal.returns-then-x-y
-returns-then-x-y c = higher-y c.before (omega (arith, c.if-x-y.true))
+pub returns-then-lower : goal.returns-then-lower
+returns-then-lower c = higher-y c.before (omega (arith, c.if-lower.true))
 
 pub bounds-parents-x : goal.bounds-parents-x
 bounds-parents-x c = omega (arith, enough c.before, x_below c.before)
@@ -71,4 +71,4 @@ pub shape_of-parents : goal.shape_of-parents
 shape_of-parents c = simp length-set (long c.before)
 
 pub returns : goal.returns
-returns c = higher-x c.before (omega (arith, c.if-x-y.false))
+returns c = higher-x c.before (omega (arith, c.if-lower.false))
