@@ -180,10 +180,12 @@ fn lent(sizes: &[u8], slots: u32, answer: usize, work: usize) -> u32
     requires { length sizes.now ≤ face_limit }
     ensures { result ≡ spec.lent_number slots (length sizes.now) answer work }
 {
-    if answer < tangent::SLOT_WORDS * (slots as usize) {
+    let few = answer < tangent::SLOT_WORDS * (slots as usize);
+    if few {
         return 5;
     }
-    if work < definition::WORK_WORDS * sizes.len() {
+    let short = work < definition::WORK_WORDS * sizes.len();
+    if short {
         return 6;
     }
     0
@@ -232,7 +234,8 @@ pub fn judge(
         return said(1, 0);
     }
     let seen = look_over(sizes, positions, normals, texture);
-    if mesh::unfit(seen.corners, positions.len(), normals.len(), texture.len()) {
+    let misfit = mesh::unfit(seen.corners, positions.len(), normals.len(), texture.len());
+    if misfit {
         return said(2, 0);
     }
     let third = unfit_threshold(threshold);
@@ -243,13 +246,16 @@ pub fn judge(
     let seventh = said_at(7, bare);
     let seven = seventh.number;
     let lists = lent(sizes, seen.slots, answer, work);
-    if third != 0 {
+    let by_threshold = third != 0;
+    if by_threshold {
         return said(third, 0);
     }
-    if four != 0 {
+    let by_corner = four != 0;
+    if by_corner {
         return fourth;
     }
-    if seven != 0 {
+    let by_normal = seven != 0;
+    if by_normal {
         return seventh;
     }
     said(lists, 0)

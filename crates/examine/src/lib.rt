@@ -172,7 +172,8 @@ fn short(faces: usize, links: usize, groups: usize, orientations: usize) -> bool
     requires { faces ≤ face_limit }
     ensures { result ≡ spec.too_short faces links groups orientations }
 {
-    if links < 6 * faces {
+    let few = links < 6 * faces;
+    if few {
         return true;
     }
     if groups < 6 * faces {

@@ -32,7 +32,8 @@ fn counted(count: u32, label: u32, face: usize) -> u32
     requires { count < face_limit }
     ensures { result ≡ count + cond (eqb label face) 1 0 }
 {
-    if label as usize == face {
+    let own = label as usize == face;
+    if own {
         return count + 1;
     }
     count
@@ -93,7 +94,8 @@ pub fn label_faces(
     if v.number != 0 {
         return said(v.number, v.place, 0);
     }
-    if labels.len() < sizes.len() {
+    let few = labels.len() < sizes.len();
+    if few {
         return said(9, 0, 0);
     }
     let islands = number_faces(sizes, positions, normals, texture, work, labels);

@@ -143,7 +143,8 @@ pub fn unfit(corners: u32, positions: usize, normals: usize, texture: usize) -> 
     if positions != triple {
         return true;
     }
-    if normals != triple {
+    let other = normals != triple;
+    if other {
         return true;
     }
     texture != 2 * (corners as usize)
@@ -259,7 +260,8 @@ pub fn span_of(
     if caught(sizes, positions, normals, texture) {
         return Span { from: 0, count: 0 };
     }
-    if face >= sizes.len() {
+    let past = face >= sizes.len();
+    if past {
         return Span { from: 0, count: 0 };
     }
     let width = width_of(list);

@@ -148,7 +148,8 @@ pub fn explain(
         return said(v.number, v.place, 0);
     }
     let slots = mesh::slots_before(sizes, definition::FACE_LIMIT);
-    if reasons.len() < slots {
+    let few = reasons.len() < slots;
+    if few {
         return said(9, 0, 0);
     }
     try_copies(sizes, positions, normals, texture, work, answer, slots);

@@ -24,20 +24,20 @@ At-Else-sizes-gt-FACE_LIMIT = lts.Else1 tie.the-claims reads.Pre reads.Post
 abbrev At-After-unfit : Type 0
 At-After-unfit = lts.After-unfit tie.the-claims reads.Pre reads.Post
 
-abbrev At-Else-unfit : Type 0
-At-Else-unfit = lts.Else2 tie.the-claims reads.Pre reads.Post
+abbrev At-Else-misfit : Type 0
+At-Else-misfit = lts.Else2 tie.the-claims reads.Pre reads.Post
 
 abbrev At-After-lent-lists : Type 0
 At-After-lent-lists = lts.After-lent tie.the-claims reads.Pre reads.Post
 
-abbrev At-Else-third-ne0 : Type 0
-At-Else-third-ne0 = lts.Else3 tie.the-claims reads.Pre reads.Post
+abbrev At-Else-by_threshold : Type 0
+At-Else-by_threshold = lts.Else3 tie.the-claims reads.Pre reads.Post
 
-abbrev At-Else-four-ne0 : Type 0
-At-Else-four-ne0 = lts.Else4 tie.the-claims reads.Pre reads.Post
+abbrev At-Else-by_corner : Type 0
+At-Else-by_corner = lts.Else4 tie.the-claims reads.Pre reads.Post
 
-abbrev At-Else-seven-ne0 : Type 0
-At-Else-seven-ne0 = lts.Else5 tie.the-claims reads.Pre reads.Post
+abbrev At-Else-by_normal : Type 0
+At-Else-by_normal = lts.Else5 tie.the-claims reads.Pre reads.Post
 
 -- what was asked, where the tests begin
 abbrev asked : At-After-shared_slice_known-4-1 → Shown
@@ -53,16 +53,16 @@ pub returns-then-sizes-gt-FACE_LIMIT : goal.returns-then-sizes-gt-FACE_LIMIT
 returns-then-sizes-gt-FACE_LIMIT c = let q = asked c.before.before.before in c.said.ensures ∙ row1 q (many q (omega (arith, c.if-sizes-gt-FACE_LIMIT.true)))
 
 -- what the test of row 2 tells
-misfit-is : (c : At-After-unfit) → IsMisfit (asked c.before.before.before) c.unfit.result
-misfit-is c = fits (asked c.before.before.before) c.look_over-seen.result.corners c.look_over-seen.ensures.0 ∙ sym c.unfit.ensures
+misfit-is : (c : At-After-unfit) → IsMisfit (asked c.before.before.before) c.unfit-misfit.result
+misfit-is c = fits (asked c.before.before.before) c.look_over-seen.result.corners c.look_over-seen.ensures.0 ∙ sym c.unfit-misfit.ensures
 
 -- nor does row 2
-not-misfit : (c : At-Else-unfit) → IsMisfit (asked c.before.before.before.before) false
-not-misfit c = misfit-is c.before ∙ c.if-unfit.false
+not-misfit : (c : At-Else-misfit) → IsMisfit (asked c.before.before.before.before) false
+not-misfit c = misfit-is c.before ∙ c.if-misfit.false
 
-pub returns-then-unfit : goal.returns-then-unfit
-returns-then-unfit c =
-    c.said-then-unfit.ensures ∙ row2 (asked c.before.before.before.before.before.before) (not-many c.before.before.before.before.before) (misfit-is c.before.before.before ∙ c.if-unfit.true)
+pub returns-then-misfit : goal.returns-then-misfit
+returns-then-misfit c =
+    c.said-then-misfit.ensures ∙ row2 (asked c.before.before.before.before.before.before) (not-many c.before.before.before.before.before) (misfit-is c.before.before.before ∙ c.if-misfit.true)
 
 -- ---- the tests of the other rows, all of them made
 
@@ -106,29 +106,29 @@ all_fit e = not-misfit e.before.before.before.before
 -- ---- the first that applies
 
 -- row 3 does not
-finite-threshold : (c : At-Else-third-ne0) → IsFinite (shown_to c.before) true
-finite-threshold c = not_third (shown_to c.before) c.unfit_threshold-third.result (third-is c.before) (omega (arith, c.if-third-ne0.false, four-small c.before))
+finite-threshold : (c : At-Else-by_threshold) → IsFinite (shown_to c.before) true
+finite-threshold c = not_third (shown_to c.before) c.unfit_threshold-third.result (third-is c.before) (omega (arith, c.if-by_threshold.false, four-small c.before))
 
-pub returns-then-third-ne0 : goal.returns-then-third-ne0
-returns-then-third-ne0 c =
-    c.said-then-third-ne0.ensures ∙ third (shown_to c.before.before.before) c.unfit_threshold-third.result (third-is c.before.before.before) (λ z. omega (arith, z, c.if-third-ne0.true)) (few-faces c.before.before.before) (all_fit c.before.before.before)
+pub returns-then-by_threshold : goal.returns-then-by_threshold
+returns-then-by_threshold c =
+    c.said-then-by_threshold.ensures ∙ third (shown_to c.before.before.before) c.unfit_threshold-third.result (third-is c.before.before.before) (λ z. omega (arith, z, c.if-by_threshold.true)) (few-faces c.before.before.before) (all_fit c.before.before.before)
 
 -- nor does row 4
-none-bad : (c : At-Else-four-ne0) → Lowest (shown_to c.before.before) none
-none-bad c = no-corner 3 _ c.said_at-fourth.result (fourth-is c.before.before) (omega (arith, c.if-four-ne0.false, seven-small c.before.before))
+none-bad : (c : At-Else-by_corner) → Lowest (shown_to c.before.before) none
+none-bad c = no-corner 3 _ c.said_at-fourth.result (fourth-is c.before.before) (omega (arith, c.if-by_corner.false, seven-small c.before.before))
 
-pub returns-then-four-ne0 : goal.returns-then-four-ne0
-returns-then-four-ne0 c =
-    let r = at-corner 4 _ c.said_at-fourth.result (fourth-is c.before.before.before) (λ z. omega (arith, z, c.if-four-ne0.true)) in
+pub returns-then-by_corner : goal.returns-then-by_corner
+returns-then-by_corner c =
+    let r = at-corner 4 _ c.said_at-fourth.result (fourth-is c.before.before.before) (λ z. omega (arith, z, c.if-by_corner.true)) in
     r.2 ∙ row4 (shown_to c.before.before.before) (few-faces c.before.before.before) (all_fit c.before.before.before) (finite-threshold c.before.before) r.0 r.1
 
 -- nor does row 7
-none_bare : (c : At-Else-seven-ne0) → Bare (shown_to c.before.before.before) none
-none_bare c = no-corner 6 _ c.said_at-seventh.result (seventh-is c.before.before.before) (omega (arith, c.if-seven-ne0.false, seven-small c.before.before.before, seven-only c.before.before.before, lists-small c.before.before.before))
+none_bare : (c : At-Else-by_normal) → Bare (shown_to c.before.before.before) none
+none_bare c = no-corner 6 _ c.said_at-seventh.result (seventh-is c.before.before.before) (omega (arith, c.if-by_normal.false, seven-small c.before.before.before, seven-only c.before.before.before, lists-small c.before.before.before))
 
-pub returns-then-seven-ne0 : goal.returns-then-seven-ne0
-returns-then-seven-ne0 c =
-    let r = at-corner 7 _ c.said_at-seventh.result (seventh-is c.before.before.before.before) (λ z. omega (arith, z, c.if-seven-ne0.true)) in
+pub returns-then-by_normal : goal.returns-then-by_normal
+returns-then-by_normal c =
+    let r = at-corner 7 _ c.said_at-seventh.result (seventh-is c.before.before.before.before) (λ z. omega (arith, z, c.if-by_normal.true)) in
     r.2 ∙ row7 (shown_to c.before.before.before.before) (few-faces c.before.before.before.before) (all_fit c.before.before.before.before) (finite-threshold c.before.before.before) (none-bad c.before.before) r.0 r.1
 
 pub returns : goal.returns

@@ -21,13 +21,13 @@ number_is n slots faces answer work five six zero = go (ltb answer (slot_words *
     go false e true f = six (ltb-false answer (slot_words * slots) e) (ltb-true work (work_words * faces) f)
     go false e false f = zero (ltb-false answer (slot_words * slots) e) (ltb-false work (work_words * faces) f)
 
-pub returns-then-answer-slots : goal.returns-then-answer-slots
-returns-then-answer-slots c =
+pub returns-then-few : goal.returns-then-few
+returns-then-few c =
     let a = c.args in
     number_is _ a.slots (length a.sizes.now) a.answer a.work (λ h. omega arith) (λ g h. omega arith) (λ g h. omega arith)
 
-pub returns-then-work-sizes : goal.returns-then-work-sizes
-returns-then-work-sizes c =
+pub returns-then-short : goal.returns-then-short
+returns-then-short c =
     let a = c.args in
     number_is _ a.slots (length a.sizes.now) a.answer a.work (λ h. omega arith) (λ g h. omega arith) (λ g h. omega arith)
 

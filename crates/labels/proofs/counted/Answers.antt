@@ -3,8 +3,8 @@ use native.Mathlib.Omega.{arith}
 use borrow.Author.Tests.{eq-eqb, ne_eqb}
 use Rattle.labels.proofs.counted.Goals as goal
 
-pub returns-then-label-face : goal.returns-then-label-face
-returns-then-label-face c = let a = c.args in rw (eq-eqb a.label a.face (omega (arith, c.if-label-face.true)))
+pub returns-then-own : goal.returns-then-own
+returns-then-own c = let a = c.args in rw (eq-eqb a.label a.face (omega (arith, c.if-own.true)))
 
 pub returns : goal.returns
-returns c = let a = c.args in rw (ne_eqb a.label a.face (omega (arith, c.if-label-face.false))) (omega arith)
+returns c = let a = c.args in rw (ne_eqb a.label a.face (omega (arith, c.if-own.false))) (omega arith)

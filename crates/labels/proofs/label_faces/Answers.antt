@@ -25,8 +25,8 @@ At-Start = lts.Start tie.the-claims reads.Pre reads.Post
 abbrev At-Else-v-ne0 : Type 0
 At-Else-v-ne0 = lts.Else1 tie.the-claims reads.Pre reads.Post
 
-abbrev At-Else-labels-sizes : Type 0
-At-Else-labels-sizes = lts.Else2 tie.the-claims reads.Pre reads.Post
+abbrev At-Else-few : Type 0
+At-Else-few = lts.Else2 tie.the-claims reads.Pre reads.Post
 
 -- what the call leaves of lists that are accepted
 abbrev taken : (s : At-Start) → Leaving
@@ -47,9 +47,9 @@ unrefused e =
     no-refusal (shown (handed a.sizes.now a.positions.now a.normals.now a.texture.now) zeroᶠ longest_answer (length a.work.now)) (sym (ap (λ x. x.number) e.judge-v.ensures) ∙ e.if-v-ne0.false)
 
 -- past the second nothing is refused
-passing : (e : At-Else-labels-sizes) → let s = e in let a = s.args in labels_verdict (handed a.sizes.now a.positions.now a.normals.now a.texture.now) (length a.labels.now) (length a.work.now) ≡ none
+passing : (e : At-Else-few) → let s = e in let a = s.args in labels_verdict (handed a.sizes.now a.positions.now a.normals.now a.texture.now) (length a.labels.now) (length a.work.now) ≡ none
 unfolding labels_verdict
-passing e = let s = e in passes (table s.before.before.before.before.before.before.before.before.before.before) (short s.before.before.before.before.before.before.before.before.before.before) (unrefused e.before) (le-ltb (length s.args.labels.now) (length s.args.sizes.now) (omega (arith, e.if-labels-sizes.false)))
+passing e = let s = e in passes (table s.before.before.before.before.before.before.before.before.before.before) (short s.before.before.before.before.before.before.before.before.before.before) (unrefused e.before) (le-ltb (length s.args.labels.now) (length s.args.sizes.now) (omega (arith, e.if-few.false)))
 
 pub returns-then-v-ne0 : goal.returns-then-v-ne0
 unfolding labels_outcome labels_verdict
@@ -58,11 +58,11 @@ returns-then-v-ne0 c =
     ap (λ r. left r c.args.labels.now c.args.work.now) (c.said.ensures ∙ (λ i. record { number = (e i).number; place = (e i).place; islands = 0 }))
     ∙ refused (table c.before.before.before.before.before.before.before.before.before.before.before) (short c.before.before.before.before.before.before.before.before.before.before.before) (taken c.before.before.before.before.before.before.before.before.before.before.before) c.args.labels.now c.args.work.now (λ q. c.if-v-ne0.true (ap (λ x. x.number) e ∙ q))
 
-pub returns-then-labels-sizes : goal.returns-then-labels-sizes
+pub returns-then-few : goal.returns-then-few
 unfolding labels_outcome labels_verdict
-returns-then-labels-sizes c =
-    ap (λ r. left r c.args.labels.now c.args.work.now) c.said-then-labels-sizes.ensures
-    ∙ too_short (table c.before.before.before.before.before.before.before.before.before.before.before.before) (short c.before.before.before.before.before.before.before.before.before.before.before.before) (taken c.before.before.before.before.before.before.before.before.before.before.before.before) c.args.labels.now c.args.work.now (unrefused c.before.before.before) (lt-ltb (length c.args.labels.now) (length c.args.sizes.now) (omega (arith, c.if-labels-sizes.true)))
+returns-then-few c =
+    ap (λ r. left r c.args.labels.now c.args.work.now) c.said-then-few.ensures
+    ∙ too_short (table c.before.before.before.before.before.before.before.before.before.before.before.before) (short c.before.before.before.before.before.before.before.before.before.before.before.before) (taken c.before.before.before.before.before.before.before.before.before.before.before.before) c.args.labels.now c.args.work.now (unrefused c.before.before.before) (lt-ltb (length c.args.labels.now) (length c.args.sizes.now) (omega (arith, c.if-few.true)))
 
 pub number_faces-islands-requires : goal.number_faces-islands-requires
 number_faces-islands-requires c = passing c.before.before.before

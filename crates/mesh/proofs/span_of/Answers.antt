@@ -49,9 +49,9 @@ byte c = omega (arith, c.shared_slice_known-5-1.given c.args.face)
 pub returns-then-caught : goal.returns-then-caught
 returns-then-caught c = stopped (given c.before.before.before.before.before.before.before) _ _ (sym c.caught.ensures ∙ c.if-caught.true)
 
-pub returns-then-face-sizes : goal.returns-then-face-sizes
-returns-then-face-sizes c =
-    past (given c.before.before.before.before.before.before.before.before) _ _ (sym c.caught.ensures ∙ c.if-caught.false) (omega (arith, c.if-face-sizes.true))
+pub returns-then-past : goal.returns-then-past
+returns-then-past c =
+    past (given c.before.before.before.before.before.before.before.before) _ _ (sym c.caught.ensures ∙ c.if-caught.false) (omega (arith, c.if-past.true))
 
 pub overflow_mul-from : goal.overflow_mul-from
 overflow_mul-from c = omega (arith, mul-le-mul c.width_of-width.ensures.1 c.corners_before.ensures.1)
@@ -64,4 +64,4 @@ overflow_mul-result c = omega (arith, mul-le-mul c.width_of-width.ensures.1 (byt
 
 pub returns : goal.returns
 returns c =
-    within (given c.before.before.before.before.before.before.before.before.before.before.before) _ _ (sym c.caught.ensures ∙ c.if-caught.false) (omega (arith, c.if-face-sizes.false)) _ _ c.width_of-width.ensures.0 c.corners_before.ensures.0
+    within (given c.before.before.before.before.before.before.before.before.before.before.before) _ _ (sym c.caught.ensures ∙ c.if-caught.false) (omega (arith, c.if-past.false)) _ _ c.width_of-width.ensures.0 c.corners_before.ensures.0

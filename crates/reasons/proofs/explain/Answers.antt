@@ -28,8 +28,8 @@ At-Else-v-ne0 = lts.Else1 tie.the-claims reads.Pre reads.Post
 abbrev At-After-slots_before-slots : Type 0
 At-After-slots_before-slots = lts.After-slots_before tie.the-claims reads.Pre reads.Post
 
-abbrev At-Else-reasons-slots : Type 0
-At-Else-reasons-slots = lts.Else2 tie.the-claims reads.Pre reads.Post
+abbrev At-Else-few : Type 0
+At-Else-few = lts.Else2 tie.the-claims reads.Pre reads.Post
 
 -- the call
 abbrev handed-in : (s : At-Start) → Call
@@ -56,11 +56,11 @@ counted : (n : At-After-slots_before-slots) → n.slots_before-slots.result ≡ 
 counted n = all_slots n.args.sizes.now _ (fine (at_desk (handed-in n.before.before.before.before.before.before.before.before.before.before.before)) (unrefused n.before)).few n.slots_before-slots.ensures.0
 
 -- past the second nothing is refused
-passing : (e : At-Else-reasons-slots) → let s = e in reasons_verdict (handed-in s.before.before.before.before.before.before.before.before.before.before.before.before) (length s.args.reasons.now) ≡ none
+passing : (e : At-Else-few) → let s = e in reasons_verdict (handed-in s.before.before.before.before.before.before.before.before.before.before.before.before) (length s.args.reasons.now) ≡ none
 unfolding reasons_verdict
 passing e =
     let s = e in
-    passes (table s.before.before.before.before.before.before.before.before.before.before.before.before) (short s.before.before.before.before.before.before.before.before.before.before.before.before) (unrefused e.before.before) (le-ltb (length s.args.reasons.now) (slot_count s.args.sizes.now) (omega (arith, e.if-reasons-slots.false, counted e.before)))
+    passes (table s.before.before.before.before.before.before.before.before.before.before.before.before) (short s.before.before.before.before.before.before.before.before.before.before.before.before) (unrefused e.before.before) (le-ltb (length s.args.reasons.now) (slot_count s.args.sizes.now) (omega (arith, e.if-few.false, counted e.before)))
 
 pub returns-then-v-ne0 : goal.returns-then-v-ne0
 unfolding reasons_outcome reasons_verdict
@@ -69,19 +69,19 @@ returns-then-v-ne0 c =
     left-same _ _ _ _ _ (c.said.ensures ∙ (λ i. record { number = (e i).number; place = (e i).place; slots = 0 }))
     ∙ refused (table c.before.before.before.before.before.before.before.before.before.before.before.before) (short c.before.before.before.before.before.before.before.before.before.before.before.before) (taken c.before.before.before.before.before.before.before.before.before.before.before.before) c.args.answer.now c.args.work.now c.args.reasons.now (λ q. c.if-v-ne0.true (ap (λ x. x.number) e ∙ q))
 
-pub returns-then-reasons-slots : goal.returns-then-reasons-slots
+pub returns-then-few : goal.returns-then-few
 unfolding reasons_outcome reasons_verdict
-returns-then-reasons-slots c =
-    left-same _ _ _ _ _ c.said-then-reasons-slots.ensures
-    ∙ too_short (table c.before.before.before.before.before.before.before.before.before.before.before.before.before.before) (short c.before.before.before.before.before.before.before.before.before.before.before.before.before.before) (taken c.before.before.before.before.before.before.before.before.before.before.before.before.before.before) c.args.answer.now c.args.work.now c.args.reasons.now (unrefused c.before.before.before.before) (lt-ltb (length c.args.reasons.now) (slot_count c.args.sizes.now) (omega (arith, c.if-reasons-slots.true, counted c.before.before.before)))
+returns-then-few c =
+    left-same _ _ _ _ _ c.said-then-few.ensures
+    ∙ too_short (table c.before.before.before.before.before.before.before.before.before.before.before.before.before.before) (short c.before.before.before.before.before.before.before.before.before.before.before.before.before.before) (taken c.before.before.before.before.before.before.before.before.before.before.before.before.before.before) c.args.answer.now c.args.work.now c.args.reasons.now (unrefused c.before.before.before.before) (lt-ltb (length c.args.reasons.now) (slot_count c.args.sizes.now) (omega (arith, c.if-few.true, counted c.before.before.before)))
 
 -- what holds of the lists
 known : (n : At-After-slots_before-slots) → Fine (at_desk (handed-in n.before.before.before.before.before.before.before.before.before.before.before))
 known n = fine (at_desk (handed-in n.before.before.before.before.before.before.before.before.before.before.before)) (unrefused n.before)
 
 -- and there is a byte a slot
-byte-each : (e : At-Else-reasons-slots) → slot_count e.args.sizes.now ≤ length e.args.reasons.now
-byte-each e = omega (arith, e.if-reasons-slots.false, counted e.before)
+byte-each : (e : At-Else-few) → slot_count e.args.sizes.now ≤ length e.args.reasons.now
+byte-each e = omega (arith, e.if-few.false, counted e.before)
 
 pub try_copies-requires : goal.try_copies-requires
 try_copies-requires c =
