@@ -63,12 +63,12 @@ fn unlike(work: &[u32], rows: usize, tris: usize, r: usize, q: usize) -> bool
     let b = vertex_at(work, rows, f);
     let c = vertex_at(work, rows, e);
     let d = vertex_at(work, rows, q);
-    let near = a != b;
-    if near {
+    let start_differs = a != b;
+    if start_differs {
         return true;
     }
-    let far = c != d;
-    if far {
+    let end_differs = c != d;
+    if end_differs {
         return true;
     }
     false

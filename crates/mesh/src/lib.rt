@@ -143,8 +143,8 @@ pub fn unfit(corners: u32, positions: usize, normals: usize, texture: usize) -> 
     if positions != triple {
         return true;
     }
-    let other = normals != triple;
-    if other {
+    let misfit = normals != triple;
+    if misfit {
         return true;
     }
     texture != 2 * (corners as usize)

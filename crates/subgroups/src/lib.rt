@@ -111,8 +111,8 @@ fn add_row(work: &[u32], rows: usize, r: usize, z: Sum) -> Sum
     requires { (r < rows) × (columns * rows ≤ length work.now) }
     ensures { result ≡ spec.add_row rows work.now r z }
 {
-    let none = records::is_any(work, rows, r / 3); // it brings nothing
-    if none {
+    let any = records::is_any(work, rows, r / 3); // it brings nothing
+    if any {
         return none_added(z);
     }
     let s = contributions::s_at(work, rows, r);

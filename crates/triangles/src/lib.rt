@@ -230,8 +230,8 @@ fn area(t: Triangle) -> f32
 fn quad_way(s: Triangle, t: Triangle) -> bool
     ensures { result ≡ tangents.quad_way s t }
 {
-    let alone = t.any;
-    if alone {
+    let any = t.any;
+    if any {
         return s.orientation;
     }
     let x = area(t);

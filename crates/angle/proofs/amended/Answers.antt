@@ -25,13 +25,13 @@ wide x a e h = ap (λ (b : Bool). cond b (doubled_way x (plain_way (half_sine (s
 doubled : (c : At-After-half-b) → amended_way c.args.x ≡ doubled_way c.args.x c.half-b.result
 doubled c =
     let w = c.without_sign-a in
-    close c.args.x w.result c.half-b.result w.ensures c.if-wide.true c.half-b.ensures.0
+    close c.args.x w.result c.half-b.result w.ensures c.if-narrow.true c.half-b.ensures.0
 
 pub half-b-requires : goal.half-b-requires
 unfolding of_bits neg
 half-b-requires c =
     let s = c.before.before in
-    (s.requires.0, T-is c.if-wide.true, subst (λ (a : Float). T (le a oneᶠ)) (sym c.without_sign-a.ensures) (unit s.args.x s.requires.1 s.requires.2).1)
+    (s.requires.0, T-is c.if-narrow.true, subst (λ (a : Float). T (le a oneᶠ)) (sym c.without_sign-a.ensures) (unit s.args.x s.requires.1 s.requires.2).1)
 
 -- 2B where x is negative, and 2 ^ 30 - 2B elsewhere
 below : (x : Float) (b r : ℕ) → lt x zeroᶠ ≡ true → r ≡ 2 * b → r ≡ doubled_way x b
@@ -43,8 +43,8 @@ above x b r h e = e ∙ sym (ap (λ (t : Bool). cond t (2 * b) (2 ^ 30 - 2 * b))
 pub returns-then-below : goal.returns-then-below
 returns-then-below c = below c.args.x c.half-b.result _ c.if-below.true (omega arith) ∙ sym (doubled c.before)
 
-pub returns-then-wide : goal.returns-then-wide
-returns-then-wide c = above c.args.x c.half-b.result _ c.if-below.false (omega arith) ∙ sym (doubled c.before)
+pub returns-then-narrow : goal.returns-then-narrow
+returns-then-narrow c = above c.args.x c.half-b.result _ c.if-below.false (omega arith) ∙ sym (doubled c.before)
 
 pub returns : goal.returns
-returns c = c.plain.ensures ∙ sym (wide c.args.x c.without_sign-a.result c.without_sign-a.ensures c.if-wide.false)
+returns c = c.plain.ensures ∙ sym (wide c.args.x c.without_sign-a.result c.without_sign-a.ensures c.if-narrow.false)

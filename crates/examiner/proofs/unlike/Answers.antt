@@ -26,14 +26,14 @@ module _ (s : At-Start) where
   abbrev vertex : ℕ → ℕ
   vertex x = cell s.args.rows vertex_column x s.args.work.now
 
-pub returns-then-near : goal.returns-then-near
-returns-then-near c =
-    told (unlike-start (vertex c.before.before.before.before.before.before.before.before.before) c.args.r c.args.q _ c.vertex_at-a.result c.vertex_at-b.result c.vertex_at-a.ensures c.vertex_at-b.ensures c.end_of-f.ensures (λ h. c.if-near.true (omega (arith, h))))
+pub returns-then-start_differs : goal.returns-then-start_differs
+returns-then-start_differs c =
+    told (unlike-start (vertex c.before.before.before.before.before.before.before.before.before) c.args.r c.args.q _ c.vertex_at-a.result c.vertex_at-b.result c.vertex_at-a.ensures c.vertex_at-b.ensures c.end_of-f.ensures (λ h. c.if-start_differs.true (omega (arith, h))))
 
-pub returns-then-far : goal.returns-then-far
-returns-then-far c =
-    told (unlike-end (vertex c.before.before.before.before.before.before.before.before.before.before) c.args.r c.args.q _ c.vertex_at-c.result c.vertex_at-d.result c.vertex_at-c.ensures c.vertex_at-d.ensures c.end_of-e.ensures (λ h. c.if-far.true (omega (arith, h))))
+pub returns-then-end_differs : goal.returns-then-end_differs
+returns-then-end_differs c =
+    told (unlike-end (vertex c.before.before.before.before.before.before.before.before.before.before) c.args.r c.args.q _ c.vertex_at-c.result c.vertex_at-d.result c.vertex_at-c.ensures c.vertex_at-d.ensures c.end_of-e.ensures (λ h. c.if-end_differs.true (omega (arith, h))))
 
 pub returns : goal.returns
 returns c =
-    told-not (alike (vertex c.before.before.before.before.before.before.before.before.before.before) c.args.r c.args.q _ _ c.vertex_at-a.result c.vertex_at-b.result c.vertex_at-c.result c.vertex_at-d.result c.end_of-e.ensures c.end_of-f.ensures c.vertex_at-a.ensures c.vertex_at-b.ensures c.vertex_at-c.ensures c.vertex_at-d.ensures (omega (arith, c.if-near.false)) (omega (arith, c.if-far.false)))
+    told-not (alike (vertex c.before.before.before.before.before.before.before.before.before.before) c.args.r c.args.q _ _ c.vertex_at-a.result c.vertex_at-b.result c.vertex_at-c.result c.vertex_at-d.result c.end_of-e.ensures c.end_of-f.ensures c.vertex_at-a.ensures c.vertex_at-b.ensures c.vertex_at-c.ensures c.vertex_at-d.ensures (omega (arith, c.if-start_differs.false)) (omega (arith, c.if-end_differs.false)))

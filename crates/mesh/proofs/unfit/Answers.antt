@@ -19,8 +19,8 @@ no-normals c p n t e h = rw (eq-eqb p (3 * c) e, ne_eqb n (3 * c) h)
 pub returns-then-positions-triple : goal.returns-then-positions-triple
 returns-then-positions-triple c = no-positions _ _ _ _ (λ h. omega arith)
 
-pub returns-then-other : goal.returns-then-other
-returns-then-other c = no-normals _ _ _ _ (omega arith) (λ h. omega arith)
+pub returns-then-misfit : goal.returns-then-misfit
+returns-then-misfit c = no-normals _ _ _ _ (omega arith) (λ h. omega arith)
 
 pub returns : goal.returns
 unfolding unfit
