@@ -1,7 +1,7 @@
 -- The verdict, by the first row of the table that applies. Assumes nothing.
 use Prim.Native.Nat.{ℕ, ◌*◌, ◌≤◌, ◌<◌}
 use native.Mathlib.Omega.{arith}
-use mathlib.Core.Path.{◌≡◌, refl, ap, ◌∙◌}
+use mathlib.Core.Path.{◌≡◌, sym, subst, ◌∙◌}
 use mathlib.Core.Bool.{Bool, true, false, cond}
 use mathlib.Core.Option.{Option, none, some}
 use lib.Dec.{ltb}
@@ -11,10 +11,12 @@ use Rattle.bits.specs.Word.{is_finite}
 use Rattle.tangent.specs.Slot.{slot_words}
 use Rattle.lists.specs.Lists.{first}
 use Rattle.definition.specs.Limits.{face_limit, work_words}
-use Rattle.definition.specs.Handed.{corner_count, slot_count}
+use Rattle.definition.specs.Handed.{Handed, corner_count, slot_count}
 use Rattle.definition.specs.Desk.{Shown, too_many, unfit, misfit, not_finite, no_normal, is_there, or_zero, table, verdict}
-use Rattle.desk.specs.declared.Verdict.{Verdict}
-use Rattle.desk.specs.Verdict.{said, as_verdict, lent_number, threshold_number}
+use Rattle.std.specs.Prelude.{Result, Ok, Err}
+use Rattle.desk.specs.declared.Refusal.{Refusal}
+use Rattle.desk.specs.declared.Refusal.TheVariants.{TooManyFaces, Misfit, Threshold, NotFinite, NoNormal, ShortAnswer, ShortWork}
+use Rattle.desk.specs.Verdict.{as_verdict, told, number_of, place_of}
 
 module _ (x : Shown) where
   -- ---- what the rows say
@@ -33,8 +35,8 @@ module _ (x : Shown) where
   abbrev pub Bare : Option ℕ → Type 0
   Bare o = no_normal x.mesh ≡ o
 
-  abbrev Told : Verdict → Type 0
-  Told v = v ≡ as_verdict (verdict x)
+  abbrev Told : Result Unit Refusal → Type 0
+  Told r = told r ≡ as_verdict (verdict x)
 
   pub many : face_limit < length x.mesh.sizes → IsMany true
   unfolding too_many
@@ -48,59 +50,45 @@ module _ (x : Shown) where
   unfolding misfit
   fits n e = rw (e)
 
+  -- what the tests of the first two rows tell, made on lists that are the mesh
+  pub two-passed : (m : Handed) → m ≡ x.mesh → (n : ℕ) (b : Bool) → length m.sizes ≤ face_limit → n ≡ corner_count x.mesh.sizes → b ≡ unfit n (length m.positions) (length m.normals) (length m.texture) → IsMany false × IsMisfit b
+  two-passed m e n b l c u =
+      (
+        few (subst (λ (h : Handed). length h.sizes ≤ face_limit) e l),
+        fits n c ∙ sym (subst (λ (h : Handed). b ≡ unfit n (length h.positions) (length h.normals) (length h.texture)) e u),
+      )
+
   -- ---- the first that applies
-  pub row1 : IsMany true → Told (said 1 0)
-  unfolding as_verdict verdict table first
+  pub row1 : IsMany true → Told (Err TooManyFaces)
+  unfolding as_verdict verdict table first told number_of place_of
   row1 m = rw (m)
 
-  pub row2 : IsMany false → IsMisfit true → Told (said 2 0)
-  unfolding as_verdict verdict table first
+  pub row2 : IsMany false → IsMisfit true → Told (Err Misfit)
+  unfolding as_verdict verdict table first told number_of place_of
   row2 m f = rw (m, f)
 
-  pub row3 : IsMany false → IsMisfit false → IsFinite false → Told (said 3 0)
-  unfolding as_verdict verdict table first
+  pub row3 : IsMany false → IsMisfit false → IsFinite false → Told (Err Threshold)
+  unfolding as_verdict verdict table first told number_of place_of
   row3 m f t = rw (m, f, t)
 
-  -- by its number
-  pub third : (n : ℕ) → n ≡ threshold_number x.threshold → (n ≡ 0 → ⊥) → IsMany false → IsMisfit false → Told (said n 0)
-  unfolding threshold_number
-  third n e h m f = go (is_finite x.threshold) refl
-    where
-      go : (b : Bool) → is_finite x.threshold ≡ b → Told (said n 0)
-      go true t = absurd (h (e ∙ ap (λ (b : Bool). cond b 0 3) t))
-      go false t = ap (λ (k : ℕ). said k 0) (e ∙ ap (λ (b : Bool). cond b 0 3) t) ∙ row3 m f t
-
-  pub not_third : (n : ℕ) → n ≡ threshold_number x.threshold → n ≡ 0 → IsFinite true
-  unfolding threshold_number
-  not_third n e z = go (is_finite x.threshold) refl
-    where
-      go : (b : Bool) → is_finite x.threshold ≡ b → is_finite x.threshold ≡ true
-      go true t = t
-      go false t = absurd (omega (arith, e ∙ ap (λ (b : Bool). cond b 0 3) t, z))
-
-  pub row4 : IsMany false → IsMisfit false → IsFinite true → (i : ℕ) → Lowest (some i) → Told (said 4 i)
-  unfolding as_verdict verdict table first is_there or_zero
+  pub row4 : IsMany false → IsMisfit false → IsFinite true → (i : ℕ) → Lowest (some i) → Told (Err (NotFinite i))
+  unfolding as_verdict verdict table first is_there or_zero told number_of place_of
   row4 m f t i b = rw (m, f, t, b)
 
-  pub row7 : IsMany false → IsMisfit false → IsFinite true → Lowest none → (i : ℕ) → Bare (some i) → Told (said 7 i)
-  unfolding as_verdict verdict table first is_there or_zero
+  pub row7 : IsMany false → IsMisfit false → IsFinite true → Lowest none → (i : ℕ) → Bare (some i) → Told (Err (NoNormal i))
+  unfolding as_verdict verdict table first is_there or_zero told number_of place_of
   row7 m f t b i n = rw (m, f, t, b, n)
 
-  pub rows56 : IsMany false → IsMisfit false → IsFinite true → Lowest none → Bare none → Told (said (lent_number (slot_count x.mesh.sizes) (length x.mesh.sizes) x.answer x.work) 0)
-  unfolding as_verdict verdict table first is_there or_zero lent_number
-  rows56 m f t b n = rw (m, f, t, b, n) (last (ltb x.answer (slot_words * slot_count x.mesh.sizes)) (ltb x.work (work_words * length x.mesh.sizes)))
-    where
-      last : (a w : Bool) → said (cond a 5 (cond w 6 0)) 0 ≡ as_verdict (cond a (some (record { number = 5; applies = a; place = 0 })) (cond w (some (record { number = 6; applies = w; place = 0 })) none))
-      last true w = unfold as_verdict in refl
-      last false true = unfold as_verdict in refl
-      last false false = unfold as_verdict in refl
+  -- ---- no row before the last two applies
+  module _ (m : IsMany false) (f : IsMisfit false) (t : IsFinite true) (b : Lowest none) (n : Bare none) where
+    pub row5 : x.answer < slot_words * slot_count x.mesh.sizes → Told (Err ShortAnswer)
+    unfolding as_verdict verdict table first is_there or_zero told number_of place_of
+    row5 a = rw (m, f, t, b, n, lt-ltb x.answer (slot_words * slot_count x.mesh.sizes) a)
 
--- the number of rows 5 and 6
-pub lent-number : (n slots faces answer work : ℕ) → n ≡ lent_number slots faces answer work → n ≤ 6
-unfolding lent_number
-lent-number n slots faces answer work e = go (ltb answer (slot_words * slots)) (ltb work (work_words * faces)) e
-  where
-    go : (a b : Bool) → n ≡ cond a 5 (cond b 6 0) → n ≤ 6
-    go true b e = omega (arith, e)
-    go false true e = omega (arith, e)
-    go false false e = omega (arith, e)
+    pub row6 : slot_words * slot_count x.mesh.sizes ≤ x.answer → x.work < work_words * length x.mesh.sizes → Told (Err ShortWork)
+    unfolding as_verdict verdict table first is_there or_zero told number_of place_of
+    row6 a w = rw (m, f, t, b, n, le-ltb x.answer (slot_words * slot_count x.mesh.sizes) a, lt-ltb x.work (work_words * length x.mesh.sizes) w)
+
+    pub no-row : slot_words * slot_count x.mesh.sizes ≤ x.answer → work_words * length x.mesh.sizes ≤ x.work → Told (Ok tt)
+    unfolding as_verdict verdict table first is_there or_zero told number_of place_of
+    no-row a w = rw (m, f, t, b, n, le-ltb x.answer (slot_words * slot_count x.mesh.sizes) a, le-ltb x.work (work_words * length x.mesh.sizes) w)

@@ -22,7 +22,7 @@ use Rattle.root.specs.Nearest.{Units, Nearest}
 use Rattle.root.proofs.Nearest.{read, nearest}
 use Rattle.root.proofs.Patterns.{finer}
 use Rattle.math.specs.declared.Vec3.{Vec3}
-use Rattle.math.specs.declared.Direction.TheVariants.{Nowhere, Along}
+use Rattle.std.specs.Prelude.{None, Some}
 use Rattle.math.specs.Vector.{origin, scaled_by, dot, length_of, counts, spans, points, direction, or_zero, unit_of}
 use Rattle.math.specs.Held.{HeldVec}
 use Rattle.math.specs.Finite.{FiniteVec}
@@ -246,6 +246,6 @@ module _ (u : Vec3) (H : HeldVec u) where
       spanned true e = e
       spanned false e = absurd (false≢true e)
 
-      go : (b : Bool) → points u ≡ b → FiniteVec (or_zero (cond b (Along (scaled_by u (oneᶠ /ᶠ length_of u))) Nowhere))
+      go : (b : Bool) → points u ≡ b → FiniteVec (or_zero (cond b (Some (scaled_by u (oneᶠ /ᶠ length_of u))) None))
       go true e = let s = spans-says (dot u u) (spanned (counts u.x || counts u.y || counts u.z) (unfold points in e)) in scaled-finite s.0 s.1
       go false e = nothing

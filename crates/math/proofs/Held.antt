@@ -5,7 +5,7 @@ use lib.Ieee.Fits.{add-fits, sub-fits, mul-fits}
 use Rattle.bits.specs.Single.{oneᶠ, ◌/ᶠ◌}
 use Rattle.bits.proofs.Back.{number_fits}
 use Rattle.math.specs.declared.Vec3.{Vec3}
-use Rattle.math.specs.declared.Direction.TheVariants.{Nowhere, Along}
+use Rattle.std.specs.Prelude.{None, Some}
 use Rattle.math.specs.Vector.{origin, added, subtracted, scaled_by, length_of, points, direction, or_zero, unit_of}
 use Rattle.math.specs.Held.{HeldVec}
 
@@ -29,6 +29,6 @@ pub unit-held : (u : Vec3) → HeldVec (unit_of u)
 unfolding unit_of direction or_zero
 unit-held u = go (points u)
   where
-    go : (b : Bool) → HeldVec (or_zero (cond b (Along (scaled_by u (oneᶠ /ᶠ length_of u))) Nowhere))
+    go : (b : Bool) → HeldVec (or_zero (cond b (Some (scaled_by u (oneᶠ /ᶠ length_of u))) None))
     go true = scaled-held u (oneᶠ /ᶠ length_of u)
     go false = origin-held

@@ -1,13 +1,11 @@
 -- What the vector's methods return: each float operation is IEEE 754's at single precision, in the order written. Definitions only.
-use Rattle.std.specs.Prelude.{Bool, false, cond, ◌&&◌, ◌||◌, Float}
+use Rattle.std.specs.Prelude.{Bool, false, cond, ◌&&◌, ◌||◌, Option, None, Some, Float}
 use Rattle.std.specs.Float.Ieee as Ieee
 use Rattle.std.specs.Float.{nan, inf, fin}
 use Rattle.bits.specs.Single.{◌+ᶠ◌, ◌-ᶠ◌, ◌*ᶠ◌, ◌/ᶠ◌, zeroᶠ, oneᶠ}
 use Rattle.bits.specs.Word.{number, is_finite}
 use Rattle.root.specs.Root.{sqrt}
 use Rattle.math.specs.declared.Vec3.{Vec3}
-use Rattle.math.specs.declared.Direction.{Direction}
-use Rattle.math.specs.declared.Direction.TheVariants.{Nowhere, Along}
 
 -- the vector with these three components
 abbrev pub vec : Float → Float → Float → Vec3
@@ -64,13 +62,13 @@ unfoldable pub points : Vec3 → Bool
 points u = cond (counts u.x || counts u.y || counts u.z) (spans (dot u u)) false
 
 -- 'Bringing to unit length shall answer with a direction or with the plain word that there is none': the vector scaled by 1 over its length
-unfoldable pub direction : Vec3 → Direction
-direction u = cond (points u) (Along (scaled_by u (oneᶠ /ᶠ length_of u))) Nowhere
+unfoldable pub direction : Vec3 → Option Vec3
+direction u = cond (points u) (Some (scaled_by u (oneᶠ /ᶠ length_of u))) None
 
 -- 'Every caller uses the zero vector for none'
-unfoldable pub or_zero : Direction → Vec3
-or_zero Nowhere = origin
-or_zero (Along v) = v
+unfoldable pub or_zero : Option Vec3 → Vec3
+or_zero None = origin
+or_zero (Some v) = v
 
 -- a vector brought to unit length, as its callers have it
 unfoldable pub unit_of : Vec3 → Vec3

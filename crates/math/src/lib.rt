@@ -5,18 +5,14 @@
 ghost use Rattle.std.specs.Prelude.{◌≡◌};
 ghost use Rattle.math.specs.Vector as spec;
 
-#[derive(Clone, Copy)]
+use std::ops::{Add, Mul, Neg, Sub};
+
+// Equal by float comparison: -0.0 equals 0.0, and a NaN equals nothing.
+#[derive(Clone, Copy, PartialEq)]
 pub struct Vec3 {
     pub x: f32,
     pub y: f32,
     pub z: f32,
-}
-
-// Where a vector points: along another, at unit length, or nowhere.
-#[derive(Clone, Copy)]
-pub enum Direction {
-    Nowhere,
-    Along(Vec3),
 }
 
 impl Vec3 {
@@ -39,46 +35,7 @@ impl Vec3 {
         Vec3 { x, y, z }
     }
 
-    pub fn add(self, rhs: Self) -> Self
-        ensures { result ≡ spec.added self rhs }
-    {
-        Vec3 {
-            x: self.x + rhs.x,
-            y: self.y + rhs.y,
-            z: self.z + rhs.z,
-        }
-    }
-
-    pub fn sub(self, rhs: Self) -> Self
-        ensures { result ≡ spec.subtracted self rhs }
-    {
-        Vec3 {
-            x: self.x - rhs.x,
-            y: self.y - rhs.y,
-            z: self.z - rhs.z,
-        }
-    }
-
-    pub fn scale(self, rhs: f32) -> Self
-        ensures { result ≡ spec.scaled_by self rhs }
-    {
-        Vec3 {
-            x: rhs * self.x,
-            y: rhs * self.y,
-            z: rhs * self.z,
-        }
-    }
-
-    pub fn neg(self) -> Self
-        ensures { result ≡ spec.negated self }
-    {
-        Vec3 {
-            x: -self.x,
-            y: -self.y,
-            z: -self.z,
-        }
-    }
-
+    #[tactic(auto, unfolding(crate::specs::Vector::dot))]
     pub fn dot(self, rhs: Self) -> f32
         ensures { result ≡ spec.dot self rhs }
     {
@@ -91,6 +48,7 @@ impl Vec3 {
         self.dot(self)
     }
 
+    #[tactic(auto, unfolding(crate::specs::Vector::length_of))]
     pub fn length(self) -> f32
         ensures { result ≡ spec.length_of self }
     {
@@ -98,41 +56,90 @@ impl Vec3 {
     }
 
     // A component counts, and the squared length is neither zero, infinite nor NaN.
+    #[tactic(auto, unfolding(crate::specs::Vector::points))]
     pub fn points(self) -> bool
         ensures { result ≡ spec.points self }
     {
-        if not_zero(self.x) || not_zero(self.y) || not_zero(self.z) {
-            spans(self.length_squared())
-        } else {
-            false
-        }
+        (not_zero(self.x) || not_zero(self.y) || not_zero(self.z)) && spans(self.length_squared())
     }
 
-    // To unit length, or the plain word that there is no direction.
-    pub fn direction(self) -> Direction
+    // Where it points: to unit length, or the plain word that there is no direction.
+    #[tactic(auto, unfolding(crate::specs::Vector::direction, crate::specs::Vector::length_of))]
+    pub fn direction(self) -> Option<Self>
         ensures { result ≡ spec.direction self }
     {
         if self.points() {
-            return Direction::Along(self.scale(1.0 / self.length()));
+            return Some(self * (1.0 / self.length()));
         }
-        Direction::Nowhere
+        None
     }
 
     // To unit length, and the zero vector where there is no direction.
+    #[tactic(auto, unfolding(crate::specs::Vector::unit_of, crate::specs::Vector::or_zero, crate::specs::Vector::origin))]
     pub fn normalized_or_zero(self) -> Self
         ensures { result ≡ spec.unit_of self }
     {
-        match self.direction() {
-            Direction::Nowhere => Vec3::ZERO,
-            Direction::Along(v) => v,
+        self.direction().unwrap_or(Vec3::ZERO)
+    }
+}
+
+impl Add for Vec3 {
+    type Output = Self;
+
+    #[tactic(auto, unfolding(crate::specs::Vector::added))]
+    fn add(self, rhs: Self) -> Self
+        ensures { result ≡ spec.added self rhs }
+    {
+        Vec3 {
+            x: self.x + rhs.x,
+            y: self.y + rhs.y,
+            z: self.z + rhs.z,
         }
     }
+}
 
-    // Equal by float comparison: -0.0 equals 0.0, and a NaN equals nothing.
-    pub fn equals(self, other: Self) -> bool
-        ensures { result ≡ spec.equals self other }
+impl Sub for Vec3 {
+    type Output = Self;
+
+    #[tactic(auto, unfolding(crate::specs::Vector::subtracted))]
+    fn sub(self, rhs: Self) -> Self
+        ensures { result ≡ spec.subtracted self rhs }
     {
-        self.x == other.x && self.y == other.y && self.z == other.z
+        Vec3 {
+            x: self.x - rhs.x,
+            y: self.y - rhs.y,
+            z: self.z - rhs.z,
+        }
+    }
+}
+
+impl Mul<f32> for Vec3 {
+    type Output = Self;
+
+    #[tactic(auto, unfolding(crate::specs::Vector::scaled_by))]
+    fn mul(self, rhs: f32) -> Self
+        ensures { result ≡ spec.scaled_by self rhs }
+    {
+        Vec3 {
+            x: rhs * self.x,
+            y: rhs * self.y,
+            z: rhs * self.z,
+        }
+    }
+}
+
+impl Neg for Vec3 {
+    type Output = Self;
+
+    #[tactic(auto, unfolding(crate::specs::Vector::negated))]
+    fn neg(self) -> Self
+        ensures { result ≡ spec.negated self }
+    {
+        Vec3 {
+            x: -self.x,
+            y: -self.y,
+            z: -self.z,
+        }
     }
 }
 
@@ -150,14 +157,16 @@ pub fn fabsf(x: f32) -> f32
 }
 
 // Of a squared length: neither zero, infinite nor NaN.
+#[tactic(auto, unfolding(crate::specs::Vector::spans))]
 fn spans(q: f32) -> bool
     ensures { result ≡ spec.spans q }
 {
     let zero = q == 0.0;
-    if zero { false } else { bits::is_finite(q) }
+    !zero && bits::is_finite(q)
 }
 
 // Strictly above 2 ^ -126, bits 00800000, in size.
+#[tactic(auto, unfolding(crate::specs::Vector::counts))]
 pub fn not_zero(x: f32) -> bool
     ensures { result ≡ spec.counts x }
 {

@@ -12,6 +12,24 @@ ghost use Rattle.mesh.specs.Parts as spec;
 
 use definition::Corner;
 use math::Vec3;
+use std::marker::Model;
+
+// A mesh as it is handed in: the faces' sizes, and the numbers of their corners. A contract sees the definition's `Handed`.
+#[derive(Drop)]
+pub struct Mesh<'a> {
+    pub sizes: &'a [u8],
+    pub positions: &'a [f32],
+    pub normals: &'a [f32],
+    pub texture: &'a [f32],
+}
+
+impl<'a> Model for Mesh<'a> {
+    ghost use Rattle.definition.specs.Handed.{Handed, handed};
+
+    ghost Value = { Handed };
+
+    ghost view = { λ m. handed m.sizes.now m.positions.now m.normals.now m.texture.now };
+}
 
 // A corner of a face as one number: face times 4 plus corner.
 #[derive(Clone, Copy)]
@@ -61,6 +79,7 @@ pub fn number_at(xs: &[f32], i: usize) -> f32
 }
 
 // The three numbers of corner number i, of positions or normals.
+#[tactic(auto, unfolding(definition::specs::Handed::vector_at))]
 pub fn vector_at(xs: &[f32], i: u32) -> Vec3
     ensures { result ≡ vector_at xs.now i }
 {
@@ -72,65 +91,70 @@ pub fn vector_at(xs: &[f32], i: u32) -> Vec3
     }
 }
 
-// Corner number i of the three lists.
-pub fn corner_at(positions: &[f32], normals: &[f32], texture: &[f32], i: u32) -> Corner
-    ensures { result ≡ corner_at positions.now normals.now texture.now i }
-{
-    let place = vector_at(positions, i);
-    let normal = vector_at(normals, i);
-    let at = (i as usize) * 2;
-    Corner {
-        place,
-        normal,
-        u: number_at(texture, at),
-        v: number_at(texture, at + 1),
-        tag: 0,
+impl<'a> Mesh<'a> {
+    // Corner number i of the three lists.
+    #[tactic(auto, unfolding(definition::specs::Handed::corner_at, definition::specs::Handed::vector_at))]
+    pub fn corner_at(&self, i: u32) -> Corner
+        ensures { result ≡ corner_at self.now.positions self.now.normals self.now.texture i }
+    {
+        let at = (i as usize) * 2;
+        Corner {
+            place: vector_at(self.positions, i),
+            normal: vector_at(self.normals, i),
+            u: number_at(self.texture, at),
+            v: number_at(self.texture, at + 1),
+            tag: 0,
+        }
     }
-}
 
-fn least(a: usize, b: usize) -> usize
-    ensures { result ≡ min a b }
-{
-    if a <= b { a } else { b }
+    // Whether refusal 1 or 2 would catch the lists.
+    pub fn caught(&self) -> bool
+        ensures { result ≡ spec.caught self.now }
+    {
+        if definition::FACE_LIMIT < self.sizes.len() {
+            return true;
+        }
+        let corners = corners_before(self.sizes, definition::FACE_LIMIT);
+        unfit(
+            corners as u32,
+            self.positions.len(),
+            self.normals.len(),
+            self.texture.len(),
+        )
+    }
 }
 
 // How many corners stand before a face, among the first 65,536 faces: no sum of so many bytes overflows.
 pub fn corners_before(sizes: &[u8], face: usize) -> usize
     ensures { (result ≡ corner_count (take (min face face_limit) sizes.now)) × (result ≤ 255 * face_limit) }
 {
-    let end = least(least(face, definition::FACE_LIMIT), sizes.len());
-    let mut sum: usize = 0;
-    let mut f: usize = 0;
-    while f < end {
-        sum += sizes[f] as usize;
-        f += 1;
+    let end = face.min(definition::FACE_LIMIT).min(sizes.len());
+    let mut sum = 0;
+    for &size in &sizes[..end] {
+        sum += size as usize;
     }
     sum
 }
 
 // How many slots a face of a size takes.
+#[tactic(auto, unfolding(definition::specs::Handed::slots_of, definition::specs::Handed::used))]
 pub fn slots_of(size: u8) -> usize
     ensures { (result ≡ slots_of size) × (result ≤ 4) }
 {
-    if size == 3 {
-        return 3;
+    match size {
+        3 | 4 => size as usize,
+        _ => 0,
     }
-    if size == 4 {
-        return 4;
-    }
-    0
 }
 
 // How many slots stand before a face, among the first 65,536 faces.
 pub fn slots_before(sizes: &[u8], face: usize) -> usize
     ensures { (result ≡ slot_count (take (min face face_limit) sizes.now)) × (result ≤ 4 * face_limit) }
 {
-    let end = least(least(face, definition::FACE_LIMIT), sizes.len());
-    let mut sum: usize = 0;
-    let mut f: usize = 0;
-    while f < end {
-        sum += slots_of(sizes[f]);
-        f += 1;
+    let end = face.min(definition::FACE_LIMIT).min(sizes.len());
+    let mut sum = 0;
+    for &size in &sizes[..end] {
+        sum += slots_of(size);
     }
     sum
 }
@@ -148,22 +172,6 @@ pub fn unfit(corners: u32, positions: usize, normals: usize, texture: usize) -> 
         return true;
     }
     texture != 2 * (corners as usize)
-}
-
-// Whether refusal 1 or 2 would catch the lists.
-pub fn caught(sizes: &[u8], positions: &[f32], normals: &[f32], texture: &[f32]) -> bool
-    ensures { result ≡ spec.caught (handed sizes.now positions.now normals.now texture.now) }
-{
-    if definition::FACE_LIMIT < sizes.len() {
-        return true;
-    }
-    let corners = corners_before(sizes, definition::FACE_LIMIT);
-    unfit(
-        corners as u32,
-        positions.len(),
-        normals.len(),
-        texture.len(),
-    )
 }
 
 // The part of a list, width numbers a corner, where the numbers of a face stand.
@@ -200,8 +208,13 @@ pub fn positions_of<'a>(
 ) -> &'a [f32]
     ensures { result.now ≡ spec.handed_back 3 positions.now (handed sizes.now positions.now normals.now texture.now) face }
 {
-    let stopped = caught(sizes, positions, normals, texture);
-    unless(stopped, sizes, positions, 3, face)
+    let mesh = Mesh {
+        sizes,
+        positions,
+        normals,
+        texture,
+    };
+    unless(mesh.caught(), sizes, positions, 3, face)
 }
 
 // The normals of a face, in the same way.
@@ -214,8 +227,13 @@ pub fn normals_of<'a>(
 ) -> &'a [f32]
     ensures { result.now ≡ spec.handed_back 3 normals.now (handed sizes.now positions.now normals.now texture.now) face }
 {
-    let stopped = caught(sizes, positions, normals, texture);
-    unless(stopped, sizes, normals, 3, face)
+    let mesh = Mesh {
+        sizes,
+        positions,
+        normals,
+        texture,
+    };
+    unless(mesh.caught(), sizes, normals, 3, face)
 }
 
 // The texture coordinates of a face, in the same way.
@@ -228,22 +246,25 @@ pub fn texture_of<'a>(
 ) -> &'a [f32]
     ensures { result.now ≡ spec.handed_back 2 texture.now (handed sizes.now positions.now normals.now texture.now) face }
 {
-    let stopped = caught(sizes, positions, normals, texture);
-    unless(stopped, sizes, texture, 2, face)
+    let mesh = Mesh {
+        sizes,
+        positions,
+        normals,
+        texture,
+    };
+    unless(mesh.caught(), sizes, texture, 2, face)
 }
 
 // How many numbers a corner has in a list: 0 stands for positions, 1 for normals, 2 for texture coordinates, and another number for no list.
+#[tactic(auto, unfolding(crate::specs::Parts::width_of))]
 fn width_of(list: u32) -> usize
     ensures { (result ≡ spec.width_of list) × (result ≤ 3) }
 {
-    let space = list < 2;
-    if space {
-        return 3;
+    match list {
+        0 | 1 => 3,
+        2 => 2,
+        _ => 0,
     }
-    if list == 2 {
-        return 2;
-    }
-    0
 }
 
 // Where the part of a list that belongs to a face stands, for those who hold the list: the empty part at 0 for a face number of F or above, for lists that refusal 1 or 2 would catch, and in no list.
@@ -257,7 +278,13 @@ pub fn span_of(
 ) -> Span
     ensures { result ≡ spec.span_of (handed sizes.now positions.now normals.now texture.now) list face }
 {
-    if caught(sizes, positions, normals, texture) {
+    let mesh = Mesh {
+        sizes,
+        positions,
+        normals,
+        texture,
+    };
+    if mesh.caught() {
         return Span { from: 0, count: 0 };
     }
     let past = face >= sizes.len();

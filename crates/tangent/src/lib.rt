@@ -8,7 +8,8 @@ ghost use Rattle.tangent.specs.Space as spec;
 
 use math::Vec3;
 
-#[derive(Clone, Copy)]
+// Equal by float comparison in all eight numbers.
+#[derive(Clone, Copy, PartialEq)]
 pub struct RawTangentSpace {
     // Normalized first order face derivatives,
     pub s: Vec3,
@@ -50,30 +51,16 @@ impl RawTangentSpace {
         RawTangentSpace::ZERO
     }
 
-    pub fn equals(self, other: Self) -> bool
-        ensures { result ≡ spec.equals self other }
-    {
-        if self.s.equals(other.s) {
-            if self.t.equals(other.t) {
-                if self.s_magnitude == other.s_magnitude {
-                    return self.t_magnitude == other.t_magnitude;
-                }
-            }
-        }
-        false
-    }
-
+    #[tactic(auto, unfolding(crate::specs::Space::combine, crate::specs::Space::mean, crate::specs::Space::equals, math::specs::Vector::equals))]
     pub fn combine(self, rhs: Self) -> Self
         ensures { result ≡ spec.combine self rhs }
     {
-        if self.equals(rhs) {
+        if self == rhs {
             return self;
         }
-        let s = self.s.add(rhs.s).normalized_or_zero();
-        let t = self.t.add(rhs.t).normalized_or_zero();
         RawTangentSpace {
-            s,
-            t,
+            s: (self.s + rhs.s).normalized_or_zero(),
+            t: (self.t + rhs.t).normalized_or_zero(),
             s_magnitude: 0.5 * (self.s_magnitude + rhs.s_magnitude),
             t_magnitude: 0.5 * (self.t_magnitude + rhs.t_magnitude),
         }
@@ -84,53 +71,59 @@ impl RawTangentSpace {
 pub fn counted(m: u32, n: u32) -> u32
     ensures { result ≡ spec.counted m n }
 {
-    (((m as u64) + (n as u64)) % 0x1_0000_0000) as u32
+    m.wrapping_add(n)
 }
 
 impl Evaluated {
     // Both tangent spaces combined, and how many stood behind either.
+    #[tactic(auto, unfolding(crate::specs::Space::united))]
     pub fn unite(self, rhs: Self) -> Self
         ensures { result ≡ spec.united self rhs }
     {
-        let space = self.space.combine(rhs.space);
-        let behind = counted(self.behind, rhs.behind);
-        Evaluated { space, behind }
+        Evaluated {
+            space: self.space.combine(rhs.space),
+            behind: counted(self.behind, rhs.behind),
+        }
     }
 }
 
 // A slot reached once more: the first time its reading is single, after that combined. The orientation is the later one.
+#[tactic(auto, unfolding(crate::specs::Space::reached))]
 pub fn reached(r: Reading, v: Evaluated, orientation: bool) -> Reading
     ensures { result ≡ spec.reached r v orientation }
 {
     match r {
         Reading::Absent => Reading::Single(v, orientation),
-        Reading::Single(u, _) => Reading::Combined(u.unite(v), orientation),
-        Reading::Combined(u, _) => Reading::Combined(u.unite(v), orientation),
-        Reading::Copied(u, _) => Reading::Combined(u.unite(v), orientation),
-        Reading::Filled(u, _) => Reading::Combined(u.unite(v), orientation),
+        Reading::Single(u, _)
+        | Reading::Combined(u, _)
+        | Reading::Copied(u, _)
+        | Reading::Filled(u, _) => Reading::Combined(u.unite(v), orientation),
     }
 }
 
 // What a copy of a reading that is there is, within a quad or not.
+#[tactic(auto, unfolding(crate::specs::Space::copied))]
 fn copied(e: Evaluated, orientation: bool, quad: bool) -> Reading
     ensures { result ≡ spec.copied e orientation quad }
 {
     if quad {
-        return Reading::Filled(e, orientation);
+        Reading::Filled(e, orientation)
+    } else {
+        Reading::Copied(e, orientation)
     }
-    Reading::Copied(e, orientation)
 }
 
 // A copy of a reading, to a corner of a degenerate triangle or within a quad; of an absent one it is absent.
+#[tactic(auto, unfolding(crate::specs::Space::copy_of))]
 pub fn copy_of(r: Reading, quad: bool) -> Reading
     ensures { result ≡ spec.copy_of quad r }
 {
     match r {
         Reading::Absent => Reading::Absent,
-        Reading::Single(e, o) => copied(e, o, quad),
-        Reading::Combined(e, o) => copied(e, o, quad),
-        Reading::Copied(e, o) => copied(e, o, quad),
-        Reading::Filled(e, o) => copied(e, o, quad),
+        Reading::Single(e, o)
+        | Reading::Combined(e, o)
+        | Reading::Copied(e, o)
+        | Reading::Filled(e, o) => copied(e, o, quad),
     }
 }
 
@@ -147,6 +140,7 @@ pub const COPIED: u32 = 3;
 pub const FILLED: u32 = 4;
 
 // The words of a slot.
+#[tactic(auto, unfolding(crate::specs::Slot::words))]
 pub fn words(r: Reading) -> [u32; SLOT_WORDS]
     ensures { result ≡ slot.words r }
 {
@@ -160,19 +154,24 @@ pub fn words(r: Reading) -> [u32; SLOT_WORDS]
 }
 
 // Orientation as a word.
+#[tactic(auto, unfolding(crate::specs::Slot::flag))]
 pub fn flag(b: bool) -> u32
     ensures { result ≡ slot.flag b }
 {
-    if b { 1 } else { 0 }
+    u32::from(b)
 }
 
 // The words of a slot that is there; origin says where its frame came from.
+#[tactic(auto, unfolding(crate::specs::Slot::present, crate::specs::Slot::ten_words))]
 fn present(origin: u32, e: Evaluated, orientation: bool) -> [u32; SLOT_WORDS]
     ensures { result ≡ slot.present origin e orientation }
 {
-    let u = e.space;
-    let s = u.s;
-    let t = u.t;
+    let RawTangentSpace {
+        s,
+        t,
+        s_magnitude,
+        t_magnitude,
+    } = e.space;
     [
         1,
         bits::word(s.x),
@@ -181,8 +180,8 @@ fn present(origin: u32, e: Evaluated, orientation: bool) -> [u32; SLOT_WORDS]
         bits::word(t.x),
         bits::word(t.y),
         bits::word(t.z),
-        bits::word(u.s_magnitude),
-        bits::word(u.t_magnitude),
+        bits::word(s_magnitude),
+        bits::word(t_magnitude),
         flag(orientation),
         origin,
         e.behind,
@@ -190,6 +189,7 @@ fn present(origin: u32, e: Evaluated, orientation: bool) -> [u32; SLOT_WORDS]
 }
 
 // The vector of three words.
+#[tactic(auto, unfolding(crate::specs::Slot::vector_of))]
 fn vector_of(x: u32, y: u32, z: u32) -> Vec3
     ensures { result ≡ slot.vector_of x y z }
 {
@@ -197,37 +197,33 @@ fn vector_of(x: u32, y: u32, z: u32) -> Vec3
 }
 
 // The numbers of a slot that is there.
+#[tactic(auto, unfolding(crate::specs::Slot::space_of))]
 fn space_of(words: [u32; SLOT_WORDS]) -> RawTangentSpace
     ensures { result ≡ slot.space_of words }
 {
-    let s = vector_of(words[1], words[2], words[3]);
-    let t = vector_of(words[4], words[5], words[6]);
     RawTangentSpace {
-        s,
-        t,
+        s: vector_of(words[1], words[2], words[3]),
+        t: vector_of(words[4], words[5], words[6]),
         s_magnitude: bits::number(words[7]),
         t_magnitude: bits::number(words[8]),
     }
 }
 
 // A reading by where it came from: single or one of the two copies, and combined otherwise.
+#[tactic(auto, unfolding(crate::specs::Slot::of_origin))]
 fn of_origin(origin: u32, e: Evaluated, orientation: bool) -> Reading
     ensures { result ≡ slot.of_origin origin e orientation }
 {
-    if origin == SINGLE {
-        return Reading::Single(e, orientation);
+    match origin {
+        SINGLE => Reading::Single(e, orientation),
+        COPIED => Reading::Copied(e, orientation),
+        FILLED => Reading::Filled(e, orientation),
+        _ => Reading::Combined(e, orientation),
     }
-    let copied = origin == COPIED;
-    if copied {
-        return Reading::Copied(e, orientation);
-    }
-    if origin == FILLED {
-        return Reading::Filled(e, orientation);
-    }
-    Reading::Combined(e, orientation)
 }
 
 // The reading that a slot's words tell of.
+#[tactic(auto, unfolding(crate::specs::Slot::reading_of))]
 pub fn reading_of(words: [u32; SLOT_WORDS]) -> Reading
     ensures { result ≡ slot.reading_of words }
 {

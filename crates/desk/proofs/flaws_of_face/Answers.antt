@@ -5,17 +5,17 @@ use mathlib.Core.Option.{Option, none}
 use Prim.Native.Nat.{ℕ}
 use native.Mathlib.Omega.{arith}
 use Rattle.definition.specs.Handed.{used, slots_of}
-use Rattle.desk.specs.declared.FirstBad.{FirstBad}
+use Rattle.std.specs.Prelude.{Option as Found}
 use Rattle.desk.specs.Verdict.{found, unless_found}
 use Rattle.desk.proofs.Bad.{at_last, takes_none, takes-some}
 use Rattle.desk.proofs.flaws_of_face.Goals as goal
 
 -- nothing new in a face that takes no slot
-passed_over : (b : FirstBad) (u : Bool) (o : Option ℕ) → u ≡ false → b ≡ found (unless_found b (cond u o none))
+passed_over : (b : Found ℕ) (u : Bool) (o : Option ℕ) → u ≡ false → b ≡ found (unless_found b (cond u o none))
 passed_over b u o e = at_last b ∙ ap (λ (x : Bool). found (unless_found b (cond x o none))) (sym e)
 
 -- and all that is found in one that does
-looked-at : (a b : FirstBad) (u : Bool) (o : Option ℕ) → u ≡ true → a ≡ found (unless_found b o) → a ≡ found (unless_found b (cond u o none))
+looked-at : (a b : Found ℕ) (u : Bool) (o : Option ℕ) → u ≡ true → a ≡ found (unless_found b o) → a ≡ found (unless_found b (cond u o none))
 looked-at a b u o e f = f ∙ ap (λ (x : Bool). found (unless_found b (cond x o none))) (sym e)
 
 pub returns-then-unused : goal.returns-then-unused

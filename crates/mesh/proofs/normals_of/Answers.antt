@@ -8,10 +8,10 @@ use Rattle.mesh.proofs.Fitting.{fit}
 use Rattle.mesh.proofs.normals_of.Goals as goal
 
 pub unless-requires : goal.unless-requires
-unless-requires c = λ e. let p = fit _ (sym c.caught-stopped.ensures ∙ e) in (lit≤ tt, p.few, p.normals)
+unless-requires c = λ e. let p = fit _ (sym c.caught.ensures ∙ e) in (lit≤ tt, p.few, p.normals)
 
 pub returns : goal.returns
 unfolding handed_back
 returns c =
     let a = c.args in
-    c.unless.ensures ∙ ap (λ (b : Bool). cond b [] (part_or_none 3 a.normals.now a.sizes.now a.face)) c.caught-stopped.ensures
+    c.unless.ensures ∙ ap (λ (b : Bool). cond b [] (part_or_none 3 a.normals.now a.sizes.now a.face)) c.caught.ensures

@@ -1,12 +1,7 @@
 -- `mesh::slots_before` meets its contract. The invariant: the sum so far is that of the faces passed. Assumes nothing.
-use Prim.Native.Nat.{◌*◌, ◌-◌, ◌≤◌, min}
-use mathlib.Core.Path.{◌≡◌}
-use lib.ListN.{length, take}
+use Rattle.std.proofs.Common.{◌≡◌, ◌*◌, ◌≤◌, length, take}
 use Rattle.definition.specs.Handed.{slot_count}
 use Rattle.mesh.proofs.slots_before.Given as goal
 
-abbrev pub invariant-loop-f : goal.invariant-loop-f
-invariant-loop-f l = (l.f ≤ l.end) × (l.end ≡ min (min l.face 65536) (length l.sizes)) × (l.sum ≡ slot_count (take l.f l.sizes)) × (l.sum ≤ 4 * l.f)
-
-abbrev pub decreases-loop-f : goal.decreases-loop-f
-decreases-loop-f l = l.end - l.f
+abbrev pub invariant-loop-size : goal.invariant-loop-size
+invariant-loop-size l = (l.sum ≡ slot_count (take l.size-index l.size-items)) × (l.sum ≤ 4 * l.size-index) × (length l.size-items ≤ 65536)

@@ -38,20 +38,16 @@ module _ (mesh : Handed) (list f : ℕ) where
       let r : n ≡ corner_count (take f mesh.sizes) = q ∙ ap (λ (k : ℕ). corner_count (take k mesh.sizes)) (min-eq_left l) in
       rw (e, lt-leb (length mesh.sizes) f h, p, r)
 
--- the lists that were handed in
-abbrev given : At-Start → Handed
-given s = let a = s.args in handed a.sizes.now a.positions.now a.normals.now a.texture.now
-
 -- a size is a byte
 byte : (c : At-After-shared_slice_known-5-1) → get_or c.args.sizes.now c.args.face 0 ≤ 255
 byte c = omega (arith, c.shared_slice_known-5-1.given c.args.face)
 
 pub returns-then-caught : goal.returns-then-caught
-returns-then-caught c = stopped (given c.before.before.before.before.before.before.before) _ _ (sym c.caught.ensures ∙ c.if-caught.true)
+returns-then-caught c = stopped (let a = c.args in handed a.sizes.now a.positions.now a.normals.now a.texture.now) _ _ (sym c.caught.ensures ∙ c.if-caught.true)
 
 pub returns-then-past : goal.returns-then-past
 returns-then-past c =
-    past (given c.before.before.before.before.before.before.before.before) _ _ (sym c.caught.ensures ∙ c.if-caught.false) (omega (arith, c.if-past.true))
+    past (let a = c.args in handed a.sizes.now a.positions.now a.normals.now a.texture.now) _ _ (sym c.caught.ensures ∙ c.if-caught.false) (omega (arith, c.if-past.true))
 
 pub overflow_mul-from : goal.overflow_mul-from
 overflow_mul-from c = omega (arith, mul-le-mul c.width_of-width.ensures.1 c.corners_before.ensures.1)
@@ -64,4 +60,4 @@ overflow_mul-result c = omega (arith, mul-le-mul c.width_of-width.ensures.1 (byt
 
 pub returns : goal.returns
 returns c =
-    within (given c.before.before.before.before.before.before.before.before.before.before.before) _ _ (sym c.caught.ensures ∙ c.if-caught.false) (omega (arith, c.if-past.false)) _ _ c.width_of-width.ensures.0 c.corners_before.ensures.0
+    within (let a = c.args in handed a.sizes.now a.positions.now a.normals.now a.texture.now) _ _ (sym c.caught.ensures ∙ c.if-caught.false) (omega (arith, c.if-past.false)) _ _ c.width_of-width.ensures.0 c.corners_before.ensures.0
