@@ -102,10 +102,10 @@ fn kept_at(work: &[u32], rows: usize, positions: &[f32], t: usize, place: Vec3) 
     ensures { (result ≡ spec.kept_at rows positions.now work.now t place) × (result < rows) }
 {
     let at = 3 * t;
-    if corner_place(work, rows, positions, at).equals(place) {
+    if corner_place(work, rows, positions, at) == place {
         return at;
     }
-    let second = corner_place(work, rows, positions, at + 1).equals(place);
+    let second = corner_place(work, rows, positions, at + 1) == place;
     if second {
         return at + 1;
     }

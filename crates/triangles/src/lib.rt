@@ -2,7 +2,7 @@
 // Carried over from mikktspace.rs (generate_triangle_info_list, calculate_texture_area) of the Rust crate bevy_mikktspace and ALTERED: written anew in Rattle, with document 01's root. See NOTICE.
 #![tactic(auto)]
 
-ghost use Rattle.std.specs.Prelude.{◌≡◌, List, [], ◌∷◌};
+ghost use Rattle.std.specs.Prelude.{◌≡◌};
 ghost use Rattle.definition.specs.Step1Cut as cut;
 ghost use Rattle.definition.specs.Step2Degenerate as degenerate;
 ghost use Rattle.definition.specs.Step3Tangents as tangents;
@@ -27,13 +27,11 @@ fn across2(c: Corner, d: Corner) -> f32
 fn apart2(c: Corner, d: Corner) -> f32
     ensures { result ≡ cut.apart² c d }
 {
-    let p = c.place;
-    let q = d.place;
-    let e = p.sub(q);
-    e.dot(e)
+    (c.place - d.place).length_squared()
 }
 
 // Whether the cut is 02.
+#[tactic(auto, unfolding(definition::specs::Step1Cut::cut02))]
 fn cut02(c0: Corner, c1: Corner, c2: Corner, c3: Corner) -> bool
     ensures { result ≡ cut.cut02 c0 c1 c2 c3 }
 {
@@ -53,24 +51,17 @@ fn cut02(c0: Corner, c1: Corner, c2: Corner, c3: Corner) -> bool
 // ---- step 2
 
 // Whether two of the three positions are equal by float comparison.
+#[tactic(auto, unfolding(definition::specs::Step2Degenerate::flat, math::specs::Vector::equals))]
 fn flat(c: Corner, d: Corner, e: Corner) -> bool
     ensures { result ≡ degenerate.flat c d e }
 {
-    let p = c.place;
-    let q = d.place;
-    let r = e.place;
-    if p.equals(q) {
-        return true;
-    }
-    if q.equals(r) {
-        return true;
-    }
-    r.equals(p)
+    c.place == d.place || d.place == e.place || e.place == c.place
 }
 
 // ---- step 3
 
 // Twice the signed area in the texture.
+#[tactic(auto, unfolding(definition::specs::Step3Tangents::turn))]
 fn turn(c: Corner, d: Corner, e: Corner) -> f32
     ensures { result ≡ tangents.turn c d e }
 {
@@ -78,30 +69,23 @@ fn turn(c: Corner, d: Corner, e: Corner) -> f32
 }
 
 // The direction of the texture's first axis, not brought to unit length.
+#[tactic(auto, unfolding(definition::specs::Step3Tangents::raw_s))]
 fn raw_s(c: Corner, d: Corner, e: Corner) -> Vec3
     ensures { result ≡ tangents.raw_s c d e }
 {
-    let p = c.place;
-    let q = d.place;
-    let r = e.place;
-    let x = q.sub(p);
-    let y = r.sub(p);
-    x.scale(e.v - c.v).sub(y.scale(d.v - c.v))
+    (d.place - c.place) * (e.v - c.v) - (e.place - c.place) * (d.v - c.v)
 }
 
 // That of its second axis.
+#[tactic(auto, unfolding(definition::specs::Step3Tangents::raw_t))]
 fn raw_t(c: Corner, d: Corner, e: Corner) -> Vec3
     ensures { result ≡ tangents.raw_t c d e }
 {
-    let p = c.place;
-    let q = d.place;
-    let r = e.place;
-    let x = q.sub(p);
-    let y = r.sub(p);
-    x.scale(-(e.u - c.u)).add(y.scale(d.u - c.u))
+    (d.place - c.place) * -(e.u - c.u) + (e.place - c.place) * (d.u - c.u)
 }
 
 // 1.0 above zero, and -1.0 else.
+#[tactic(auto, unfolding(definition::specs::Step3Tangents::sign_of))]
 fn sign_of(w: f32) -> f32
     ensures { result ≡ tangents.sign_of w }
 {
@@ -109,78 +93,51 @@ fn sign_of(w: f32) -> f32
 }
 
 // The tangent from twice the signed area and the two raw directions.
+#[tactic(auto, unfolding(definition::specs::Step3Tangents::tangent_at))]
 fn tangent_at(w: f32, s: Vec3, t: Vec3) -> RawTangentSpace
     ensures { result ≡ tangents.tangent_at w s t }
 {
     let k = sign_of(w);
     let area = math::fabsf(w);
-    let us = s.normalized_or_zero().scale(k);
-    let ut = t.normalized_or_zero().scale(k);
-    let ms = s.length() / area;
-    let mt = t.length() / area;
     RawTangentSpace {
-        s: us,
-        t: ut,
-        s_magnitude: ms,
-        t_magnitude: mt,
+        s: s.normalized_or_zero() * k,
+        t: t.normalized_or_zero() * k,
+        s_magnitude: s.length() / area,
+        t_magnitude: t.length() / area,
     }
 }
 
 // The first-order tangent from the same: the zero tangent where twice the signed area doesn't count.
+#[tactic(auto, unfolding(definition::specs::Step3Tangents::first_order))]
 fn first_order(w: f32, s: Vec3, t: Vec3) -> RawTangentSpace
     ensures { result ≡ tangents.first_order w s t }
 {
     if math::not_zero(w) {
-        return tangent_at(w, s, t);
+        tangent_at(w, s, t)
+    } else {
+        RawTangentSpace::ZERO
     }
-    RawTangentSpace::ZERO
 }
 
 // `group_with_any`: twice the signed area, or one of the two magnitudes, doesn't count, or one of the raw directions is none.
+#[tactic(auto, unfolding(definition::specs::Step3Tangents::unsure))]
 fn unsure(w: f32, s: Vec3, t: Vec3, g: RawTangentSpace) -> bool
     ensures { result ≡ tangents.unsure w s t g }
 {
-    if math::not_zero(w) {
-        if math::not_zero(g.s_magnitude) {
-            if math::not_zero(g.t_magnitude) {
-                let first = s.points();
-                if first {
-                    return !t.points();
-                }
-            }
-        }
-    }
-    true
+    !(math::not_zero(w)
+        && math::not_zero(g.s_magnitude)
+        && math::not_zero(g.t_magnitude)
+        && s.points()
+        && t.points())
 }
 
 // A triangle of three kept corners by itself.
+#[tactic(auto, unfolding(definition::specs::Triangles::make))]
 pub fn make(face: u32, second: bool, missing: u32, a: Kept, b: Kept, c: Kept) -> Triangle
     ensures { result ≡ spec.make face second missing a b c }
 {
-    let p = a.corner;
-    let q = b.corner;
-    let r = c.corner;
-    if flat(p, q, r) {
-        return Triangle {
-            face,
-            second,
-            missing,
-            a,
-            b,
-            c,
-            degenerate: true,
-            marked: false,
-            any: false,
-            orientation: false,
-            tangent: RawTangentSpace::ZERO,
-        };
-    }
-    let w = turn(p, q, r);
-    let s = raw_s(p, q, r);
-    let t = raw_t(p, q, r);
-    let tangent = first_order(w, s, t);
-    let any = unsure(w, s, t, tangent);
-    Triangle {
+    let (p, q, r) = (a.corner, b.corner, c.corner);
+    let sound = Triangle {
         face,
         second,
         missing,
@@ -189,83 +146,84 @@ pub fn make(face: u32, second: bool, missing: u32, a: Kept, b: Kept, c: Kept) ->
         c,
         degenerate: false,
         marked: false,
-        any,
+        any: false,
+        orientation: false,
+        tangent: RawTangentSpace::ZERO,
+    };
+    if flat(p, q, r) {
+        return Triangle {
+            degenerate: true,
+            ..sound
+        };
+    }
+    let w = turn(p, q, r);
+    let s = raw_s(p, q, r);
+    let t = raw_t(p, q, r);
+    let tangent = first_order(w, s, t);
+    Triangle {
+        any: unsure(w, s, t, tangent),
         orientation: w > 0.0,
         tangent,
+        ..sound
     }
 }
 
 // ---- a quad
 
-// The two triangles of a quad.
-#[derive(Clone, Copy)]
-pub struct Two {
-    pub first: Triangle,
-    pub second: Triangle,
-}
-
 // The same triangle with this mark and this orientation.
-fn settled(mut t: Triangle, m: bool, o: bool) -> Triangle
-    ensures { result ≡ spec.settled t m o }
+#[tactic(auto, unfolding(definition::specs::Triangles::settled))]
+fn settled(t: Triangle, marked: bool, orientation: bool) -> Triangle
+    ensures { result ≡ spec.settled t marked orientation }
 {
-    t.marked = m;
-    t.orientation = o;
-    t
+    Triangle {
+        marked,
+        orientation,
+        ..t
+    }
 }
 
 // Twice the area in the texture.
+#[tactic(auto, unfolding(definition::specs::Step3Tangents::area))]
 fn area(t: Triangle) -> f32
     ensures { result ≡ tangents.area t }
 {
-    let a = t.a;
-    let b = t.b;
-    let c = t.c;
-    let p = a.corner;
-    let q = b.corner;
-    let r = c.corner;
-    math::fabsf(turn(p, q, r))
+    math::fabsf(turn(t.a.corner, t.b.corner, t.c.corner))
 }
 
 // The orientation that a quad of two sound triangles takes where they disagree.
+#[tactic(auto, unfolding(definition::specs::Step3Tangents::quad_way))]
 fn quad_way(s: Triangle, t: Triangle) -> bool
     ensures { result ≡ tangents.quad_way s t }
 {
-    let any = t.any;
-    if any {
-        return s.orientation;
+    if t.any || area(t) <= area(s) {
+        s.orientation
+    } else {
+        t.orientation
     }
-    let x = area(t);
-    let y = area(s);
-    if x <= y {
-        return s.orientation;
-    }
-    t.orientation
+}
+
+// Whether each keeps its own orientation: one is degenerate, or they agree.
+#[tactic(auto, unfolding(definition::specs::Triangles::agree))]
+fn agree(s: Triangle, t: Triangle) -> bool
+    ensures { result ≡ spec.agree s t }
+{
+    s.degenerate || t.degenerate || s.orientation == t.orientation
 }
 
 // The two as step 2 marks them and step 3 settles their orientation.
-fn pair(s: Triangle, t: Triangle) -> Two
-    ensures { (result.first ∷ result.second ∷ []) ≡ spec.pair s t }
+#[tactic(auto, unfolding(definition::specs::Triangles::pair, definition::specs::Step2Degenerate::exactly_one))]
+fn pair(s: Triangle, t: Triangle) -> [Triangle; 2]
+    ensures { result ≡ spec.pair s t }
 {
-    if s.degenerate {
-        let m = !t.degenerate;
-        let first = settled(s, m, s.orientation);
-        let second = settled(t, m, t.orientation);
-        return Two { first, second };
+    let marked = s.degenerate != t.degenerate;
+    if agree(s, t) {
+        return [
+            settled(s, marked, s.orientation),
+            settled(t, marked, t.orientation),
+        ];
     }
-    if t.degenerate {
-        let first = settled(s, true, s.orientation);
-        let second = settled(t, true, t.orientation);
-        return Two { first, second };
-    }
-    if s.orientation == t.orientation {
-        let first = settled(s, false, s.orientation);
-        let second = settled(t, false, t.orientation);
-        return Two { first, second };
-    }
-    let w = quad_way(s, t);
-    let first = settled(s, false, w);
-    let second = settled(t, false, w);
-    Two { first, second }
+    let way = quad_way(s, t);
+    [settled(s, marked, way), settled(t, marked, way)]
 }
 
 // Corner number which of its face, with its values.
@@ -276,8 +234,9 @@ fn nook(which: u32, corner: Corner) -> Kept
 }
 
 // The two triangles of a quad, by its cut.
-pub fn quad(face: u32, c0: Corner, c1: Corner, c2: Corner, c3: Corner) -> Two
-    ensures { (result.first ∷ result.second ∷ []) ≡ spec.quad face c0 c1 c2 c3 }
+#[tactic(auto, unfolding(definition::specs::Triangles::quad))]
+pub fn quad(face: u32, c0: Corner, c1: Corner, c2: Corner, c3: Corner) -> [Triangle; 2]
+    ensures { result ≡ spec.quad face c0 c1 c2 c3 }
 {
     let k0 = nook(0, c0);
     let k1 = nook(1, c1);
