@@ -1,7 +1,7 @@
 -- The verdict, by the first row of the table that applies. Assumes nothing.
 use Prim.Native.Nat.{ℕ, ◌*◌, ◌≤◌, ◌<◌}
 use native.Mathlib.Omega.{arith}
-use mathlib.Core.Path.{◌≡◌, sym, subst, ◌∙◌}
+use mathlib.Core.Path.{◌≡◌, sym, ◌∙◌}
 use mathlib.Core.Bool.{Bool, true, false, cond}
 use mathlib.Core.Option.{Option, none, some}
 use lib.Dec.{ltb}
@@ -11,7 +11,7 @@ use Rattle.bits.specs.Word.{is_finite}
 use Rattle.tangent.specs.Slot.{slot_words}
 use Rattle.lists.specs.Lists.{first}
 use Rattle.definition.specs.Limits.{face_limit, work_words}
-use Rattle.definition.specs.Handed.{Handed, corner_count, slot_count}
+use Rattle.definition.specs.Handed.{corner_count, slot_count}
 use Rattle.definition.specs.Desk.{Shown, too_many, unfit, misfit, not_finite, no_normal, is_there, or_zero, table, verdict}
 use Rattle.std.specs.Prelude.{Result, Ok, Err}
 use Rattle.desk.specs.declared.Refusal.{Refusal}
@@ -50,13 +50,9 @@ module _ (x : Shown) where
   unfolding misfit
   fits n e = rw (e)
 
-  -- what the tests of the first two rows tell, made on lists that are the mesh
-  pub two-passed : (m : Handed) → m ≡ x.mesh → (n : ℕ) (b : Bool) → length m.sizes ≤ face_limit → n ≡ corner_count x.mesh.sizes → b ≡ unfit n (length m.positions) (length m.normals) (length m.texture) → IsMany false × IsMisfit b
-  two-passed m e n b l c u =
-      (
-        few (subst (λ (h : Handed). length h.sizes ≤ face_limit) e l),
-        fits n c ∙ sym (subst (λ (h : Handed). b ≡ unfit n (length h.positions) (length h.normals) (length h.texture)) e u),
-      )
+  -- what the tests of the first two rows tell
+  pub two-passed : (n : ℕ) (b : Bool) → length x.mesh.sizes ≤ face_limit → n ≡ corner_count x.mesh.sizes → b ≡ unfit n (length x.mesh.positions) (length x.mesh.normals) (length x.mesh.texture) → IsMany false × IsMisfit b
+  two-passed n b l c u = (few l, fits n c ∙ sym u)
 
   -- ---- the first that applies
   pub row1 : IsMany true → Told (Err TooManyFaces)

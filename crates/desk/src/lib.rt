@@ -7,6 +7,7 @@ ghost use Rattle.definition.specs.Desk.{shown};
 ghost use Rattle.definition.specs.Desk as desk;
 ghost use Rattle.definition.specs.Handed.{corners_from, used, corner_count, slot_count};
 ghost use Rattle.definition.specs.Limits.{face_limit};
+ghost use Rattle.mesh.specs.Parts.{given};
 ghost use Rattle.desk.specs.Verdict as spec;
 
 use definition::Corner;
@@ -122,7 +123,7 @@ fn flaws_with(before: Flaws, c: Corner, i: u32) -> Flaws
 // What was wrong before, and what is wrong with count corners from number from on.
 fn flaws_in(mesh: &Mesh, before: Flaws, from: u32, count: u32) -> Flaws
     requires { from + count < 2 ^ 32 }
-    ensures { (result.bad ≡ spec.found (spec.unless_found before.bad (desk.bad_in desk.finite_corner from (corners_from mesh.now.positions mesh.now.normals mesh.now.texture from count)))) × (result.bare ≡ spec.found (spec.unless_found before.bare (desk.bad_in desk.has_normal from (corners_from mesh.now.positions mesh.now.normals mesh.now.texture from count)))) }
+    ensures { (result.bad ≡ spec.found (spec.unless_found before.bad (desk.bad_in desk.finite_corner from (corners_from mesh.now.positions.now mesh.now.normals.now mesh.now.texture.now from count)))) × (result.bare ≡ spec.found (spec.unless_found before.bare (desk.bad_in desk.has_normal from (corners_from mesh.now.positions.now mesh.now.normals.now mesh.now.texture.now from count)))) }
 {
     let mut flaws = before;
     for i in from..from + count {
@@ -134,7 +135,7 @@ fn flaws_in(mesh: &Mesh, before: Flaws, from: u32, count: u32) -> Flaws
 // The same of a face of a size, which counts only if it is 3 or 4.
 fn flaws_of_face(mesh: &Mesh, before: Flaws, from: u32, size: u8) -> Flaws
     requires { from + size < 2 ^ 32 }
-    ensures { (result.bad ≡ spec.found (spec.unless_found before.bad (cond (used size) (desk.bad_in desk.finite_corner from (corners_from mesh.now.positions mesh.now.normals mesh.now.texture from size)) none))) × (result.bare ≡ spec.found (spec.unless_found before.bare (cond (used size) (desk.bad_in desk.has_normal from (corners_from mesh.now.positions mesh.now.normals mesh.now.texture from size)) none))) }
+    ensures { (result.bad ≡ spec.found (spec.unless_found before.bad (cond (used size) (desk.bad_in desk.finite_corner from (corners_from mesh.now.positions.now mesh.now.normals.now mesh.now.texture.now from size)) none))) × (result.bare ≡ spec.found (spec.unless_found before.bare (cond (used size) (desk.bad_in desk.has_normal from (corners_from mesh.now.positions.now mesh.now.normals.now mesh.now.texture.now from size)) none))) }
 {
     let unused = mesh::slots_of(size) == 0;
     if unused {
@@ -145,8 +146,8 @@ fn flaws_of_face(mesh: &Mesh, before: Flaws, from: u32, size: u8) -> Flaws
 
 // One pass over all lists: C, S, and the lowest corner of each kind in all faces of 3 or 4, counted over all C. C is at most 255 * 65,536, so no sum overflows.
 fn look_over(mesh: &Mesh) -> Seen
-    requires { length mesh.now.sizes ≤ face_limit }
-    ensures { (result.corners ≡ corner_count mesh.now.sizes) × (result.slots ≡ slot_count mesh.now.sizes) × (result.flaws.bad ≡ spec.found (desk.not_finite mesh.now)) × (result.flaws.bare ≡ spec.found (desk.no_normal mesh.now)) }
+    requires { length mesh.now.sizes.now ≤ face_limit }
+    ensures { (result.corners ≡ corner_count mesh.now.sizes.now) × (result.slots ≡ slot_count mesh.now.sizes.now) × (result.flaws.bad ≡ spec.found (desk.not_finite (given mesh.now))) × (result.flaws.bare ≡ spec.found (desk.no_normal (given mesh.now))) }
 {
     let mut corners: u32 = 0;
     let mut slots: u32 = 0;
@@ -168,10 +169,11 @@ fn look_over(mesh: &Mesh) -> Seen
 
 // The verdict on a mesh, a threshold, and the lengths of the lists that are lent: the first row of the table that applies.
 pub fn judge(mesh: &Mesh, threshold: f32, answer: usize, work: usize) -> Result<(), Refusal>
-    ensures { spec.told result ≡ spec.as_verdict (desk.verdict (shown mesh.now threshold answer work)) }
+    ensures { spec.told result ≡ spec.as_verdict (desk.verdict (shown (given mesh.now) threshold answer work)) }
 {
     let faces = mesh.sizes.len();
-    if definition::FACE_LIMIT < faces {
+    let many = definition::FACE_LIMIT < faces;
+    if many {
         return Err(Refusal::TooManyFaces);
     }
     let seen = look_over(mesh);

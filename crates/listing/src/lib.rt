@@ -3,14 +3,17 @@
 #![tactic(auto)]
 
 ghost use Rattle.std.specs.Prelude.{◌≡◌, [], ◌∷◌, ◌+◌, ◌*◌, ◌<◌, ◌≤◌, length};
-ghost use Rattle.definition.specs.Handed.{handed, corner_at, corners_from};
+ghost use Rattle.definition.specs.Handed.{corner_at, corners_from};
 ghost use Rattle.definition.specs.Limits.{face_limit};
 ghost use Rattle.definition.specs.Triangles.{nook, pieces};
+ghost use Rattle.mesh.specs.Parts.{given};
 ghost use Rattle.table.specs.Columns.{columns, rows_of};
 ghost use Rattle.records.specs.Stored.{Small};
 ghost use Rattle.listing.specs.Listing as spec;
 
 use definition::{Kept, Triangle};
+use mesh::Mesh;
+use triangles::Two;
 
 // ---- the triangles of a face
 
@@ -35,21 +38,21 @@ fn add_one(
 }
 
 // Corner number which of the face whose corners start at number base.
-fn kept_at(positions: &[f32], normals: &[f32], texture: &[f32], base: u32, which: u32) -> Kept
+fn kept_at(mesh: &Mesh, base: u32, which: u32) -> Kept
     requires { base + which < 4294967296 }
-    ensures { result ≡ nook which (corner_at positions.now normals.now texture.now (base + which)) }
+    ensures { result ≡ nook which (corner_at mesh.now.positions.now mesh.now.normals.now mesh.now.texture.now (base + which)) }
 {
-    let corner = mesh::corner_at(positions, normals, texture, base + which);
-    Kept { which, corner }
+    Kept {
+        which,
+        corner: mesh.corner_at(base + which),
+    }
 }
 
 // The triangles of a face: one of a face of three, two of a face of four, none of any other.
 fn add_face(
     work: &mut [u32],
     rows: usize,
-    positions: &[f32],
-    normals: &[f32],
-    texture: &[f32],
+    mesh: &Mesh,
     want: bool,
     face: u32,
     size: u8,
@@ -57,78 +60,56 @@ fn add_face(
     slot: u32,
     tris: usize,
 ) -> usize
-    requires { (base + 3 < 4294967296) × (slot + 3 < 4294967296) × (columns * rows ≤ length work.old) × (3 * (tris + length (spec.pick want (pieces face (corners_from positions.now normals.now texture.now base size)))) ≤ rows) }
-    ensures { spec.Done rows want positions.now normals.now texture.now face base slot (pieces face (corners_from positions.now normals.now texture.now base size)) tris result work.old work.new }
+    requires { (base + 3 < 4294967296) × (slot + 3 < 4294967296) × (columns * rows ≤ length work.old) × (3 * (tris + length (spec.pick want (pieces face (corners_from mesh.now.positions.now mesh.now.normals.now mesh.now.texture.now base size)))) ≤ rows) }
+    ensures { spec.Done rows want mesh.now.positions.now mesh.now.normals.now mesh.now.texture.now face base slot (pieces face (corners_from mesh.now.positions.now mesh.now.normals.now mesh.now.texture.now base size)) tris result work.old work.new }
 {
     if size == 3 {
-        let k0 = kept_at(positions, normals, texture, base, 0);
-        let k1 = kept_at(positions, normals, texture, base, 1);
-        let k2 = kept_at(positions, normals, texture, base, 2);
+        let k0 = kept_at(mesh, base, 0);
+        let k1 = kept_at(mesh, base, 1);
+        let k2 = kept_at(mesh, base, 2);
         let x = triangles::make(face, false, 3, k0, k1, k2);
         return add_one(work, rows, tris, want, base, slot, x);
     }
     if size == 4 {
-        let c0 = mesh::corner_at(positions, normals, texture, base);
-        let c1 = mesh::corner_at(positions, normals, texture, base + 1);
-        let c2 = mesh::corner_at(positions, normals, texture, base + 2);
-        let c3 = mesh::corner_at(positions, normals, texture, base + 3);
-        let q = triangles::quad(face, c0, c1, c2, c3);
-        let x = q.first;
-        let y = q.second;
-        let k = add_one(work, rows, tris, want, base, slot, x);
-        return add_one(work, rows, k, want, base, slot, y);
+        let c0 = mesh.corner_at(base);
+        let c1 = mesh.corner_at(base + 1);
+        let c2 = mesh.corner_at(base + 2);
+        let c3 = mesh.corner_at(base + 3);
+        let Two { first, second } = triangles::quad(face, c0, c1, c2, c3);
+        let k = add_one(work, rows, tris, want, base, slot, first);
+        return add_one(work, rows, k, want, base, slot, second);
     }
     tris
 }
 
 // ---- the triangles of all faces
 
-// A size as a number of corners.
-fn corners_of(size: u8) -> u32
-    ensures { (result ≡ size) × (result ≤ 255) }
-{
-    size as u32
-}
-
 // One pass over the faces: the sound triangles, or the degenerate ones, after the first tris.
-fn pass(
-    work: &mut [u32],
-    rows: usize,
-    sizes: &[u8],
-    positions: &[f32],
-    normals: &[f32],
-    texture: &[f32],
-    want: bool,
-    tris: usize,
-) -> usize
-    requires { (length sizes.now ≤ face_limit) × (columns * rows ≤ length work.old) × (3 * (tris + length (spec.pick want (spec.rest_from positions.now normals.now texture.now 0 0 sizes.now))) ≤ rows) }
-    ensures { spec.Added rows (handed sizes.now positions.now normals.now texture.now) (spec.pick want (spec.rest_from positions.now normals.now texture.now 0 0 sizes.now)) tris result work.old work.new }
+fn pass(work: &mut [u32], rows: usize, mesh: &Mesh, want: bool, tris: usize) -> usize
+    requires { (length mesh.now.sizes.now ≤ face_limit) × (columns * rows ≤ length work.old) × (3 * (tris + length (spec.pick want (spec.rest_from mesh.now.positions.now mesh.now.normals.now mesh.now.texture.now 0 0 mesh.now.sizes.now))) ≤ rows) }
+    ensures { spec.Added rows (given mesh.now) (spec.pick want (spec.rest_from mesh.now.positions.now mesh.now.normals.now mesh.now.texture.now 0 0 mesh.now.sizes.now)) tris result work.old work.new }
 {
     let mut base: u32 = 0;
     let mut slot: u32 = 0;
     let mut k = tris;
-    for f in 0..sizes.len() {
-        let size = sizes[f];
-        k = add_face(
-            work, rows, positions, normals, texture, want, f as u32, size, base, slot, k,
-        );
-        base += corners_of(size);
+    for (f, &size) in mesh.sizes.iter().enumerate() {
+        k = add_face(work, rows, mesh, want, f as u32, size, base, slot, k);
+        base += size as u32;
         slot += mesh::slots_of(size) as u32;
     }
     k
 }
 
 // How many triangles a face of a size has.
+#[tactic(auto, unfolding(crate::specs::Listing::pieces_of))]
 fn pieces_of(size: u8) -> usize
     ensures { (result ≡ spec.pieces_of size) × (result ≤ 2) }
 {
-    if size == 3 {
-        return 1;
+    match size {
+        3 => 1,
+        4 => 2,
+        _ => 0,
     }
-    if size == 4 {
-        return 2;
-    }
-    0
 }
 
 // How many triangles all faces have.
@@ -136,11 +117,9 @@ fn pieces_in(sizes: &[u8]) -> usize
     requires { length sizes.now ≤ face_limit }
     ensures { result ≡ spec.piece_count sizes.now }
 {
-    let mut sum: usize = 0;
-    let mut f: usize = 0;
-    while f < sizes.len() {
-        sum += pieces_of(sizes[f]);
-        f += 1;
+    let mut sum = 0;
+    for &size in sizes {
+        sum += pieces_of(size);
     }
     sum
 }
@@ -153,21 +132,15 @@ pub struct TriangleCounts {
 }
 
 // Steps 1 to 3, and the order of step 4.
-pub fn list_triangles(
-    work: &mut [u32],
-    sizes: &[u8],
-    positions: &[f32],
-    normals: &[f32],
-    texture: &[f32],
-) -> TriangleCounts
-    requires { (length sizes.now ≤ face_limit) × (columns * rows_of (length sizes.now) ≤ length work.old) }
-    ensures { spec.Listed (handed sizes.now positions.now normals.now texture.now) result.sound result.all work.old work.new }
+pub fn list_triangles(work: &mut [u32], mesh: &Mesh) -> TriangleCounts
+    requires { (length mesh.now.sizes.now ≤ face_limit) × (columns * rows_of (length mesh.now.sizes.now) ≤ length work.old) }
+    ensures { spec.Listed (given mesh.now) result.sound result.all work.old work.new }
 {
-    let rows = 6 * sizes.len();
-    let sound = pass(work, rows, sizes, positions, normals, texture, false, 0);
-    if pieces_in(sizes) <= sound {
+    let rows = 6 * mesh.sizes.len();
+    let sound = pass(work, rows, mesh, false, 0);
+    if pieces_in(mesh.sizes) <= sound {
         return TriangleCounts { sound, all: sound }; // none is degenerate
     }
-    let all = pass(work, rows, sizes, positions, normals, texture, true, sound);
+    let all = pass(work, rows, mesh, true, sound);
     TriangleCounts { sound, all }
 }

@@ -1,9 +1,14 @@
 -- A face's corner as one number, and the part of a list that belongs to a face. Definitions only.
 use Rattle.std.specs.Prelude.{ℕ, ◌*◌, ◌/◌, ◌%◌, ◌≤◌, ◌≡◌, Bool, cond, ◌||◌, List, [], eqb, leb, ltb, length, get_or, take, drop, Float}
-use Rattle.definition.specs.Handed.{Handed, corner_count}
+use Rattle.definition.specs.Handed.{Handed, handed, corner_count}
 use Rattle.definition.specs.Limits.{face_limit}
 use Rattle.definition.specs.Desk.{too_many, misfit}
+use Rattle.mesh.specs.declared.Mesh.{Mesh}
 use Rattle.mesh.specs.declared.Span.{Span}
+
+-- the mesh that was handed in
+abbrev pub given : Mesh → Handed
+given m = handed m.sizes.now m.positions.now m.normals.now m.texture.now
 
 -- of 'face times 4 plus corner, one number': the face
 abbrev pub face_of : ℕ → ℕ

@@ -12,23 +12,13 @@ ghost use Rattle.mesh.specs.Parts as spec;
 
 use definition::Corner;
 use math::Vec3;
-use std::marker::Model;
-
-// A mesh as it is handed in: the faces' sizes, and the numbers of their corners. A contract sees the definition's `Handed`.
-#[derive(Drop)]
+// A mesh as it is handed in: the faces' sizes, and the numbers of their corners. A contract speaks of it as the definition's `Handed`, by `given`.
+#[derive(Clone, Copy)]
 pub struct Mesh<'a> {
     pub sizes: &'a [u8],
     pub positions: &'a [f32],
     pub normals: &'a [f32],
     pub texture: &'a [f32],
-}
-
-impl<'a> Model for Mesh<'a> {
-    ghost use Rattle.definition.specs.Handed.{Handed, handed};
-
-    ghost Value = { Handed };
-
-    ghost view = { λ m. handed m.sizes.now m.positions.now m.normals.now m.texture.now };
 }
 
 // A corner of a face as one number: face times 4 plus corner.
@@ -95,7 +85,7 @@ impl<'a> Mesh<'a> {
     // Corner number i of the three lists.
     #[tactic(auto, unfolding(definition::specs::Handed::corner_at, definition::specs::Handed::vector_at))]
     pub fn corner_at(&self, i: u32) -> Corner
-        ensures { result ≡ corner_at self.now.positions self.now.normals self.now.texture i }
+        ensures { result ≡ corner_at self.now.positions.now self.now.normals.now self.now.texture.now i }
     {
         let at = (i as usize) * 2;
         Corner {
@@ -109,7 +99,7 @@ impl<'a> Mesh<'a> {
 
     // Whether refusal 1 or 2 would catch the lists.
     pub fn caught(&self) -> bool
-        ensures { result ≡ spec.caught self.now }
+        ensures { result ≡ spec.caught (spec.given self.now) }
     {
         if definition::FACE_LIMIT < self.sizes.len() {
             return true;

@@ -2,7 +2,7 @@
 // Carried over from mikktspace.rs (generate_triangle_info_list, calculate_texture_area) of the Rust crate bevy_mikktspace and ALTERED: written anew in Rattle, with document 01's root. See NOTICE.
 #![tactic(auto)]
 
-ghost use Rattle.std.specs.Prelude.{◌≡◌};
+ghost use Rattle.std.specs.Prelude.{◌≡◌, [], ◌∷◌};
 ghost use Rattle.definition.specs.Step1Cut as cut;
 ghost use Rattle.definition.specs.Step2Degenerate as degenerate;
 ghost use Rattle.definition.specs.Step3Tangents as tangents;
@@ -202,6 +202,13 @@ fn quad_way(s: Triangle, t: Triangle) -> bool
     }
 }
 
+// The two triangles of a quad.
+#[derive(Clone, Copy)]
+pub struct Two {
+    pub first: Triangle,
+    pub second: Triangle,
+}
+
 // Whether each keeps its own orientation: one is degenerate, or they agree.
 #[tactic(auto, unfolding(definition::specs::Triangles::agree))]
 fn agree(s: Triangle, t: Triangle) -> bool
@@ -212,18 +219,21 @@ fn agree(s: Triangle, t: Triangle) -> bool
 
 // The two as step 2 marks them and step 3 settles their orientation.
 #[tactic(auto, unfolding(definition::specs::Triangles::pair, definition::specs::Step2Degenerate::exactly_one))]
-fn pair(s: Triangle, t: Triangle) -> [Triangle; 2]
-    ensures { result ≡ spec.pair s t }
+fn pair(s: Triangle, t: Triangle) -> Two
+    ensures { result.first ∷ result.second ∷ [] ≡ spec.pair s t }
 {
     let marked = s.degenerate != t.degenerate;
     if agree(s, t) {
-        return [
-            settled(s, marked, s.orientation),
-            settled(t, marked, t.orientation),
-        ];
+        return Two {
+            first: settled(s, marked, s.orientation),
+            second: settled(t, marked, t.orientation),
+        };
     }
     let way = quad_way(s, t);
-    [settled(s, marked, way), settled(t, marked, way)]
+    Two {
+        first: settled(s, marked, way),
+        second: settled(t, marked, way),
+    }
 }
 
 // Corner number which of its face, with its values.
@@ -235,8 +245,8 @@ fn nook(which: u32, corner: Corner) -> Kept
 
 // The two triangles of a quad, by its cut.
 #[tactic(auto, unfolding(definition::specs::Triangles::quad))]
-pub fn quad(face: u32, c0: Corner, c1: Corner, c2: Corner, c3: Corner) -> [Triangle; 2]
-    ensures { result ≡ spec.quad face c0 c1 c2 c3 }
+pub fn quad(face: u32, c0: Corner, c1: Corner, c2: Corner, c3: Corner) -> Two
+    ensures { result.first ∷ result.second ∷ [] ≡ spec.quad face c0 c1 c2 c3 }
 {
     let k0 = nook(0, c0);
     let k1 = nook(1, c1);

@@ -9,5 +9,5 @@ use Rattle.desk.proofs.flaws_in.Given as goal
 abbrev pub invariant-loop-i : goal.invariant-loop-i
 invariant-loop-i l =
     let m = l.mesh in
-    Gives finite_corner m.positions m.normals m.texture l.flaws.bad l.i (l.from + l.count - l.i) (unless_found l.initial.flaws.bad (lowest finite_corner m.positions m.normals m.texture l.from l.count))
-    × Gives has_normal m.positions m.normals m.texture l.flaws.bare l.i (l.from + l.count - l.i) (unless_found l.initial.flaws.bare (lowest has_normal m.positions m.normals m.texture l.from l.count))
+    Gives finite_corner m.positions.now m.normals.now m.texture.now l.flaws.bad l.i (l.from + l.count - l.i) (unless_found l.initial.flaws.bad (lowest finite_corner m.positions.now m.normals.now m.texture.now l.from l.count))
+    × Gives has_normal m.positions.now m.normals.now m.texture.now l.flaws.bare l.i (l.from + l.count - l.i) (unless_found l.initial.flaws.bare (lowest has_normal m.positions.now m.normals.now m.texture.now l.from l.count))

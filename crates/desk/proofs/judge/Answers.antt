@@ -1,37 +1,36 @@
 -- `desk::judge` meets its contract: each way out is the first row that applies. Assumes nothing.
 use Rattle.std.proofs.Common.{arith, ℕ, ◌≡◌, ◌*◌, ◌≤◌, ◌<◌, length, sym, ap, ◌∙◌, subst}
-use Rattle.definition.specs.Handed.{Handed}
-use Rattle.definition.specs.Limits.{face_limit}
+use Rattle.mesh.specs.Parts.{given}
 use Rattle.definition.specs.Desk.{Shown, shown}
 use Rattle.desk.proofs.Bad.{is_some, is_none}
 use Rattle.desk.proofs.Telling.{many, two-passed, row1, row2, row3, row4, row7, row5, row6, no-row}
 use Rattle.desk.proofs.judge.Goals as goal
 
-pub returns-then-faces-gt-FACE_LIMIT : goal.returns-then-faces-gt-FACE_LIMIT
-returns-then-faces-gt-FACE_LIMIT c =
+pub returns-then-many : goal.returns-then-many
+returns-then-many c =
     let a = c.args in
-    let q = shown a.mesh.now a.threshold a.answer a.work in
-    row1 q (many q (subst (λ (m : Handed). face_limit < length m.sizes) c.mesh.view_is c.if-faces-gt-FACE_LIMIT.true))
+    let q = shown (given a.mesh.now) a.threshold a.answer a.work in
+    row1 q (many q c.if-many.true)
 
 pub returns-then-misfit : goal.returns-then-misfit
 returns-then-misfit c =
     let a = c.args in
-    let q = shown a.mesh.now a.threshold a.answer a.work in
-    let p = two-passed q _ c.mesh.view_is _ _ c.if-faces-gt-FACE_LIMIT.false c.look_over-seen.ensures.0 c.unfit-misfit.ensures in
+    let q = shown (given a.mesh.now) a.threshold a.answer a.work in
+    let p = two-passed q _ _ c.if-many.false c.look_over-seen.ensures.0 c.unfit-misfit.ensures in
     row2 q p.0 (p.1 ∙ c.if-misfit.true)
 
 pub returns-then-not-is_finite : goal.returns-then-not-is_finite
 returns-then-not-is_finite c =
     let a = c.args in
-    let q = shown a.mesh.now a.threshold a.answer a.work in
-    let p = two-passed q _ c.mesh.view_is _ _ c.if-faces-gt-FACE_LIMIT.false c.look_over-seen.ensures.0 c.unfit-misfit.ensures in
+    let q = shown (given a.mesh.now) a.threshold a.answer a.work in
+    let p = two-passed q _ _ c.if-many.false c.look_over-seen.ensures.0 c.unfit-misfit.ensures in
     row3 q p.0 (p.1 ∙ c.if-misfit.false) (sym c.is_finite.ensures ∙ c.if-not-is_finite.true)
 
 pub returns-in-Some : goal.returns-in-Some
 returns-in-Some c =
     let a = c.args in
-    let q = shown a.mesh.now a.threshold a.answer a.work in
-    let p = two-passed q _ c.mesh.view_is _ _ c.if-faces-gt-FACE_LIMIT.false c.look_over-seen.ensures.0 c.unfit-misfit.ensures in
+    let q = shown (given a.mesh.now) a.threshold a.answer a.work in
+    let p = two-passed q _ _ c.if-many.false c.look_over-seen.ensures.0 c.unfit-misfit.ensures in
     let f = p.1 ∙ c.if-misfit.false in
     let t = sym c.is_finite.ensures ∙ c.if-not-is_finite.false in
     row4 q p.0 f t _ (is_some _ _ (sym c.look_over-seen.ensures.2 ∙ c.in-Some.is))
@@ -39,8 +38,8 @@ returns-in-Some c =
 pub returns-in-Some-bare : goal.returns-in-Some-bare
 returns-in-Some-bare c =
     let a = c.args in
-    let q = shown a.mesh.now a.threshold a.answer a.work in
-    let p = two-passed q _ c.mesh.view_is _ _ c.if-faces-gt-FACE_LIMIT.false c.look_over-seen.ensures.0 c.unfit-misfit.ensures in
+    let q = shown (given a.mesh.now) a.threshold a.answer a.work in
+    let p = two-passed q _ _ c.if-many.false c.look_over-seen.ensures.0 c.unfit-misfit.ensures in
     let f = p.1 ∙ c.if-misfit.false in
     let t = sym c.is_finite.ensures ∙ c.if-not-is_finite.false in
     let b = is_none _ (sym c.look_over-seen.ensures.2 ∙ c.in_default.is) in
@@ -49,8 +48,8 @@ returns-in-Some-bare c =
 pub returns-then-few : goal.returns-then-few
 returns-then-few c =
     let a = c.args in
-    let q = shown a.mesh.now a.threshold a.answer a.work in
-    let p = two-passed q _ c.mesh.view_is _ _ c.if-faces-gt-FACE_LIMIT.false c.look_over-seen.ensures.0 c.unfit-misfit.ensures in
+    let q = shown (given a.mesh.now) a.threshold a.answer a.work in
+    let p = two-passed q _ _ c.if-many.false c.look_over-seen.ensures.0 c.unfit-misfit.ensures in
     let f = p.1 ∙ c.if-misfit.false in
     let t = sym c.is_finite.ensures ∙ c.if-not-is_finite.false in
     let b = is_none _ (sym c.look_over-seen.ensures.2 ∙ c.in_default.is) in
@@ -60,23 +59,21 @@ returns-then-few c =
 pub returns-then-short : goal.returns-then-short
 returns-then-short c =
     let a = c.args in
-    let q = shown a.mesh.now a.threshold a.answer a.work in
-    let p = two-passed q _ c.mesh.view_is _ _ c.if-faces-gt-FACE_LIMIT.false c.look_over-seen.ensures.0 c.unfit-misfit.ensures in
+    let q = shown (given a.mesh.now) a.threshold a.answer a.work in
+    let p = two-passed q _ _ c.if-many.false c.look_over-seen.ensures.0 c.unfit-misfit.ensures in
     let f = p.1 ∙ c.if-misfit.false in
     let t = sym c.is_finite.ensures ∙ c.if-not-is_finite.false in
     let b = is_none _ (sym c.look_over-seen.ensures.2 ∙ c.in_default.is) in
     let n = is_none _ (sym c.look_over-seen.ensures.3 ∙ c.in_default-bare.is) in
-    let s : length c.mesh.inside.sizes.now ≡ length a.mesh.now.sizes = ap (λ (m : Handed). length m.sizes) c.mesh.view_is in
-    row6 q p.0 f t b n (omega (arith, c.look_over-seen.ensures.1)) (omega (arith, s))
+    row6 q p.0 f t b n (omega (arith, c.look_over-seen.ensures.1)) (omega arith)
 
 pub returns : goal.returns
 returns c =
     let a = c.args in
-    let q = shown a.mesh.now a.threshold a.answer a.work in
-    let p = two-passed q _ c.mesh.view_is _ _ c.if-faces-gt-FACE_LIMIT.false c.look_over-seen.ensures.0 c.unfit-misfit.ensures in
+    let q = shown (given a.mesh.now) a.threshold a.answer a.work in
+    let p = two-passed q _ _ c.if-many.false c.look_over-seen.ensures.0 c.unfit-misfit.ensures in
     let f = p.1 ∙ c.if-misfit.false in
     let t = sym c.is_finite.ensures ∙ c.if-not-is_finite.false in
     let b = is_none _ (sym c.look_over-seen.ensures.2 ∙ c.in_default.is) in
     let n = is_none _ (sym c.look_over-seen.ensures.3 ∙ c.in_default-bare.is) in
-    let s : length c.mesh.inside.sizes.now ≡ length a.mesh.now.sizes = ap (λ (m : Handed). length m.sizes) c.mesh.view_is in
-    no-row q p.0 f t b n (omega (arith, c.look_over-seen.ensures.1)) (omega (arith, s))
+    no-row q p.0 f t b n (omega (arith, c.look_over-seen.ensures.1)) (omega arith)

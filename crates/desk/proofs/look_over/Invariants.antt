@@ -10,6 +10,6 @@ use Rattle.desk.proofs.look_over.Given as goal
 abbrev pub invariant-loop-size : goal.invariant-loop-size
 invariant-loop-size l =
     let m = l.mesh in
-    (l.size-items ≡ m.sizes) × (length l.size-items ≤ 65536) × (l.corners ≤ 255 * l.size-index) × (l.slots ≤ 4 * l.size-index) × (l.corners ≡ corner_count (take l.size-index l.size-items)) × (l.slots ≡ slot_count (take l.size-index l.size-items))
-    × FacesGive finite_corner m.positions m.normals m.texture l.size-items l.flaws.bad l.size-index l.corners
-    × FacesGive has_normal m.positions m.normals m.texture l.size-items l.flaws.bare l.size-index l.corners
+    (length m.sizes.now ≤ 65536) × (l.corners ≤ 255 * l.size-index) × (l.slots ≤ 4 * l.size-index) × (l.corners ≡ corner_count (take l.size-index m.sizes.now)) × (l.slots ≡ slot_count (take l.size-index m.sizes.now))
+    × FacesGive finite_corner m.positions.now m.normals.now m.texture.now m.sizes.now l.flaws.bad l.size-index l.corners
+    × FacesGive has_normal m.positions.now m.normals.now m.texture.now m.sizes.now l.flaws.bare l.size-index l.corners

@@ -1,34 +1,21 @@
--- `listing::pieces_in` meets its contract. Assumes nothing.
-use Prim.Native.Nat.{ℕ, ◌+◌, ◌<◌}
-use mathlib.Core.Path.{sym, ap, ◌∙◌}
-use native.Mathlib.Omega.{arith}
-use native.Mathlib.Nat.{le_antisymm}
-use lib.ListN.{length, take}
-use lib.Seq.{take-length}
+-- `listing::pieces_in` meets its contract: one size more adds its triangles. Assumes nothing.
+use Rattle.std.proofs.Common.{arith, ℕ, ◌+◌, ◌<◌, length, take, sym, ap, ◌∙◌}
+use Rattle.std.proofs.lemmas.List.{take_all}
 use Rattle.listing.specs.Listing.{piece_count}
 use Rattle.listing.proofs.Pieces.{pieces_more, pieces_none}
 use Rattle.listing.proofs.pieces_in.Goals as goal
 
-pub loop-f-init : goal.loop-f-init
-loop-f-init c = (pieces_none c.args.sizes.now, omega arith, omega arith)
+pub loop-size-init : goal.loop-size-init
+loop-size-init c = (pieces_none c.args.sizes.now, omega arith)
 
-pub overflow_add-sum : goal.overflow_add-sum
-overflow_add-sum c =
-    let l = c.loop-f in
-    omega (arith, l.invariant.2, l.invariant.1, c.pieces_of-sum.ensures.1, c.requires)
-
-pub loop-f-preserved : goal.loop-f-preserved
-loop-f-preserved c =
-    let l = c.loop-f in
+pub loop-size-preserved : goal.loop-size-preserved
+loop-size-preserved c =
+    let l = c.loop-size in
     let sizes = c.args.sizes.now in
-    let h : l.f < length sizes = c.loop-f-test.true in (
-      ap (λ (n : ℕ). n + c.pieces_of-sum.result) l.invariant.0 ∙ (ap (λ (n : ℕ). piece_count (take l.f sizes) + n) c.pieces_of-sum.ensures.0 ∙ sym (pieces_more sizes l.f h)),
-      omega (arith, h),
-      omega (arith, l.invariant.2, c.pieces_of-sum.ensures.1),
+    let h : l.size-index < length sizes = c.loop-size-test.true in (
+      ap (λ (n : ℕ). n + c.pieces_of-sum.result) l.invariant.0 ∙ (ap (λ (n : ℕ). piece_count (take l.size-index sizes) + n) c.pieces_of-sum.ensures.0 ∙ sym (pieces_more sizes l.size-index h)),
+      omega arith,
     )
 
 pub returns : goal.returns
-returns c =
-    let l = c.loop-f in
-    let sizes = c.args.sizes.now in
-    l.invariant.0 ∙ (ap (λ k. piece_count (take k sizes)) (le_antisymm l.invariant.1 c.loop-f-test.false) ∙ ap piece_count (take-length sizes))
+returns c = c.loop-size.invariant.0 ∙ ap piece_count (take_all c.loop-size.size-index c.args.sizes.now c.loop-size-test.false)

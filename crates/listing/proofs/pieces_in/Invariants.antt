@@ -1,12 +1,7 @@
--- `listing::pieces_in` meets its contract. Assumes nothing.
-use Prim.Native.Nat.{◌*◌, ◌-◌, ◌≤◌}
-use mathlib.Core.Path.{◌≡◌}
-use lib.ListN.{length, take}
+-- `listing::pieces_in` meets its contract. The invariant: the sum so far is that of the faces passed. Assumes nothing.
+use Rattle.std.proofs.Common.{◌≡◌, ◌*◌, ◌≤◌, take}
 use Rattle.listing.specs.Listing.{piece_count}
 use Rattle.listing.proofs.pieces_in.Given as goal
 
-abbrev pub invariant-loop-f : goal.invariant-loop-f
-invariant-loop-f l = (l.sum ≡ piece_count (take l.f l.sizes)) × (l.f ≤ length l.sizes) × (l.sum ≤ 2 * l.f)
-
-abbrev pub decreases-loop-f : goal.decreases-loop-f
-decreases-loop-f l = length l.sizes - l.f
+abbrev pub invariant-loop-size : goal.invariant-loop-size
+invariant-loop-size l = (l.sum ≡ piece_count (take l.size-index l.sizes)) × (l.sum ≤ 2 * l.size-index)
