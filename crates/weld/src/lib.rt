@@ -17,10 +17,12 @@ ghost use Rattle.weld.specs.Welding as spec;
 
 use definition::Corner;
 use math::Vec3;
+use mesh::Mesh;
 
 // ---- the same bits
 
 // Whether two numbers have the same bits: -0.0 and 0.0 differ.
+#[tactic(auto, unfolding(definition::specs::Step4Order::same_bits))]
 fn same(x: f32, y: f32) -> bool
     ensures { result ≡ same_bits x y }
 {
@@ -28,6 +30,7 @@ fn same(x: f32, y: f32) -> bool
 }
 
 // Whether two vectors have them in all three numbers.
+#[tactic(auto, unfolding(definition::specs::Step4Order::same_vector))]
 fn same_vector(a: Vec3, b: Vec3) -> bool
     ensures { result ≡ same_vector a b }
 {
@@ -35,19 +38,21 @@ fn same_vector(a: Vec3, b: Vec3) -> bool
 }
 
 // Whether two corners have them in all eight, and one tag: then they are welded.
+#[tactic(auto, unfolding(definition::specs::Step4Order::welded, definition::specs::Step4Order::same_numbers))]
 fn same_corner(a: Corner, b: Corner) -> bool
     ensures { result ≡ welded a b }
 {
-    let p = a.place;
-    let q = b.place;
-    let m = a.normal;
-    let n = b.normal;
-    same_vector(p, q) & same_vector(m, n) & same(a.u, b.u) & same(a.v, b.v) & (a.tag == b.tag)
+    same_vector(a.place, b.place)
+        & same_vector(a.normal, b.normal)
+        & same(a.u, b.u)
+        & same(a.v, b.v)
+        & (a.tag == b.tag)
 }
 
 // ---- buckets
 
 // A number's word mixed into h: the upper half of the product is added to the lower, since small whole numbers have their bits at the top.
+#[tactic(auto, unfolding(crate::specs::Welding::mix))]
 fn mixed(h: u64, x: f32) -> u64
     requires { h < 4294967296 }
     ensures { (result ≡ spec.mix h (word x)) × (result < 4294967296) }
@@ -57,6 +62,7 @@ fn mixed(h: u64, x: f32) -> u64
 }
 
 // The words of a vector's three numbers mixed into h.
+#[tactic(auto, unfolding(crate::specs::Welding::mixture))]
 fn mixed_vector(h: u64, a: Vec3) -> u64
     requires { h < 4294967296 }
     ensures { (result ≡ spec.mixture h (three_of a)) × (result < 4294967296) }
@@ -65,55 +71,34 @@ fn mixed_vector(h: u64, a: Vec3) -> u64
 }
 
 // The bucket of a corner, by the words of its eight numbers.
+#[tactic(auto, unfolding(crate::specs::Welding::bucket_of, crate::specs::Welding::mixture))]
 fn bucket(c: Corner, rows: usize) -> usize
     requires { 0 < rows }
     ensures { (result ≡ spec.bucket_of rows c) × (result < rows) }
 {
-    let p = c.place;
-    let n = c.normal;
-    let h = mixed_vector(mixed_vector(0, p), n);
+    let h = mixed_vector(mixed_vector(0, c.place), c.normal);
     (mixed(mixed(h, c.u), c.v) % (rows as u64)) as usize
 }
 
 // ---- chains
 
 // The corner whose number stands at row r.
-fn corner_of(
-    work: &[u32],
-    rows: usize,
-    r: usize,
-    positions: &[f32],
-    normals: &[f32],
-    texture: &[f32],
-) -> Corner
+fn corner_of(work: &[u32], rows: usize, r: usize, mesh: &Mesh) -> Corner
     requires { (r < rows) × (columns * rows ≤ length work.now) }
-    ensures { result ≡ spec.corner_in positions.now normals.now texture.now (column rows corner_column work.now) r }
+    ensures { result ≡ spec.corner_in mesh.now.positions.now mesh.now.normals.now mesh.now.texture.now (column rows corner_column work.now) r }
 {
-    mesh::corner_at(
-        positions,
-        normals,
-        texture,
-        records::corner_at(work, rows, r),
-    )
+    mesh.corner_at(records::corner_at(work, rows, r))
 }
 
 // The first row of a chain whose corner has the bits of c, and one; 0 where there is none.
-fn find(
-    work: &[u32],
-    rows: usize,
-    positions: &[f32],
-    normals: &[f32],
-    texture: &[f32],
-    c: Corner,
-    from: u32,
-) -> u32
+fn find(work: &[u32], rows: usize, mesh: &Mesh, c: Corner, from: u32) -> u32
     requires { (columns * rows ≤ length work.now) × (from < rows) × spec.Chain (column rows next_column work.now) from }
-    ensures { spec.Finds (column rows next_column work.now) (λ k. welded c (spec.corner_in positions.now normals.now texture.now (column rows corner_column work.now) k)) from result }
+    ensures { spec.Finds (column rows next_column work.now) (λ k. welded c (spec.corner_in mesh.now.positions.now mesh.now.normals.now mesh.now.texture.now (column rows corner_column work.now) k)) from result }
 {
     let mut p = from;
     while p != 0 {
         let r = (p - 1) as usize;
-        let d = corner_of(work, rows, r, positions, normals, texture);
+        let d = corner_of(work, rows, r, mesh);
         if same_corner(c, d) {
             return p;
         }
@@ -136,22 +121,15 @@ fn put_first(work: &mut [u32], rows: usize, row: u32, b: usize)
 }
 
 // One row more: its vertex is the row that its bucket has for its corner, or itself.
-fn turn(
-    work: &mut [u32],
-    rows: usize,
-    row: u32,
-    positions: &[f32],
-    normals: &[f32],
-    texture: &[f32],
-)
-    requires { (columns * rows ≤ length work.old) × (row < rows) × (rows < 4294967295) × spec.GoingIn rows row positions.now normals.now texture.now work.old }
-    ensures { spec.GoingIn rows (row + 1) positions.now normals.now texture.now work.new × Only spec.weld_columns rows work.old work.new }
+fn turn(work: &mut [u32], rows: usize, row: u32, mesh: &Mesh)
+    requires { (columns * rows ≤ length work.old) × (row < rows) × (rows < 4294967295) × spec.GoingIn rows row mesh.now.positions.now mesh.now.normals.now mesh.now.texture.now work.old }
+    ensures { spec.GoingIn rows (row + 1) mesh.now.positions.now mesh.now.normals.now mesh.now.texture.now work.new × Only spec.weld_columns rows work.old work.new }
 {
     let r = row as usize;
-    let c = corner_of(work, rows, r, positions, normals, texture);
+    let c = corner_of(work, rows, r, mesh);
     let b = bucket(c, rows);
     let head = work[table::HEAD * rows + b];
-    let p = find(work, rows, positions, normals, texture, c, head);
+    let p = find(work, rows, mesh, c, head);
     if p != 0 {
         work[table::VERTEX * rows + r] = p - 1;
         return;
@@ -160,19 +138,12 @@ fn turn(
 }
 
 // The corners of the first n rows: the vertex of each is the first row with the same bits in all eight numbers.
-pub fn weld(
-    work: &mut [u32],
-    rows: usize,
-    n: usize,
-    positions: &[f32],
-    normals: &[f32],
-    texture: &[f32],
-)
+pub fn weld(work: &mut [u32], rows: usize, n: usize, mesh: &Mesh)
     requires { (n ≤ rows) × (columns * rows ≤ length work.old) × (rows < 4294967295) }
-    ensures { spec.Welded rows n positions.now normals.now texture.now work.old work.new × ((sizes : List ℕ) (xs : List Triangle) (d : Triangle) → 3 * length xs ≡ n → Held rows (handed sizes positions.now normals.now texture.now) xs d work.old → Vertices rows xs d work.new) }
+    ensures { spec.Welded rows n mesh.now.positions.now mesh.now.normals.now mesh.now.texture.now work.old work.new × ((sizes : List ℕ) (xs : List Triangle) (d : Triangle) → 3 * length xs ≡ n → Held rows (handed sizes mesh.now.positions.now mesh.now.normals.now mesh.now.texture.now) xs d work.old → Vertices rows xs d work.new) }
 {
     table::clear(work, rows, table::HEAD);
     for r in 0..n {
-        turn(work, rows, r as u32, positions, normals, texture);
+        turn(work, rows, r as u32, mesh);
     }
 }

@@ -7,7 +7,7 @@ use Rattle.weld.proofs.Chains.{Walking}
 use Rattle.weld.proofs.find.Given as goal
 
 abbrev pub invariant-loop-p : goal.invariant-loop-p
-invariant-loop-p l = Walking l.rows (column l.rows next_column l.work) (λ k. welded l.c (corner_in l.positions l.normals l.texture (column l.rows corner_column l.work) k)) l.from l.p
+invariant-loop-p l = Walking l.rows (column l.rows next_column l.work) (λ k. welded l.c (corner_in l.mesh.positions.now l.mesh.normals.now l.mesh.texture.now (column l.rows corner_column l.work) k)) l.from l.p
 
 abbrev pub decreases-loop-p : goal.decreases-loop-p
 decreases-loop-p l = l.p

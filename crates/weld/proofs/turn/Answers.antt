@@ -19,12 +19,12 @@ find-p-requires c =
 pub returns-then-p-ne0 : goal.returns-then-p-ne0
 returns-then-p-ne0 c =
     let a = c.args in
-    stored_at a.rows a.row a.positions.now a.normals.now a.texture.now a.work.now c.requires.0 c.requires.1 c.requires.3 c.corner_of-c.result c.bucket-b.result c.find-p.result
+    stored_at a.rows a.row a.mesh.now.positions.now a.mesh.now.normals.now a.mesh.now.texture.now a.work.now c.requires.0 c.requires.1 c.requires.3 c.corner_of-c.result c.bucket-b.result c.find-p.result
     c.corner_of-c.ensures c.bucket-b.ensures.0 c.bucket-b.ensures.1 c.find-p.ensures _ c.if-p-ne0.true (omega arith)
 
 pub returns : goal.returns
 returns c =
     let a = c.args in
-    subst (λ u. GoingIn a.rows (a.row + 1) a.positions.now a.normals.now a.texture.now u × Only weld_columns a.rows a.work.now u) (sym c.put_first.ensures)
-    (stored-new a.rows a.row a.positions.now a.normals.now a.texture.now a.work.now c.requires.0 c.requires.1 c.requires.3 c.corner_of-c.result c.bucket-b.result c.find-p.result
+    subst (λ u. GoingIn a.rows (a.row + 1) a.mesh.now.positions.now a.mesh.now.normals.now a.mesh.now.texture.now u × Only weld_columns a.rows a.work.now u) (sym c.put_first.ensures)
+    (stored-new a.rows a.row a.mesh.now.positions.now a.mesh.now.normals.now a.mesh.now.texture.now a.work.now c.requires.0 c.requires.1 c.requires.3 c.corner_of-c.result c.bucket-b.result c.find-p.result
     c.corner_of-c.ensures c.bucket-b.ensures.0 c.bucket-b.ensures.1 c.find-p.ensures c.if-p-ne0.false)

@@ -5,7 +5,7 @@ use Rattle.weld.specs.Welding.{GoingIn, weld_columns}
 use Rattle.weld.proofs.weld.Given as goal
 
 abbrev pub invariant-loop-r : goal.invariant-loop-r
-invariant-loop-r l = GoingIn l.rows l.r l.positions l.normals l.texture l.work × Only weld_columns l.rows l.initial.work l.work × (l.r ≤ l.n)
+invariant-loop-r l = GoingIn l.rows l.r l.mesh.positions.now l.mesh.normals.now l.mesh.texture.now l.work × Only weld_columns l.rows l.initial.work l.work × (l.r ≤ l.n)
 
 abbrev pub decreases-loop-r : goal.decreases-loop-r
 decreases-loop-r l = l.n - l.r
