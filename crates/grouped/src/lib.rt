@@ -2,7 +2,7 @@
 #![tactic(auto)]
 
 ghost use Rattle.std.specs.Prelude.{◌≡◌, ℕ, ◌*◌, ◌≤◌, ◌<◌, length};
-ghost use Rattle.definition.specs.Handed.{handed};
+ghost use Rattle.mesh.specs.Parts.{given};
 ghost use Rattle.definition.specs.Limits.{face_limit};
 ghost use Rattle.table.specs.Table.{cell};
 ghost use Rattle.table.specs.Columns.{columns, rows_of, link_column};
@@ -10,6 +10,7 @@ ghost use Rattle.grouped.specs.Links.{LeftByFive};
 ghost use Rattle.grouped.specs.Grouped.{SidesGrouped, LeftBySix};
 
 use listing::TriangleCounts;
+use mesh::Mesh;
 
 // How many triangles are sound, and how many there are; how many groups there are, and members of them all.
 #[derive(Clone, Copy)]
@@ -21,19 +22,14 @@ pub struct MeshCounts {
 }
 
 // Steps 1 to 5; the columns are spoken for where no corner is bad.
-pub fn link_mesh(
-    sizes: &[u8],
-    positions: &[f32],
-    normals: &[f32],
-    texture: &[f32],
-    work: &mut [u32],
-) -> TriangleCounts
-    requires { (length sizes.now ≤ face_limit) × (columns * rows_of (length sizes.now) ≤ length work.old) }
-    ensures { LeftByFive (handed sizes.now positions.now normals.now texture.now) result.sound result.all work.old work.new }
+pub fn link_mesh(mesh: &Mesh, work: &mut [u32]) -> TriangleCounts
+    requires { (length mesh.now.sizes.now ≤ face_limit) × (columns * rows_of (length mesh.now.sizes.now) ≤ length work.old) }
+    ensures { LeftByFive (given mesh.now) result.sound result.all work.old work.new }
 {
-    let rows = 6 * sizes.len();
-    let counts = listing::list_triangles(work, sizes, positions, normals, texture);
-    weld::weld(work, rows, 3 * counts.all, positions, normals, texture);
+    let rows = 6 * mesh.sizes.len();
+    mesh.single();
+    let counts = listing::list_triangles(work, mesh);
+    weld::weld(work, rows, 3 * counts.all, mesh);
     let sound = counts.sound;
     neighbors::link_sides(work, rows, sound);
     counts
@@ -58,17 +54,11 @@ pub fn group_sides(work: &mut [u32], rows: usize, triangles: TriangleCounts) -> 
 }
 
 // Steps 1 to 6; the columns are spoken for where no corner is bad.
-pub fn group_mesh(
-    sizes: &[u8],
-    positions: &[f32],
-    normals: &[f32],
-    texture: &[f32],
-    work: &mut [u32],
-) -> MeshCounts
-    requires { (length sizes.now ≤ face_limit) × (columns * rows_of (length sizes.now) ≤ length work.old) }
-    ensures { LeftBySix (handed sizes.now positions.now normals.now texture.now) result work.old work.new }
+pub fn group_mesh(mesh: &Mesh, work: &mut [u32]) -> MeshCounts
+    requires { (length mesh.now.sizes.now ≤ face_limit) × (columns * rows_of (length mesh.now.sizes.now) ≤ length work.old) }
+    ensures { LeftBySix (given mesh.now) result work.old work.new }
 {
-    let rows = 6 * sizes.len();
-    let triangles = link_mesh(sizes, positions, normals, texture, work);
+    let rows = 6 * mesh.sizes.len();
+    let triangles = link_mesh(mesh, work);
     group_sides(work, rows, triangles)
 }

@@ -2,8 +2,9 @@
 // FaceVertex is carried over from mikktspace/face_vertex.rs of the Rust crate bevy_mikktspace and ALTERED: written anew in Rattle. See NOTICE.
 #![tactic(auto)]
 
-ghost use Rattle.std.specs.Prelude.{◌≡◌, false, cond, [], ◌+◌, ◌*◌, ◌%◌, ◌^◌, ◌≤◌, ◌<◌, min, length, get_or, take};
-ghost use Rattle.std.specs.Float.{nan};
+ghost use Rattle.std.specs.Prelude.{ℕ, T, ◌≡◌, false, cond, [], ◌+◌, ◌*◌, ◌%◌, ◌^◌, ◌≤◌, ◌<◌, min, length, get_or, take};
+ghost use Rattle.std.specs.Float.{nan, binary32};
+ghost use Rattle.std.specs.Float.Ieee.{fits};
 ghost use Rattle.definition.specs.Handed.{handed, vector_at, corner_at, corner_count, slots_of, slot_count};
 ghost use Rattle.definition.specs.Limits.{face_limit};
 ghost use Rattle.math.specs.Vector.{vec};
@@ -19,6 +20,13 @@ pub struct Mesh<'a> {
     pub positions: &'a [f32],
     pub normals: &'a [f32],
     pub texture: &'a [f32],
+}
+
+// Each number of a list is one of single precision, or a NaN past its end.
+fn single(xs: &[f32])
+    ensures { (i : ℕ) → T (fits binary32 (get_or xs.now i nan)) }
+{
+    let _numbers = xs;
 }
 
 // A corner of a face as one number: face times 4 plus corner.
@@ -95,6 +103,13 @@ impl<'a> Mesh<'a> {
             v: number_at(self.texture, at + 1),
             tag: 0,
         }
+    }
+
+    // The positions are numbers of single precision: what laws about them start from.
+    pub fn single(&self)
+        ensures { (i : ℕ) → T (fits binary32 (get_or self.now.positions.now i nan)) }
+    {
+        single(self.positions);
     }
 
     // Whether refusal 1 or 2 would catch the lists.

@@ -1,6 +1,6 @@
 -- `grouped::group_mesh` meets its contract. Assumes nothing.
 use native.Mathlib.Omega.{arith}
-use Rattle.definition.specs.Handed.{handed}
+use Rattle.mesh.specs.Parts.{given}
 use Rattle.grouped.proofs.Linked.{left-room}
 use Rattle.grouped.proofs.Grouped.{joined}
 use Rattle.grouped.proofs.group_mesh.Goals as goal
@@ -13,4 +13,4 @@ group_sides-requires c =
 pub returns : goal.returns
 returns c =
     let a = c.args in
-    joined (handed a.sizes.now a.positions.now a.normals.now a.texture.now) c.link_mesh-triangles.result.sound c.link_mesh-triangles.result.all c.group_sides.result a.work.now _ _ c.link_mesh-triangles.ensures c.group_sides.ensures
+    joined (given a.mesh.now) c.link_mesh-triangles.result.sound c.link_mesh-triangles.result.all c.group_sides.result a.work.now _ _ c.link_mesh-triangles.ensures c.group_sides.ensures

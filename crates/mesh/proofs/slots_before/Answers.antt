@@ -18,9 +18,8 @@ loop-size-preserved c =
 pub returns : goal.returns
 returns c =
     let l = c.loop-size in
-    let xs = c.args.sizes.now in
-    (
+    let xs = c.args.sizes.now in (
       l.invariant.0
-      ∙ ap slot_count (take_all l.size-index (take c.min-end.result xs) c.loop-size-test.false ∙ (ap (λ (n : ℕ). take n xs) c.min-end.ensures ∙ take_min c.min.result xs) ∙ ap (λ (n : ℕ). take n xs) c.min.ensures),
+          ∙ ap slot_count (take_all l.size-index (take c.min-end.result xs) c.loop-size-test.false ∙ (ap (λ (n : ℕ). take n xs) c.min-end.ensures ∙ take_min c.min.result xs) ∙ ap (λ (n : ℕ). take n xs) c.min.ensures),
       omega (arith, length-take c.min-end.result xs),
     )
