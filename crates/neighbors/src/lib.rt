@@ -2,7 +2,7 @@
 // Carried over from mikktspace.rs (build_neighbors) of the Rust crate bevy_mikktspace and ALTERED: written anew in Rattle. See NOTICE.
 #![tactic(auto)]
 
-ghost use Rattle.std.specs.Prelude.{◌≡◌, List, [], ◌∷◌, ℕ, ◌*◌, ◌≤◌, ◌<◌, min, max, length};
+ghost use Rattle.std.specs.Prelude.{◌≡◌, List, [], ◌∷◌, ℕ, ◌*◌, ◌≤◌, ◌<◌, min, max, length, IfSome};
 ghost use Rattle.table.specs.Columns.{columns, link_column};
 ghost use Rattle.lists.specs.Loops.{up_to};
 ghost use Rattle.table.specs.Table.{cell};
@@ -16,13 +16,6 @@ ghost use Rattle.neighbors.specs.Links as spec;
 ghost use Rattle.neighbors.specs.Links.{Ready};
 ghost use Rattle.neighbors.specs.Cursors.{Stands, Moves};
 ghost use Rattle.neighbors.specs.Sides as sides;
-
-// The side beyond a side.
-#[derive(Clone, Copy)]
-pub enum Link {
-    To(usize),
-    Nothing,
-}
 
 // Two places in the order of the sides: of the side that looks for a mate, and of the one that it looks at.
 #[derive(Clone, Copy)]
@@ -39,15 +32,11 @@ pub fn wide(x: u32) -> usize
 }
 
 // The side beyond side r.
-pub fn link_at(work: &[u32], rows: usize, n: usize, r: usize) -> Link
+pub fn link_at(work: &[u32], rows: usize, n: usize, r: usize) -> Option<usize>
     requires { (r < n) × (n ≤ rows) × (columns * rows ≤ length work.now) × (cell rows link_column r work.now ≤ n) }
-    ensures { (result ≡ spec.link_of (cell rows link_column r work.now)) × spec.Below n result }
+    ensures { (result ≡ spec.link_of (cell rows link_column r work.now)) × IfSome result (λ u. u < n) }
 {
-    let word = wide(work[table::LINK * rows + r]);
-    if word == 0 {
-        return Link::Nothing;
-    }
-    Link::To(word - 1)
+    (work[table::LINK * rows + r] as usize).checked_sub(1)
 }
 
 // ---- the sides in their columns
@@ -148,7 +137,7 @@ fn suits(work: &[u32], rows: usize, s: usize, u: usize) -> bool
 // Links two sides, each to the other.
 fn join(work: &mut [u32], rows: usize, n: usize, s: usize, u: usize)
     requires { (s < n) × (u < n) × Ready rows n work.old }
-    ensures { work.new ≡ spec.join rows s (Link.To u) work.old }
+    ensures { work.new ≡ spec.join rows s (Some u) work.old }
 {
     work[table::LINK * rows + s] = (u + 1) as u32;
     work[table::LINK * rows + u] = (s + 1) as u32;
@@ -187,12 +176,12 @@ fn step(work: &mut [u32], rows: usize, n: usize, c: Cursors) -> Cursors
     ensures { Moves rows n c.near c.far result.near result.far work.old work.new }
 {
     let s = side_at(work, rows, n, c.near);
-    let Link::Nothing = link_at(work, rows, n, s) else {
+    if link_at(work, rows, n, s).is_some() {
         return Cursors {
             near: c.near + 1,
             far: c.far,
         };
-    };
+    }
     if c.far <= c.near {
         return Cursors {
             near: c.near,
