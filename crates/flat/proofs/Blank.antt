@@ -19,7 +19,7 @@ use Rattle.view.specs.Frame.{outside, Only}
 use Rattle.view.proofs.Frame.{only-run, cell-kept}
 use Rattle.lists.specs.Zeros.{zeros}
 use Rattle.groups.specs.Walk.{corner_of, untouched, adopted, Entered, enter, stopped, marked, ungrouped, Ready}
-use Rattle.groups.specs.declared.Entry.TheVariants.{At}
+use Rattle.std.specs.Prelude.{Some}
 use Rattle.groups.proofs.Laws.{corner_of-le, marked-grown}
 use Rattle.groups.proofs.Steps.{ready-moves}
 use Rattle.flat.specs.Places.{places_column, blank}
@@ -133,7 +133,7 @@ module _ (rows : ℕ) where
           let hn : n < rows = omega (arith, G.1) in
           let a = blank-put met_column n (3 * t + i) U refl hn in
           let b = blank-put group_column (3 * t + i) g (put rows met_column n (3 * t + i) U) refl (omega arith) in
-          ap (λ (x : List ℕ). record { entry = At i; work = x }) (ap (λ (x : List ℕ). put rows group_column (3 * t + i) g x) a ∙ b)
+          ap (λ (x : List ℕ). record { entry = Some i; work = x }) (ap (λ (x : List ℕ). put rows group_column (3 * t + i) g x) a ∙ b)
 
       both : (b₁ : Bool) → eqb i 3 ≡ b₁ → cond b₁ (stopped (blank rows w)) (cond (eqb (cell rows group_column (3 * t + i) (blank rows w)) 0) (cond (eqb (cell rows orientation_column t U) o) (marked rows t g n i (blank rows U)) (stopped (blank rows U))) (stopped (blank rows w))) ≡ blanked (cond b₁ (stopped w) (cond (eqb (cell rows group_column (3 * t + i) w) 0) (cond (eqb (cell rows orientation_column t U) o) (marked rows t g n i U) (stopped U)) (stopped w)))
       both true e = refl

@@ -14,12 +14,10 @@ use borrow.Author.Tests.{ne_eqb}
 use Rattle.table.specs.Table.{cell, put, column}
 use Rattle.table.specs.Columns.{columns, link_column}
 use Rattle.table.proofs.Laws.{get_or-column}
-use Rattle.neighbors.specs.declared.Link.TheVariants.{To, Nothing}
+use Rattle.std.specs.Prelude.{Option, Some, None}
 use Rattle.neighbors.specs.Links.{link_of}
 use Rattle.view.specs.Frame.{Only}
 use Rattle.view.proofs.Frame.{only_none, only-more, only-put}
-use Rattle.groups.specs.declared.Entry.{Entry}
-use Rattle.groups.specs.declared.Entry.TheVariants.{At, Stop}
 use Rattle.groups.specs.Walk.{walk_columns, Entered, enter, Walk, walk, side, follow, corner, ungrouped, Ready}
 use Rattle.groups.proofs.Laws.{Grown, enter-grown}
 use Rattle.groups.proofs.Steps.{ready-moves, corner-stops}
@@ -86,7 +84,7 @@ backs rows tris (suc m) n w h =
 
 -- ---- to a triangle
 
-module _ (rows tris g v o stored n t : ℕ) (w : List ℕ) (tri : t < tris) (R : Ready rows tris g n w) (P : Stored rows tris stored w) (r : Entry) (u : List ℕ) (re : r ≡ (enter rows t g v o n w).entry) (ue : u ≡ (enter rows t g v o n w).work) where
+module _ (rows tris g v o stored n t : ℕ) (w : List ℕ) (tri : t < tris) (R : Ready rows tris g n w) (P : Stored rows tris stored w) (r : Option ℕ) (u : List ℕ) (re : r ≡ (enter rows t g v o n w).entry) (ue : u ≡ (enter rows t g v o n w).work) where
   abbrev step : ℕ → Walk → ℕ → Walk
   step = corner rows g v o
 
@@ -118,9 +116,9 @@ module _ (rows tris g v o stored n t : ℕ) (w : List ℕ) (tri : t < tris) (R :
   stored-inside j h = subst (λ (x : ℕ). x < 3 * tris) (sym (same-cell j (omega (arith, P.room)))) (P.inside j h)
 
   -- the walk stops at the triangle
-  pub goes_back : (b : Going) → r ≡ Stop → b ≡ back rows stored n u → Goes rows tris g stored w u b step said
+  pub goes_back : (b : Going) → r ≡ None → b ≡ back rows stored n u → Goes rows tris g stored w u b step said
   goes_back b e be =
-      let G : Grown rows w Stop u = rw e at grown in
+      let G : Grown rows w None u = rw e at grown in
       let B = subst (Backs rows tris stored n u) (sym be) (backs rows tris stored n u stored-inside) in
       let S = corner-stops rows tris t g v o n (blank rows w) tri (blank-ready rows tris g n w R) r (blank rows u) entry-is work-is e in
       record {
@@ -134,10 +132,10 @@ module _ (rows tris g v o stored n t : ℕ) (w : List ℕ) (tri : t < tris) (R :
       }
 
   -- its corner is entered
-  goes_on : (i : ℕ) → r ≡ At i → Goes rows tris g stored w (put rows places_column stored (3 * t + i) u) (record { side = 3 * t + (i + 2) % 3; left = stored + 2; count = n + 1 }) step said
+  goes_on : (i : ℕ) → r ≡ Some i → Goes rows tris g stored w (put rows places_column stored (3 * t + i) u) (record { side = 3 * t + (i + 2) % 3; left = stored + 2; count = n + 1 }) step said
   unfolding all
   goes_on i e =
-      let G : Grown rows w (At i) u = rw e at grown in
+      let G : Grown rows w (Some i) u = rw e at grown in
       let long : columns * rows ≤ length u = omega (arith, R.long, only.size) in
       let h : stored < rows = omega (arith, P.room, G.1) in
       let z = put rows places_column stored (3 * t + i) u in
@@ -162,7 +160,7 @@ module _ (rows tris g v o stored n t : ℕ) (w : List ℕ) (tri : t < tris) (R :
       }
 
   -- the same, with any numbers that are equal to those
-  pub goes_to : (i : ℕ) → r ≡ At i → (x y m p : ℕ) → x ≡ 3 * t + (i + 2) % 3 → y ≡ stored + 2 → m ≡ n + 1 → p ≡ 3 * t + i → Goes rows tris g stored w (put rows places_column stored p u) (record { side = x; left = y; count = m }) step said
+  pub goes_to : (i : ℕ) → r ≡ Some i → (x y m p : ℕ) → x ≡ 3 * t + (i + 2) % 3 → y ≡ stored + 2 → m ≡ n + 1 → p ≡ 3 * t + i → Goes rows tris g stored w (put rows places_column stored p u) (record { side = x; left = y; count = m }) step said
   goes_to i e x y m p a b c d =
       subst (λ (q : ℕ). Goes rows tris g stored w (put rows places_column stored q u) (record { side = x; left = y; count = m }) step said) (sym d)
       (subst (λ (s : Going). Goes rows tris g stored w (put rows places_column stored (3 * t + i) u) s step said) (λ j. record { side = sym a j; left = sym b j; count = sym c j }) (goes_on i e))
@@ -187,7 +185,7 @@ module _ (rows tris g v o k left n : ℕ) (w : List ℕ) (some : 0 < left) (R : 
       ∙ ap (λ (x : ℕ). all rows (steps m) (follow (steps m) (walk (blank rows w) n) (link_of x)) (stack rows w (left - 1))) (blank-cell rows link_column k w refl h)
 
   -- a side that leads nowhere
-  pub crosses-none : (b : Going) → k < rows → Nothing ≡ link_of (cell rows link_column k w) → b ≡ back rows (left - 1) n w → Goes rows tris g (left - 1) w w b steps todo
+  pub crosses-none : (b : Going) → k < rows → None ≡ link_of (cell rows link_column k w) → b ≡ back rows (left - 1) n w → Goes rows tris g (left - 1) w w b steps todo
   crosses-none b h e be =
       let B = subst (Backs rows tris (left - 1) n w) (sym be) (backs rows tris (left - 1) n w stored-left.inside) in
       record {
@@ -201,7 +199,7 @@ module _ (rows tris g v o k left n : ℕ) (w : List ℕ) (some : 0 < left) (R : 
       }
 
   -- a side beyond which is the side of row x
-  pub crosses-to : (b : Going) (u : List ℕ) (x : ℕ) → k < rows → To x ≡ link_of (cell rows link_column k w) → Goes rows tris g (left - 1) w u b steps (λ m. all rows (steps m) (steps m (walk (blank rows w) n) (x / 3)) (stack rows w (left - 1))) → Goes rows tris g (left - 1) w u b steps todo
+  pub crosses-to : (b : Going) (u : List ℕ) (x : ℕ) → k < rows → Some x ≡ link_of (cell rows link_column k w) → Goes rows tris g (left - 1) w u b steps (λ m. all rows (steps m) (steps m (walk (blank rows w) n) (x / 3)) (stack rows w (left - 1))) → Goes rows tris g (left - 1) w u b steps todo
   crosses-to b u x h e G = record {
     is = λ m l. G.is m l ∙ ap (λ y. all rows (steps m) (follow (steps m) (walk (blank rows w) n) y) (stack rows w (left - 1))) e ∙ sym (todo-is h m);
     ready = G.ready;

@@ -17,13 +17,10 @@ use Rattle.definition.specs.Step6Groups.{Mark, marks}
 use Rattle.laws.proofs.Laws.{mark}
 use Rattle.laws.proofs.Enough.{spot-refl}
 use Rattle.definition.specs.Names.{Names}
-use Rattle.neighbors.specs.declared.Link.{Link}
-use Rattle.neighbors.specs.declared.Link.TheVariants.{To, Nothing}
+use Rattle.std.specs.Prelude.{Option, Some, None}
 use Rattle.neighbors.specs.Links.{link_of}
 use Rattle.view.specs.Rows.{row, spot_at}
 use Rattle.view.proofs.Rows.{spot-row}
-use Rattle.groups.specs.declared.Entry.{Entry}
-use Rattle.groups.specs.declared.Entry.TheVariants.{At, Stop}
 use Rattle.groups.specs.Marks.{Walked}
 use Rattle.groups.specs.Walk.{Entered, enter, Walk, walk, side, follow, go_on, corner, ungrouped, State, started, begun, turn, Ready, Steps, cleared}
 use Rattle.groups.proofs.Steps.{ready-steps, ready-next, ready-begun, ready-cleared, corner-ready, corner-below, corner-falls}
@@ -75,9 +72,9 @@ module _ (rows tris : ℕ) where
         ap (λ (x : ℕ). follow (C m) (walk (blank rows w) n) (link_of x)) (blank-cell rows link_column k w refl (omega (arith, R.fits)))
         ∙ go (link_of (cell rows link_column k w)) refl
       where
-        go : (x : Link) → x ≡ link_of (cell rows link_column k w) → follow (C m) (walk (blank rows w) n) x ≡ blank_w (follow (C m) (walk w n) x)
-        go Nothing e = refl
-        go (To u) e = I w n (u / 3) (to-triangle rows tris g v o (cell rows link_column k w) u (R.links k h) e) R l
+        go : (x : Option ℕ) → x ≡ link_of (cell rows link_column k w) → follow (C m) (walk (blank rows w) n) x ≡ blank_w (follow (C m) (walk w n) x)
+        go None e = refl
+        go (Some u) e = I w n (u / 3) (to-triangle rows tris g v o (cell rows link_column k w) u (R.links k h) e) R l
 
     corner-alike : (m : ℕ) → Alike m
     unfolding corner
@@ -89,12 +86,12 @@ module _ (rows tris : ℕ) where
         u : List ℕ
         u = (enter rows t g v o n w).work
 
-        go : Alike m → (x : Entry) → x ≡ (enter rows t g v o n w).entry → go_on rows (C m) t n x (blank rows u) ≡ blank_w (go_on rows (C m) t n x u)
-        go I Stop e = refl
-        go I (At i) e =
-            let b = corner-below rows tris t g v o n w h R (At i) u e refl i refl in
-            let falls = corner-falls rows tris t g v o n w h R (At i) u e refl i refl in
-            let R₁ = corner-ready rows tris t g v o n w h R (At i) u e refl i refl (enter-only rows tris g v o w n t h R).size in
+        go : Alike m → (x : Option ℕ) → x ≡ (enter rows t g v o n w).entry → go_on rows (C m) t n x (blank rows u) ≡ blank_w (go_on rows (C m) t n x u)
+        go I None e = refl
+        go I (Some i) e =
+            let b = corner-below rows tris t g v o n w h R (Some i) u e refl i refl in
+            let falls = corner-falls rows tris t g v o n w h R (Some i) u e refl i refl in
+            let R₁ = corner-ready rows tris t g v o n w h R (Some i) u e refl i refl (enter-only rows tris g v o w n t h R).size in
             let s₁ = side rows (C m) (walk u (n + 1)) (3 * t + (i + 2) % 3) in
             let S₁ = side-enough rows tris g v o m (enough rows tris g v o m) u (n + 1) (3 * t + (i + 2) % 3) (omega arith) R₁ (omega arith) in
             let R₂ = ready-steps rows tris g (n + 1) s₁.count u s₁.work (λ j. side rows (C j) (walk u (n + 1)) (3 * t + (i + 2) % 3)) R₁ S₁ S₁.only.size in

@@ -16,8 +16,7 @@ ghost use Rattle.groups.specs.Marks.{Asked, Walked};
 ghost use Rattle.groups.specs.Walk as walks;
 ghost use Rattle.flat.specs.Places as spec;
 
-use groups::{Entry, GroupCounts};
-use neighbors::Link;
+use groups::GroupCounts;
 
 // How the walk stands: the side to cross, how many are left with it (the others are stored), and the number of members of all groups so far.
 #[derive(Clone, Copy)]
@@ -71,7 +70,7 @@ fn go_to(
     requires { (t < tris) × walks.Ready rows tris group count work.old × spec.Stored rows tris stored work.old }
     ensures { spec.Goes rows tris group stored work.old work.new result (walks.corner rows group vertex orient) (λ n. spec.all rows (walks.corner rows group vertex orient n) (walks.corner rows group vertex orient n (walks.walk (spec.blank rows work.old) count) t) (spec.stack rows work.old stored)) }
 {
-    let Entry::At(i) = groups::enter_at(work, rows, t, group, vertex, orient, count) else {
+    let Some(i) = groups::enter_at(work, rows, t, group, vertex, orient, count) else {
         return back(work, rows, stored, count);
     };
     work[table::SPARE * rows + stored] = (3 * t + i) as u32;
@@ -98,7 +97,7 @@ fn cross(
     let stored = s.left - 1;
     let count = s.count;
     let side = s.side;
-    let Link::To(u) = neighbors::link_at(work, rows, 3 * tris, side) else {
+    let Some(u) = neighbors::link_at(work, rows, 3 * tris, side) else {
         return back(work, rows, stored, count);
     };
     go_to(

@@ -27,7 +27,7 @@ use Rattle.definition.specs.Names.{Names}
 use Rattle.laws.proofs.Laws.{mark}
 use Rattle.view.specs.Rows.{num, row, spot_at}
 use Rattle.view.specs.Groups.{number_of}
-use Rattle.groups.specs.declared.Entry.TheVariants.{At, Stop}
+use Rattle.std.specs.Prelude.{Some, None}
 use Rattle.groups.specs.Walk.{corner_of as corner_number, untouched, adopted, Entered, enter, stopped, marked as marked_at}
 use Rattle.groups.specs.Marks.{Marked}
 use Rattle.groups.proofs.Facing.{any_of, facing-open, facing-settled}
@@ -144,8 +144,8 @@ module _ (rows : ℕ) (ss : List Triangle) (d : Triangle) (ls : List Link) (B : 
     W m ms s = walk m ls g way ms s
 
     pub data Enters (m : ℕ) (ms : List Mark) (n t : ℕ) (o : Option Spot) (e : Entered) : Type 0 where
-      halts : going (W (suc m)) ms o ≡ ms → e.entry ≡ Stop → Going ms e.work n → Enters m ms n t o e
-      goes : (i : Third) → going (W (suc m)) ms o ≡ going (W m) (going (W m) (ms ++ (mark g (spot_at ss d t i) ∷ [])) (over ls (corner_of g) (prior (spot_at ss d t i)))) (over ls (corner_of g) (spot_at ss d t i)) → e.entry ≡ At (num i) → Going (ms ++ (mark g (spot_at ss d t i) ∷ [])) e.work (n + 1) → Enters m ms n t o e
+      halts : going (W (suc m)) ms o ≡ ms → e.entry ≡ None → Going ms e.work n → Enters m ms n t o e
+      goes : (i : Third) → going (W (suc m)) ms o ≡ going (W m) (going (W m) (ms ++ (mark g (spot_at ss d t i) ∷ [])) (over ls (corner_of g) (prior (spot_at ss d t i)))) (over ls (corner_of g) (spot_at ss d t i)) → e.entry ≡ Some (num i) → Going (ms ++ (mark g (spot_at ss d t i) ∷ [])) e.work (n + 1) → Enters m ms n t o e
 
     module _ (m : ℕ) (ms : List Mark) (w : List ℕ) (n : ℕ) (R : Going ms w n) (t : ℕ) (h : t < length ss) where
       abbrev o : ℕ

@@ -16,8 +16,7 @@ use Rattle.table.proofs.Laws.{column-set, get_or-column, length-column}
 use Rattle.view.specs.Frame.{Only}
 use Rattle.view.proofs.Frame.{only_none, only-put}
 use Rattle.groups.specs.Walk.{walk_columns, corner_of, untouched, adopted, Entered, enter, stopped, marked, ungrouped}
-use Rattle.groups.specs.declared.Entry.{Entry}
-use Rattle.groups.specs.declared.Entry.TheVariants.{At, Stop}
+use Rattle.std.specs.Prelude.{Option, Some, None}
 
 -- what holds in both cases holds of the case that is taken
 pub cond-case : {A : Type 0} (P : A → Type 0) (b : Bool) (x y : A) → (b ≡ true → P x) → (b ≡ false → P y) → P (cond b x y)
@@ -56,13 +55,13 @@ unfolding adopted
 only-adopted rows t o w₀ w h O = cond-case (λ (u : List ℕ). Only walk_columns rows w₀ u) (untouched rows t w) (put rows orientation_column t o w) w (λ _. only-put walk_columns rows w₀ w orientation_column t o refl (omega arith) h O) (λ _. O)
 
 -- what entering does to the count of ungrouped corners, and which columns it writes
-abbrev pub Grown : ℕ → List ℕ → Entry → List ℕ → Type 0
-Grown rows w Stop u = (ungrouped rows u ≡ ungrouped rows w) × Only walk_columns rows w u
-Grown rows w (At i) u = (i < 3) × (suc (ungrouped rows u) ≡ ungrouped rows w) × Only walk_columns rows w u
+abbrev pub Grown : ℕ → List ℕ → Option ℕ → List ℕ → Type 0
+Grown rows w None u = (ungrouped rows u ≡ ungrouped rows w) × Only walk_columns rows w u
+Grown rows w (Some i) u = (i < 3) × (suc (ungrouped rows u) ≡ ungrouped rows w) × Only walk_columns rows w u
 
 module _ (rows t g v o n : ℕ) (w : List ℕ) (tri : 3 * t + 3 ≤ rows) (long : columns * rows ≤ length w) (some : 0 < g) (room : n + ungrouped rows w ≤ rows) where
   -- a corner that was in no group is marked: one ungrouped corner less
-  pub marked-grown : (i : ℕ) → i < 3 → cell rows group_column (3 * t + i) w ≡ 0 → Grown rows w (At i) (marked rows t g n i (adopted rows t o w)).work
+  pub marked-grown : (i : ℕ) → i < 3 → cell rows group_column (3 * t + i) w ≡ 0 → Grown rows w (Some i) (marked rows t g n i (adopted rows t o w)).work
   unfolding ungrouped
   marked-grown i lt z =
       let hi : 3 * t + i < rows = omega arith in

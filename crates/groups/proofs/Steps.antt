@@ -12,14 +12,12 @@ use Rattle.table.specs.Columns.{columns, link_column, group_column, begin_column
 use Rattle.lists.specs.Loops.{list_of}
 use Rattle.lists.proofs.Loops.{length-list_of}
 use Rattle.table.proofs.Laws.{get_or-column, column-set, filled-column, length-fill}
-use Rattle.neighbors.specs.declared.Link.TheVariants.{To, Nothing}
+use Rattle.std.specs.Prelude.{Option, Some, None}
 use Rattle.neighbors.specs.Links.{link_of}
 use Rattle.view.specs.Frame.{Only}
 use Rattle.view.proofs.Frame.{only_none, only-trans, only-more, only-run, only-put}
 use Rattle.lists.specs.Zeros.{zeros}
 use Rattle.groups.specs.Walk.{walk_columns, enter, Walk, walk, side, follow, corner, ungrouped, cleared, Ready, Steps}
-use Rattle.groups.specs.declared.Entry.{Entry}
-use Rattle.groups.specs.declared.Entry.TheVariants.{At, Stop}
 use Rattle.groups.proofs.Laws.{Grown, enter-grown, ungrouped-le}
 
 -- where the column of links stands, its words are in range as they were
@@ -45,16 +43,16 @@ ready-steps rows tris g n m w u said R S e = ready-moves rows tris g n m w u R e
 
 -- ---- a corner step
 
-module _ (rows tris t g v o n : ℕ) (w : List ℕ) (tri : t < tris) (R : Ready rows tris g n w) (r : Entry) (u : List ℕ) (re : r ≡ (enter rows t g v o n w).entry) (ue : u ≡ (enter rows t g v o n w).work) where
+module _ (rows tris t g v o n : ℕ) (w : List ℕ) (tri : t < tris) (R : Ready rows tris g n w) (r : Option ℕ) (u : List ℕ) (re : r ≡ (enter rows t g v o n w).entry) (ue : u ≡ (enter rows t g v o n w).work) where
   -- what entering the triangle does
   grown : Grown rows w r u
   grown = rw (re, ue) (enter-grown rows t g v o n w (omega (arith, R.fits)) R.long R.some R.room)
 
   -- the walk stops at the triangle
-  pub corner-stops : r ≡ Stop → Steps rows (walk w n) (walk u n) (λ m. corner rows g v o m (walk w n) t)
+  pub corner-stops : r ≡ None → Steps rows (walk w n) (walk u n) (λ m. corner rows g v o m (walk w n) t)
   unfolding corner
   corner-stops e =
-      let G : Grown rows w Stop u = rw e at grown in
+      let G : Grown rows w None u = rw e at grown in
       record {
         is = λ m. elim m as (λ m. ungrouped rows w < m → walk u n ≡ corner rows g v o m (walk w n) t) [
           | zero ↦ λ h. absurd (omega arith)
@@ -65,9 +63,9 @@ module _ (rows tris t g v o n : ℕ) (w : List ℕ) (tri : t < tris) (R : Ready 
         only = G.1;
       }
 
-  module _ (i : ℕ) (e : r ≡ At i) where
+  module _ (i : ℕ) (e : r ≡ Some i) where
     -- what entering it at corner i does
-    G : Grown rows w (At i) u
+    G : Grown rows w (Some i) u
     G = rw e at grown
 
     -- the corner is one of three
@@ -101,7 +99,7 @@ module _ (rows tris t g v o n : ℕ) (w : List ℕ) (tri : t < tris) (R : Ready 
 -- ---- a side step
 
 -- a side that leads nowhere
-pub side-stops : (rows g v o n k : ℕ) (w : List ℕ) → Nothing ≡ link_of (cell rows link_column k w) → Steps rows (walk w n) (walk w n) (λ m. side rows (corner rows g v o m) (walk w n) k)
+pub side-stops : (rows g v o n k : ℕ) (w : List ℕ) → None ≡ link_of (cell rows link_column k w) → Steps rows (walk w n) (walk w n) (λ m. side rows (corner rows g v o m) (walk w n) k)
 unfolding side
 side-stops rows g v o n k w e = record {
   is = λ m h. ap (follow (corner rows g v o m) (walk w n)) e;
@@ -111,7 +109,7 @@ side-stops rows g v o n k w e = record {
 }
 
 -- a side beyond which is the side of row u
-pub side-goes : (rows g v o n k u : ℕ) (w : List ℕ) (s : Walk) → To u ≡ link_of (cell rows link_column k w) → Steps rows (walk w n) s (λ m. corner rows g v o m (walk w n) (u / 3)) → Steps rows (walk w n) s (λ m. side rows (corner rows g v o m) (walk w n) k)
+pub side-goes : (rows g v o n k u : ℕ) (w : List ℕ) (s : Walk) → Some u ≡ link_of (cell rows link_column k w) → Steps rows (walk w n) s (λ m. corner rows g v o m (walk w n) (u / 3)) → Steps rows (walk w n) s (λ m. side rows (corner rows g v o m) (walk w n) k)
 unfolding side
 side-goes rows g v o n k u w s e S = record {
   is = λ m h. S.is m h ∙ ap (follow (corner rows g v o m) (walk w n)) e;

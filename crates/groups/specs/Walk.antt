@@ -1,15 +1,11 @@
 -- The walk of a group as a function on the work list. Definitions only.
-use Rattle.std.specs.Prelude.{ℕ, zero, suc, ◌+◌, ◌*◌, ◌/◌, ◌%◌, ◌≤◌, ◌<◌, ◌≡◌, Bool, cond, not, ◌&&◌, List, [], ◌∷◌, length, eqb}
+use Rattle.std.specs.Prelude.{ℕ, zero, suc, ◌+◌, ◌*◌, ◌/◌, ◌%◌, ◌≤◌, ◌<◌, ◌≡◌, Bool, cond, not, ◌&&◌, List, [], ◌∷◌, length, eqb, Option, Some, None}
 use Rattle.lists.specs.Zeros.{zeros}
 use Rattle.table.specs.Table.{cell, put, column, filled_to}
 use Rattle.table.specs.Columns.{columns, vertex_column, link_column, orientation_column, any_column, group_column, met_column, begin_column}
 use Rattle.view.specs.Frame.{Only}
-use Rattle.neighbors.specs.declared.Link.{Link}
-use Rattle.neighbors.specs.declared.Link.TheVariants.{To, Nothing}
 use Rattle.neighbors.specs.Links.{link_of}
 use Rattle.groups.specs.declared.GroupCounts.{GroupCounts}
-use Rattle.groups.specs.declared.Entry.{Entry}
-use Rattle.groups.specs.declared.Entry.TheVariants.{At, Stop}
 
 -- the columns that the walks write
 abbrev pub walk_columns : List ℕ
@@ -33,16 +29,16 @@ adopted rows t o w = cond (untouched rows t w) (put rows orientation_column t o 
 
 -- what entering a triangle gives: the corner or a stop, and the work list after it
 pub record Entered : Type 0 where
-  pub entry : Entry
+  pub entry : Option ℕ
   pub work : List ℕ
 
 -- the walk stops there
 abbrev pub stopped : List ℕ → Entered
-stopped w = record { entry = Stop; work = w }
+stopped w = record { entry = None; work = w }
 
 -- corner i is marked with group g, and its row is member n
 abbrev pub marked : ℕ → ℕ → ℕ → ℕ → ℕ → List ℕ → Entered
-marked rows t g n i w = record { entry = At i; work = put rows group_column (3 * t + i) g (put rows met_column n (3 * t + i) w) }
+marked rows t g n i w = record { entry = Some i; work = put rows group_column (3 * t + i) g (put rows met_column n (3 * t + i) w) }
 
 -- triangle t entered by group g of vertex v and orientation o, with n members so far
 unfoldable pub enter : ℕ → ℕ → ℕ → ℕ → ℕ → ℕ → List ℕ → Entered
@@ -64,18 +60,18 @@ abbrev pub walk : List ℕ → ℕ → Walk
 walk w n = record { work = w; count = n }
 
 -- where a side leads, given the corner step: to the triangle of the side beyond
-abbrev pub follow : (Walk → ℕ → Walk) → Walk → Link → Walk
-follow step s Nothing = s
-follow step s (To u) = step s (u / 3)
+abbrev pub follow : (Walk → ℕ → Walk) → Walk → Option ℕ → Walk
+follow step s None = s
+follow step s (Some u) = step s (u / 3)
 
 -- a side step, given the corner step
 unfoldable pub side : ℕ → (Walk → ℕ → Walk) → Walk → ℕ → Walk
 side rows step s k = follow step s (link_of (cell rows link_column k s.work))
 
 -- a corner step once triangle t is entered: the side before the corner, and then the one after it
-abbrev pub go_on : ℕ → (Walk → ℕ → Walk) → ℕ → ℕ → Entry → List ℕ → Walk
-go_on rows step t n Stop w = walk w n
-go_on rows step t n (At i) w = side rows step (side rows step (walk w (n + 1)) (3 * t + (i + 2) % 3)) (3 * t + i)
+abbrev pub go_on : ℕ → (Walk → ℕ → Walk) → ℕ → ℕ → Option ℕ → List ℕ → Walk
+go_on rows step t n None w = walk w n
+go_on rows step t n (Some i) w = side rows step (side rows step (walk w (n + 1)) (3 * t + (i + 2) % 3)) (3 * t + i)
 
 -- a corner step, in at most m entries deep
 unfoldable pub corner : ℕ → ℕ → ℕ → ℕ → ℕ → Walk → ℕ → Walk

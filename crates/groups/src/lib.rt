@@ -16,15 +16,6 @@ ghost use Rattle.view.specs.Weld.{Sharp};
 ghost use Rattle.groups.specs.Marks.{Asked, Walked};
 ghost use Rattle.groups.specs.Walk as spec;
 
-use neighbors::Link;
-
-// Where the walk enters a triangle.
-#[derive(Clone, Copy)]
-pub enum Entry {
-    At(usize),
-    Stop,
-}
-
 // How many groups and members there are.
 #[derive(Clone, Copy)]
 pub struct GroupCounts {
@@ -71,7 +62,7 @@ fn adopt(work: &mut [u32], rows: usize, t: usize, orient: u32)
     work[table::ORIENTATION * rows + t] = orient;
 }
 
-// Enters triangle t: its corner is marked and is member `count`, or the walk stops there.
+// Enters triangle t: its corner, which is marked and is member `count`; none where the walk stops there.
 pub fn enter_at(
     work: &mut [u32],
     rows: usize,
@@ -80,25 +71,25 @@ pub fn enter_at(
     vertex: u32,
     orient: u32,
     count: usize,
-) -> Entry
+) -> Option<usize>
     requires { (3 * t + 3 ≤ rows) × (columns * rows ≤ length work.old) × (rows < 4294967295) × (count ≤ rows) }
     ensures entry { result ≡ (spec.enter rows t group vertex orient count work.old).entry }
     ensures work { work.new ≡ (spec.enter rows t group vertex orient count work.old).work }
 {
     let i = corner_of(work, rows, t, vertex);
     if i == 3 {
-        return Entry::Stop;
+        return None;
     }
     if work[table::GROUP * rows + (3 * t + i)] != 0 {
-        return Entry::Stop;
+        return None;
     }
     adopt(work, rows, t, orient);
     if work[table::ORIENTATION * rows + t] != orient {
-        return Entry::Stop;
+        return None;
     }
     work[table::MET * rows + count] = (3 * t + i) as u32;
     work[table::GROUP * rows + (3 * t + i)] = group;
-    Entry::At(i)
+    Some(i)
 }
 
 // ---- the walk
@@ -118,7 +109,7 @@ fn corner_step(
     requires { (t < tris) × spec.Ready rows tris group count work.old }
     ensures { spec.Steps rows (spec.walk work.old count) (spec.walk work.new result) (λ n. spec.corner rows group vertex orient n (spec.walk work.old count) t) }
 {
-    let Entry::At(i) = enter_at(work, rows, t, group, vertex, orient, count) else {
+    let Some(i) = enter_at(work, rows, t, group, vertex, orient, count) else {
         return count;
     };
     let first = 3 * t + (i + 2) % 3;
@@ -142,7 +133,7 @@ fn side_step(
     requires { (k < 3 * tris) × spec.Ready rows tris group count work.old }
     ensures { spec.Steps rows (spec.walk work.old count) (spec.walk work.new result) (λ n. spec.side rows (spec.corner rows group vertex orient n) (spec.walk work.old count) k) }
 {
-    let Link::To(u) = neighbors::link_at(work, rows, 3 * tris, k) else {
+    let Some(u) = neighbors::link_at(work, rows, 3 * tris, k) else {
         return count;
     };
     corner_step(work, rows, tris, u / 3, group, vertex, orient, count)

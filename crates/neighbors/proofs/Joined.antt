@@ -12,7 +12,7 @@ use Rattle.table.specs.Table.{cell, put}
 use Rattle.table.specs.Columns.{vertex_column, link_column, lower_column, higher_column, order_column}
 use Rattle.view.specs.Frame.{outside, Only}
 use Rattle.view.proofs.Frame.{only_none, only-trans, only-put, cell-kept}
-use Rattle.neighbors.specs.declared.Link.TheVariants.{To}
+use Rattle.std.specs.Prelude.{Some}
 use Rattle.neighbors.specs.Links.{side_at, same_ends, join, Ready}
 use Rattle.neighbors.specs.Cursors.{Like}
 
@@ -52,7 +52,7 @@ module _ (rows n s v : ℕ) (w : List ℕ) (R : Ready rows n w) (hs : s < n) whe
 module _ (rows n s u : ℕ) (w : List ℕ) (R : Ready rows n w) (hs : s < n) (hu : u < n) where
   -- the list after that
   abbrev joined : List ℕ
-  joined = join rows s (To u) w
+  joined = join rows s (Some u) w
 
   -- after the first store
   half : Ready rows n (put rows link_column s (u + 1) w)

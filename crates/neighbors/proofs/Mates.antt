@@ -29,8 +29,7 @@ use Rattle.view.specs.Links.{LinkWord, nowhere, Linked}
 use Rattle.view.proofs.Lists.{bool_iff, and_both}
 use Rattle.view.proofs.Frame.{only_none, only-put, cell-kept}
 use Rattle.view.proofs.Rows.{row_is, tri-lt, row_lt, row_fits}
-use Rattle.neighbors.specs.declared.Link.{Link}
-use Rattle.neighbors.specs.declared.Link.TheVariants.{To, Nothing}
+use Rattle.std.specs.Prelude.{Option as Option', Some, None}
 use Rattle.neighbors.specs.Links.{same_ends as word_ends, suits, seek, mate_from, mate_of, join, turn}
 use Rattle.neighbors.proofs.Linking.{unlinked-word, link-more}
 
@@ -194,9 +193,9 @@ module _ (rows : ℕ) (ss : List Triangle) (d : Triangle) (N : Names ss) (fits :
     -- ---- the search
 
     -- the side that the definition finds, and the mate that the columns give
-    data Mates (s : ℕ) : Option Spot → Link → Type 0 where
-      no-mate : Mates s none Nothing
-      mate-at : (u : ℕ) → u < 3 * length ss → eqb s u ≡ false → Mates s (some (spot_row ss d u)) (To u)
+    data Mates (s : ℕ) : Option Spot → Option' ℕ → Type 0 where
+      no-mate : Mates s none None
+      mate-at : (u : ℕ) → u < 3 * length ss → eqb s u ≡ false → Mates s (some (spot_row ss d u)) (Some u)
 
     module _ (a : ℕ) (ha : a < length os) where
       abbrev s : ℕ
@@ -245,8 +244,8 @@ module _ (rows : ℕ) (ss : List Triangle) (d : Triangle) (N : Names ss) (fits :
       seek-first : (m b : ℕ) → a < b → b + m ≡ length os → Mates s (first p (seen b)) (seek m same suit (λ b. cell rows order_column b w) b)
       unfolding seek first
       seek-first zero b l e =
-          subst (λ x. Mates s (first p (see (spot_row ss d s) (map (spot_row ss d) x))) Nothing) (sym (drop_of_length-le os {i = b} (omega arith)))
-          (subst (λ x. Mates s (first p x) Nothing) (sym (sees.none_left (spot_row ss d s))) no-mate)
+          subst (λ x. Mates s (first p (see (spot_row ss d s) (map (spot_row ss d) x))) None) (sym (drop_of_length-le os {i = b} (omega arith)))
+          (subst (λ x. Mates s (first p x) None) (sym (sees.none_left (spot_row ss d s))) no-mate)
       seek-first (suc m) b l e =
           let h : b < length os = omega arith in
           step (same b) refl (suit b) refl h (seek-first m (suc b) (omega arith) (omega arith))
@@ -258,10 +257,10 @@ module _ (rows : ℕ) (ss : List Triangle) (d : Triangle) (N : Names ss) (fits :
               ∙ (sees.goes_on (spot_row ss d s) (spot_row ss d (get_or os b 0)) (later (suc b)) p (sym (same-is b h) ∙ q)
               ∙ ap (λ x. cond x (some (spot_row ss d (get_or os b 0))) (first p (seen (suc b)))) (passes b h ∙ (λ z. q z && r z)))
 
-          step : (x : Bool) → same b ≡ x → (y : Bool) → suit b ≡ y → b < length os → Mates s (first p (seen (suc b))) (seek m same suit (λ b. cell rows order_column b w) (suc b)) → Mates s (first p (seen b)) (cond x (cond y (To (cell rows order_column b w)) (seek m same suit (λ b. cell rows order_column b w) (suc b))) Nothing)
-          step true q true r h I = subst (λ o. Mates s o (To (cell rows order_column b w))) (sym (more true q r h)) (subst (λ x. Mates s (some (spot_row ss d x)) (To (cell rows order_column b w))) (S.order b h) (mate-at (cell rows order_column b w) (in_order b h) (other_row b r)))
+          step : (x : Bool) → same b ≡ x → (y : Bool) → suit b ≡ y → b < length os → Mates s (first p (seen (suc b))) (seek m same suit (λ b. cell rows order_column b w) (suc b)) → Mates s (first p (seen b)) (cond x (cond y (Some (cell rows order_column b w)) (seek m same suit (λ b. cell rows order_column b w) (suc b))) None)
+          step true q true r h I = subst (λ o. Mates s o (Some (cell rows order_column b w))) (sym (more true q r h)) (subst (λ x. Mates s (some (spot_row ss d x)) (Some (cell rows order_column b w))) (S.order b h) (mate-at (cell rows order_column b w) (in_order b h) (other_row b r)))
           step true q false r h I = subst (λ o. Mates s o (seek m same suit (λ b. cell rows order_column b w) (suc b))) (sym (more false q r h)) I
-          step false q y r h I = subst (λ o. Mates s o Nothing) (sym (none-later b (omega arith) h q)) no-mate
+          step false q y r h I = subst (λ o. Mates s o None) (sym (none-later b (omega arith) h q)) no-mate
 
       -- ---- the turn
 
@@ -277,7 +276,7 @@ module _ (rows : ℕ) (ss : List Triangle) (d : Triangle) (N : Names ss) (fits :
           subst (λ x. Linked rows ss d (record { near = S'; far = spot_row ss d u } ∷ ls) (put rows link_column x (s + 1) (put rows link_column s (x + 1) w))) (row_is u)
           (subst (λ x. Linked rows ss d (record { near = S'; far = spot_row ss d u } ∷ ls) (put rows link_column (row (u / 3) (third (u % 3))) (x + 1) (put rows link_column x (row (u / 3) (third (u % 3)) + 1) w))) (row_is s) r)
 
-      by-mates : (long : columns * rows ≤ length w) {o : Option Spot} {m : Link} → Mates s o m → Linked rows ss d (add_link S' o ls) (join rows s m w)
+      by-mates : (long : columns * rows ≤ length w) {o : Option Spot} {m : Option' ℕ} → Mates s o m → Linked rows ss d (add_link S' o ls) (join rows s m w)
       unfolding add_link
       by-mates long no-mate = L
       by-mates long (mate-at u k e) = join-row long u k e
@@ -308,7 +307,7 @@ module _ (rows : ℕ) (ss : List Triangle) (d : Triangle) (N : Names ss) (fits :
           by : {o : Option Spot} → Mates s o (seek (length os - suc a) same suit (λ b. cell rows order_column b w) (suc a)) → Only (link_column ∷ []) rows w₀ (join rows s (seek (length os - suc a) same suit (λ b. cell rows order_column b w) (suc a)) w)
           by r = go r
             where
-              go : {o : Option Spot} {m : Link} → Mates s o m → Only (link_column ∷ []) rows w₀ (join rows s m w)
+              go : {o : Option Spot} {m : Option' ℕ} → Mates s o m → Only (link_column ∷ []) rows w₀ (join rows s m w)
               go no-mate = O
               go (mate-at u k e) =
                   only-put (link_column ∷ []) rows w₀ (put rows link_column s (u + 1) w) link_column u (s + 1) refl (omega arith) (omega arith)

@@ -11,8 +11,7 @@ use Rattle.table.specs.Table.{cell}
 use Rattle.table.specs.Columns.{link_column}
 use Rattle.lists.proofs.Loops.{up_to-more}
 use Rattle.view.proofs.Frame.{only_none}
-use Rattle.neighbors.specs.declared.Link.{Link}
-use Rattle.neighbors.specs.declared.Link.TheVariants.{To, Nothing}
+use Rattle.std.specs.Prelude.{Option, Some, None, is_some}
 use Rattle.neighbors.specs.Links.{link_of, side_at, same_ends, suits, mate_from, mate_of, join, turn}
 use Rattle.neighbors.specs.Cursors.{Like, Stands, Moves}
 use Rattle.neighbors.proofs.Words.{not_free}
@@ -45,9 +44,9 @@ module _ (rows n near far : ℕ) (w : List ℕ) (S : Stands rows n near far w) w
   }
 
   -- the side at `near` is linked
-  pub passed : (u : ℕ) → near < n → link_of (cell rows link_column (side_at rows w near) w) ≡ To u → Moves rows n near far (near + 1) far w w
+  pub passed : near < n → is_some (link_of (cell rows link_column (side_at rows w near) w)) ≡ true → Moves rows n near far (near + 1) far w w
   unfolding turn
-  passed u h e = past h (sym (ap (λ (b : Bool). cond b (join rows (side_at rows w near) (mate_of rows n near w) w) w) (not_free _ u e)))
+  passed h e = past h (sym (ap (λ (b : Bool). cond b (join rows (side_at rows w near) (mate_of rows n near w) w) w) (not_free _ e)))
 
   -- it is unlinked, and `far` is ahead
   module _ (free : cell rows link_column (side_at rows w near) w ≡ 0) (ahead : near < far) where
@@ -68,21 +67,21 @@ module _ (rows n near far : ℕ) (w : List ℕ) (S : Stands rows n near far w) w
         skip (far - (near + 1)) (omega arith) ∙ ap (mate_from rows n near w) e
 
     -- the turn joins it with what the search finds from there
-    turned : (m : Link) → mate_from rows n near w far ≡ m → join rows (side_at rows w near) m w ≡ turn rows n near w
+    turned : (m : Option ℕ) → mate_from rows n near w far ≡ m → join rows (side_at rows w near) m w ≡ turn rows n near w
     unfolding turn
     turned m e =
-        ap (λ (x : Link). join rows (side_at rows w near) x w) (sym (skipped ∙ e))
+        ap (λ (x : Option ℕ). join rows (side_at rows w near) x w) (sym (skipped ∙ e))
         ∙ sym (ap (λ (b : Bool). cond b (join rows (side_at rows w near) (mate_of rows n near w) w) w) (eq-eqb _ _ free))
 
     -- no place is left for it
     pub ended : far ≡ n → Moves rows n near far (near + 1) far w w
-    ended e = past (omega arith) (turned Nothing (mate-end rows n near w far (omega arith)))
+    ended e = past (omega arith) (turned None (mate-end rows n near w far (omega arith)))
 
     -- the side at `far` is looked at
     module _ (within : far < n) where
       -- it has other ends, so no side with the same ends is left
       pub parted : same_ends rows (side_at rows w near) (side_at rows w far) w ≡ false → Moves rows n near far (near + 1) far w w
-      parted e = past (omega arith) (turned Nothing (mate-stop rows n near w far within e))
+      parted e = past (omega arith) (turned None (mate-stop rows n near w far within e))
 
       -- it has the same ends
       module _ (same : same_ends rows (side_at rows w near) (side_at rows w far) w ≡ true) where
@@ -115,9 +114,9 @@ module _ (rows n near far : ℕ) (w : List ℕ) (S : Stands rows n near far w) w
                 (eq-or-lt_of_le p)
 
         -- it is the mate
-        linked : suits rows (side_at rows w near) (side_at rows w far) w ≡ true → Moves rows n near far (near + 1) (far + 1) w (join rows (side_at rows w near) (To (side_at rows w far)) w)
+        linked : suits rows (side_at rows w near) (side_at rows w far) w ≡ true → Moves rows n near far (near + 1) (far + 1) w (join rows (side_at rows w near) (Some (side_at rows w far)) w)
         linked f = record {
-          turns = λ v q. turned (To (side_at rows w far)) (mate-found rows n near w far within same f) ∙ ap (turn rows n near) q ∙ up_to-more near (turn rows n) v;
+          turns = λ v q. turned (Some (side_at rows w far)) (mate-found rows n near w far within same f) ∙ ap (turn rows n near) q ∙ up_to-more near (turn rows n) v;
           stands = record {
             ready = joined-ready rows n s u w S.ready hs hu;
             first = omega arith;
@@ -144,5 +143,5 @@ module _ (rows n near far : ℕ) (w : List ℕ) (S : Stands rows n near far w) w
             hu = S.ready.order far within
 
         -- the list u after the two sides, s and t, were linked
-        pub linked-as : (s t : ℕ) (u : List ℕ) → s ≡ side_at rows w near → t ≡ side_at rows w far → u ≡ join rows s (To t) w → suits rows (side_at rows w near) (side_at rows w far) w ≡ true → Moves rows n near far (near + 1) (far + 1) w u
-        linked-as s t u p q e f = subst (Moves rows n near far (near + 1) (far + 1) w) (sym (e ∙ (λ k. join rows (p k) (To (q k)) w))) (linked f)
+        pub linked-as : (s t : ℕ) (u : List ℕ) → s ≡ side_at rows w near → t ≡ side_at rows w far → u ≡ join rows s (Some t) w → suits rows (side_at rows w near) (side_at rows w far) w ≡ true → Moves rows n near far (near + 1) (far + 1) w u
+        linked-as s t u p q e f = subst (Moves rows n near far (near + 1) (far + 1) w) (sym (e ∙ (λ k. join rows (p k) (Some (q k)) w))) (linked f)

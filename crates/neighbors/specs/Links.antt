@@ -1,19 +1,12 @@
 -- The linking of sides, as a function on the words of the work list. Definitions only.
-use Rattle.std.specs.Prelude.{ℕ, zero, suc, ◌+◌, ◌*◌, ◌-◌, ◌≤◌, ◌<◌, Bool, cond, not, ◌&&◌, List, eqb, length}
+use Rattle.std.specs.Prelude.{ℕ, zero, suc, ◌+◌, ◌*◌, ◌-◌, ◌≤◌, ◌<◌, Bool, cond, not, ◌&&◌, List, eqb, length, Option, Some, None}
 use Rattle.table.specs.Table.{cell, put}
 use Rattle.table.specs.Columns.{columns, vertex_column, link_column, lower_column, higher_column, order_column}
-use Rattle.neighbors.specs.declared.Link.{Link}
-use Rattle.neighbors.specs.declared.Link.TheVariants.{To, Nothing}
 
 -- what a link word says: 0 is none, else it is the row of the side beyond and one
-unfoldable pub link_of : ℕ → Link
-link_of zero = Nothing
-link_of (suc u) = To u
-
--- a side that is named is below n
-abbrev pub Below : ℕ → Link → Type 0
-Below n Nothing = Unit {0}
-Below n (To u) = u < n
+unfoldable pub link_of : ℕ → Option ℕ
+link_of zero = None
+link_of (suc u) = Some u
 
 -- the side at place a of the order
 abbrev pub side_at : ℕ → List ℕ → ℕ → ℕ
@@ -28,12 +21,12 @@ unfoldable pub suits : ℕ → ℕ → ℕ → List ℕ → Bool
 suits rows s u w = eqb (cell rows link_column u w) 0 && not (eqb (cell rows vertex_column s w) (cell rows vertex_column u w))
 
 -- the first of m places from b on that has the same ends and suits; none past the last of the same ends
-unfoldable pub seek : ℕ → (ℕ → Bool) → (ℕ → Bool) → (ℕ → ℕ) → ℕ → Link
-seek zero same suit side b = Nothing
-seek (suc m) same suit side b = cond (same b) (cond (suit b) (To (side b)) (seek m same suit side (suc b))) Nothing
+unfoldable pub seek : ℕ → (ℕ → Bool) → (ℕ → Bool) → (ℕ → ℕ) → ℕ → Option ℕ
+seek zero same suit side b = None
+seek (suc m) same suit side b = cond (same b) (cond (suit b) (Some (side b)) (seek m same suit side (suc b))) None
 
 -- the mate of the side at place a, among the places from b up to n
-unfoldable pub mate_from : ℕ → ℕ → ℕ → List ℕ → ℕ → Link
+unfoldable pub mate_from : ℕ → ℕ → ℕ → List ℕ → ℕ → Option ℕ
 mate_from rows n a w b =
     seek (n - b)
     (λ b. same_ends rows (side_at rows w a) (side_at rows w b) w)
@@ -42,13 +35,13 @@ mate_from rows n a w b =
     b
 
 -- its mate among all later places
-abbrev pub mate_of : ℕ → ℕ → ℕ → List ℕ → Link
+abbrev pub mate_of : ℕ → ℕ → ℕ → List ℕ → Option ℕ
 mate_of rows n a w = mate_from rows n a w (a + 1)
 
 -- side s and its mate are linked, each to the other
-abbrev pub join : ℕ → ℕ → Link → List ℕ → List ℕ
-join rows s Nothing w = w
-join rows s (To u) w = put rows link_column u (s + 1) (put rows link_column s (u + 1) w)
+abbrev pub join : ℕ → ℕ → Option ℕ → List ℕ → List ℕ
+join rows s None w = w
+join rows s (Some u) w = put rows link_column u (s + 1) (put rows link_column s (u + 1) w)
 
 -- the turn of place a: where its side is unlinked, it takes its mate
 unfoldable pub turn : ℕ → ℕ → ℕ → List ℕ → List ℕ

@@ -2,7 +2,7 @@
 // Carried over from mikktspace.rs (build_neighbors) of the Rust crate bevy_mikktspace and ALTERED: written anew in Rattle. See NOTICE.
 #![tactic(auto)]
 
-ghost use Rattle.std.specs.Prelude.{◌≡◌, List, [], ◌∷◌, ℕ, ◌*◌, ◌≤◌, ◌<◌, min, max, length};
+ghost use Rattle.std.specs.Prelude.{◌≡◌, List, [], ◌∷◌, ℕ, ◌*◌, ◌≤◌, ◌<◌, min, max, length, IfSome};
 ghost use Rattle.table.specs.Columns.{columns, link_column};
 ghost use Rattle.lists.specs.Loops.{up_to};
 ghost use Rattle.table.specs.Table.{cell};
@@ -16,13 +16,6 @@ ghost use Rattle.neighbors.specs.Links as spec;
 ghost use Rattle.neighbors.specs.Links.{Ready};
 ghost use Rattle.neighbors.specs.Cursors.{Stands, Moves};
 ghost use Rattle.neighbors.specs.Sides as sides;
-
-// The side beyond a side.
-#[derive(Clone, Copy)]
-pub enum Link {
-    To(usize),
-    Nothing,
-}
 
 // Two places in the order of the sides: of the side that looks for a mate, and of the one that it looks at.
 #[derive(Clone, Copy)]
@@ -39,56 +32,34 @@ pub fn wide(x: u32) -> usize
 }
 
 // The side beyond side r.
-pub fn link_at(work: &[u32], rows: usize, n: usize, r: usize) -> Link
+pub fn link_at(work: &[u32], rows: usize, n: usize, r: usize) -> Option<usize>
     requires { (r < n) × (n ≤ rows) × (columns * rows ≤ length work.now) × (cell rows link_column r work.now ≤ n) }
-    ensures { (result ≡ spec.link_of (cell rows link_column r work.now)) × spec.Below n result }
+    ensures { (result ≡ spec.link_of (cell rows link_column r work.now)) × IfSome result (λ u. u < n) }
 {
-    let word = wide(work[table::LINK * rows + r]);
-    if word == 0 {
-        return Link::Nothing;
-    }
-    Link::To(word - 1)
+    (work[table::LINK * rows + r] as usize).checked_sub(1)
 }
 
 // ---- the sides in their columns
 
-// The lesser of two words.
-fn least(a: u32, b: u32) -> u32
-    ensures { result ≡ min a b }
-{
-    if a <= b { a } else { b }
-}
-
-// The greater of two words.
-fn greatest(a: u32, b: u32) -> u32
-    ensures { result ≡ max a b }
-{
-    if a <= b { b } else { a }
-}
-
 // The row of the corner in which the side of row r ends.
+#[tactic(auto, unfolding(crate::specs::Sides::end_row))]
 pub fn end_of(r: usize) -> usize
     requires { r < 4294967295 }
     ensures { result ≡ sides.end_row r }
 {
-    if r % 3 == 2 {
-        return r - 2;
-    }
-    r + 1
+    if r % 3 == 2 { r - 2 } else { r + 1 }
 }
 
 // The side of row r: its ends by the words of a column, its place in the order, no link.
+#[tactic(auto, unfolding(crate::specs::Sides::with_side))]
 fn put_side(work: &mut [u32], rows: usize, column: usize, tris: usize, r: usize)
     requires { (column < columns) × (r < 3 * tris) × (3 * tris ≤ rows) × (columns * rows ≤ length work.old) × (rows < 4294967295) }
     ensures { work.new ≡ sides.with_side rows column r work.old }
 {
-    let e = end_of(r);
     let a = work[column * rows + r];
-    let b = work[column * rows + e];
-    let low = least(a, b);
-    let high = greatest(a, b);
-    work[table::LOWER * rows + r] = low;
-    work[table::HIGHER * rows + r] = high;
+    let b = work[column * rows + end_of(r)];
+    work[table::LOWER * rows + r] = a.min(b);
+    work[table::HIGHER * rows + r] = a.max(b);
     work[table::ORDER * rows + r] = r as u32;
     work[table::LINK * rows + r] = 0;
 }
@@ -108,9 +79,8 @@ pub fn order_sides(work: &mut [u32], rows: usize, tris: usize)
     requires { (3 * tris ≤ rows) × (columns * rows ≤ length work.old) × (rows < 4294967295) }
     ensures { sides.Sorted rows tris work.old work.new }
 {
-    let n = 3 * tris;
     put_sides(work, rows, table::VERTEX, tris);
-    sort::sort(work, rows, 0, n);
+    sort::sort(work, rows, 0, 3 * tris);
 }
 
 // ---- linking
@@ -120,35 +90,33 @@ fn side_at(work: &[u32], rows: usize, n: usize, a: usize) -> usize
     requires { (a < n) × Ready rows n work.now }
     ensures { (result ≡ spec.side_at rows work.now a) × (result < n) }
 {
-    wide(work[table::ORDER * rows + a])
+    work[table::ORDER * rows + a] as usize
 }
 
 // Whether two sides have the same ends.
+#[tactic(auto, unfolding(crate::specs::Links::same_ends))]
 pub fn same_ends(work: &[u32], rows: usize, s: usize, u: usize) -> bool
     requires { (s < rows) × (u < rows) × (columns * rows ≤ length work.now) }
     ensures { result ≡ spec.same_ends rows s u work.now }
 {
-    if work[table::LOWER * rows + s] != work[table::LOWER * rows + u] {
-        return false;
-    }
-    work[table::HIGHER * rows + s] == work[table::HIGHER * rows + u]
+    work[table::LOWER * rows + s] == work[table::LOWER * rows + u]
+        && work[table::HIGHER * rows + s] == work[table::HIGHER * rows + u]
 }
 
 // Whether side u is unlinked and starts at another vertex than side s.
+#[tactic(auto, unfolding(crate::specs::Links::suits))]
 fn suits(work: &[u32], rows: usize, s: usize, u: usize) -> bool
     requires { (s < rows) × (u < rows) × (columns * rows ≤ length work.now) }
     ensures { result ≡ spec.suits rows s u work.now }
 {
-    if work[table::LINK * rows + u] != 0 {
-        return false;
-    }
-    work[table::VERTEX * rows + s] != work[table::VERTEX * rows + u]
+    work[table::LINK * rows + u] == 0
+        && work[table::VERTEX * rows + s] != work[table::VERTEX * rows + u]
 }
 
 // Links two sides, each to the other.
 fn join(work: &mut [u32], rows: usize, n: usize, s: usize, u: usize)
     requires { (s < n) × (u < n) × Ready rows n work.old }
-    ensures { work.new ≡ spec.join rows s (Link.To u) work.old }
+    ensures { work.new ≡ spec.join rows s (Some u) work.old }
 {
     work[table::LINK * rows + s] = (u + 1) as u32;
     work[table::LINK * rows + u] = (s + 1) as u32;
@@ -164,14 +132,14 @@ fn look(work: &mut [u32], rows: usize, n: usize, s: usize, c: Cursors) -> Cursor
     if !same_ends(work, rows, s, u) {
         return Cursors {
             near: c.near + 1,
-            far: c.far,
+            ..c
         };
     }
     let fits = suits(work, rows, s, u);
     if !fits {
         return Cursors {
-            near: c.near,
             far: c.far + 1,
+            ..c
         };
     }
     join(work, rows, n, s, u);
@@ -187,22 +155,22 @@ fn step(work: &mut [u32], rows: usize, n: usize, c: Cursors) -> Cursors
     ensures { Moves rows n c.near c.far result.near result.far work.old work.new }
 {
     let s = side_at(work, rows, n, c.near);
-    let Link::Nothing = link_at(work, rows, n, s) else {
+    if link_at(work, rows, n, s).is_some() {
         return Cursors {
             near: c.near + 1,
-            far: c.far,
+            ..c
         };
-    };
+    }
     if c.far <= c.near {
         return Cursors {
-            near: c.near,
             far: c.near + 1,
+            ..c
         };
     }
     if c.far == n {
         return Cursors {
             near: c.near + 1,
-            far: c.far,
+            ..c
         };
     }
     look(work, rows, n, s, c)
@@ -228,8 +196,6 @@ pub fn link_sides(work: &mut [u32], rows: usize, tris: usize)
     ensures range { (r : ℕ) → r < 3 * tris → cell rows link_column r work.new ≤ 3 * tris }
     ensures only { Only sides.step_columns rows work.old work.new }
 {
-    let n = 3 * tris;
-    put_sides(work, rows, table::VERTEX, tris);
-    sort::sort(work, rows, 0, n);
-    link_all(work, rows, n);
+    order_sides(work, rows, tris);
+    link_all(work, rows, 3 * tris);
 }

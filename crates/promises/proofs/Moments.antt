@@ -29,8 +29,7 @@ use Rattle.laws.proofs.Closed.{links-sound}
 use Rattle.laws.proofs.Laws.{start-grows}
 use Rattle.laws.proofs.Sharp as one-triangle
 use Rattle.laws.proofs.Sharp.{sharp-own}
-use Rattle.neighbors.specs.declared.Link.{Link}
-use Rattle.neighbors.specs.declared.Link.TheVariants.{To, Nothing}
+use Rattle.std.specs.Prelude.{Option, Some, None}
 use Rattle.neighbors.specs.Links.{link_of}
 use Rattle.view.specs.Frame.{outside, Only}
 use Rattle.view.specs.Rows.{num, third, row, spot_at}
@@ -39,8 +38,6 @@ use Rattle.view.specs.Links.{LinkWord}
 use Rattle.view.proofs.Frame.{only_none, only-put, cell-kept}
 use Rattle.view.proofs.Lists.{every-index, index-every}
 use Rattle.view.proofs.Rows.{row_lt, row_is, tri-lt, row_fits, spots-length, spots-at}
-use Rattle.groups.specs.declared.Entry.{Entry}
-use Rattle.groups.specs.declared.Entry.TheVariants.{At, Stop}
 use Rattle.groups.specs.Walk.{corner_of, untouched, adopted, Entered, stopped, marked, enter, Walk, walk, side, follow, go_on, corner, ungrouped, State, started, begun as stored, turn, Ready, cleared}
 use Rattle.groups.proofs.Laws.{cond-case, corner_of-le, marked-grown}
 use Rattle.groups.proofs.Marking.{adopted-kept, adopted-length}
@@ -245,9 +242,9 @@ module _ (rows n : ℕ) where
     unfolding side
     side-goes m I w c k h R l = go (link_of (cell rows link_column k w)) refl
       where
-        go : (x : Link) → x ≡ link_of (cell rows link_column k w) → Later rows n w (follow (C m) (walk w c) x).work
-        go Nothing e = now
-        go (To x) e = I w c (x / 3) (to-triangle rows n g v o (cell rows link_column k w) x (R.links k h) e) R l
+        go : (x : Option ℕ) → x ≡ link_of (cell rows link_column k w) → Later rows n w (follow (C m) (walk w c) x).work
+        go None e = now
+        go (Some x) e = I w c (x / 3) (to-triangle rows n g v o (cell rows link_column k w) x (R.links k h) e) R l
 
     corner-goes : (m : ℕ) → Goes m
     unfolding corner
@@ -257,13 +254,13 @@ module _ (rows n : ℕ) where
         u : List ℕ
         u = (enter rows t g v o c w).work
 
-        go : Goes m → (x : Entry) → x ≡ (enter rows t g v o c w).entry → Later rows n w (go_on rows (C m) t c x u).work
-        go I Stop e = entered w t g v o c h R now
-        go I (At i) e =
+        go : Goes m → (x : Option ℕ) → x ≡ (enter rows t g v o c w).entry → Later rows n w (go_on rows (C m) t c x u).work
+        go I None e = entered w t g v o c h R now
+        go I (Some i) e =
             let first = 3 * t + (i + 2) % 3 in
-            let below = corner-below rows n t g v o c w h R (At i) u e refl i refl in
-            let less = corner-falls rows n t g v o c w h R (At i) u e refl i refl in
-            let Q = corner-ready rows n t g v o c w h R (At i) u e refl i refl (enter-only rows n g v o w c t h R).size in
+            let below = corner-below rows n t g v o c w h R (Some i) u e refl i refl in
+            let less = corner-falls rows n t g v o c w h R (Some i) u e refl i refl in
+            let Q = corner-ready rows n t g v o c w h R (Some i) u e refl i refl (enter-only rows n g v o w c t h R).size in
             let x = side rows (C m) (walk u (c + 1)) first in
             let S = side-enough rows n g v o m (enough rows n g v o m) u (c + 1) first (omega arith) Q (omega arith) in
             let Q' = ready-steps rows n g (c + 1) x.count u x.work (λ j. side rows (C j) (walk u (c + 1)) first) Q S S.only.size in

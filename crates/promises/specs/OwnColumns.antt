@@ -17,7 +17,7 @@ use Rattle.definition.specs.Step6Groups.{Mark, grouped, start_at}
 use Rattle.view.specs.Frame.{Only}
 use Rattle.view.specs.Rows.{row, spot_at}
 use Rattle.view.specs.Groups.{number_of}
-use Rattle.groups.specs.declared.Entry.TheVariants.{At}
+use Rattle.std.specs.Prelude.{Some}
 use Rattle.groups.specs.Walk.{Entered, enter, State, turn, Ready, Turned as TurnDone, cleared}
 use Rattle.grouped.specs.declared.MeshCounts.{MeshCounts}
 use Rattle.flat.specs.Places.{places_column}
@@ -110,7 +110,7 @@ pub record StandsFast (rows n : ℕ) (w u : List ℕ) : Type 0 where
 
 -- triangle t was entered by group g of orientation o: where a corner of it was grouped then, it is in that group and its triangle has that orientation
 abbrev pub GroupedThere : ℕ → ℕ → ℕ → ℕ → Entered → Type 0
-GroupedThere rows t g o e = (i : ℕ) → e.entry ≡ At i → (cell rows group_column (3 * t + i) e.work ≡ g) × (cell rows orientation_column t e.work ≡ o)
+GroupedThere rows t g o e = (i : ℕ) → e.entry ≡ Some i → (cell rows group_column (3 * t + i) e.work ≡ g) × (cell rows orientation_column t e.work ≡ o)
 
 -- a list that step 6 may be called with: room for the columns, and links that name sides of the n triangles (the `requires` of `build_4_rule_groups`)
 pub record Walkable (rows n : ℕ) (w : List ℕ) : Type 0 where

@@ -1,13 +1,14 @@
 -- One parent changed. Assumes nothing.
-use Prim.Native.Nat.{ℕ, ◌+◌, ◌≤◌, ◌<◌}
+use Prim.Native.Nat.{ℕ, ◌+◌, ◌-◌, ◌≤◌, ◌<◌, min, max}
 use native.Mathlib.Omega.{arith}
 use mathlib.Core.Path.{◌≡◌, refl, sym, ◌∙◌, ap, subst}
 use mathlib.Core.Bool.{Bool, true, false}
-use mathlib.Core.List.{List}
-use lib.Dec.{eqb}
-use lib.ListN.{length, get_or, set, length-set}
+use mathlib.Core.List.{List, ◌++◌}
+use lib.Dec.{eqb, leb}
+use lib.ListN.{length, get_or, set, take, drop, length-set, length-append, length-take, length-drop, get_or-append}
 use lib.Seq.{get_or-set_same, get_or-set_other}
-use borrow.Author.Tests.{eqb-true, eqb-false}
+use Rattle.std.proofs.lemmas.List.{get_or-append_right, get_or-drop}
+use borrow.Author.Tests.{eqb-true, eqb-false, leb-true, leb-false}
 use Rattle.unions.specs.Unions.{Downward, Level, Beyond, Alone, Same, Climbed, United, Settled}
 
 -- equal or not
@@ -122,45 +123,63 @@ united n p q r s a b x y f g u = record {
 pub united-sym : (n : ℕ) (p q : List ℕ) (a b : ℕ) → United n p q a b → United n p q b a
 united-sym n p q a b u = record { beyond = u.beyond; down = u.down; onto = λ l k e. u.onto l k (sym e); back = u.back; joined = λ l k. sym (u.joined l k) }
 
+-- the ends of a and b found, and the higher joined to the lower
+pub united-ends : (n : ℕ) (p q r : List ℕ) (a b x y high low : ℕ) → n ≤ length p → a < n → b < n → Climbed n p q a x → Climbed n q r b y → high ≡ max x y → low ≡ min x y → United n p (set r high low) a b
+united-ends n p q r a b x y high low long h k f g e i = subst (λ u. United n p u a b) (λ j. set r (sym e j) (sym i j)) (go (leb x y) refl)
+  where
+    enough : n ≤ length r
+    enough = omega (arith, long, f.same.beyond.size, g.same.beyond.size)
+
+    x-below : x < n
+    x-below = omega (arith, f.low, h)
+
+    y-below : y < n
+    y-below = omega (arith, g.low, k)
+
+    go : (t : Bool) → leb x y ≡ t → United n p (set r (max x y) (min x y)) a b
+    go true t =
+        let o : x ≤ y = leb-true x y t in
+        subst (λ z. United n p (set r z (min x y)) a b) (sym (omega arith)) (subst (λ z. United n p (set r y z) a b) (sym (omega arith)) (united _ _ _ _ _ _ _ _ _ f g (join n r x y enough y-below o g.same.down g.top)))
+    go false t =
+        let o : y < x = leb-false x y t in
+        subst (λ z. United n p (set r z (min x y)) a b) (sym (omega arith)) (subst (λ z. United n p (set r x z) a b) (sym (omega arith)) (united _ _ _ _ _ _ _ _ _ f g (united-sym _ _ _ _ _ (join n r y x enough x-below (omega arith) g.same.down (g.same.tops x x-below f.top)))))
+
 -- ---- on the way up from f
 
-pub record Going (n : ℕ) (p : List ℕ) (f : ℕ) (q : List ℕ) (x up : ℕ) : Type 0 where
+pub record Going (n : ℕ) (p : List ℕ) (f : ℕ) (q : List ℕ) (x : ℕ) : Type 0 where
   pub same : Same n p q
   pub low : x ≤ f
-  pub above : up ≡ get_or q x 0
   pub joined : (l : ℕ → ℕ) → Level n p l → l x ≡ l f
 
-pub going-none : (n : ℕ) (p : List ℕ) (f : ℕ) → Downward n p → Going n p f p f (get_or p f 0)
-going-none n p f d = record { same = same_none n p d; low = omega arith; above = refl; joined = λ l k. refl }
+pub going-none : (n : ℕ) (p : List ℕ) (f : ℕ) → Downward n p → Going n p f p f
+going-none n p f d = record { same = same_none n p d; low = omega arith; joined = λ l k. refl }
 
-module _ (n : ℕ) (p : List ℕ) (f : ℕ) (q : List ℕ) (x up : ℕ) (long : n ≤ length p) (h : f < n) (g : Going n p f q x up) where
-  pub size : length q ≡ length p
-  size = g.same.beyond.size
+module _ (n : ℕ) (p : List ℕ) (f : ℕ) (q : List ℕ) (x : ℕ) (long : n ≤ length p) (h : f < n) (g : Going n p f q x) where
+  abbrev parent : ℕ
+  parent = get_or q x 0
 
-  pub below : x < n
+  abbrev higher : List ℕ
+  higher = set q x (get_or q parent 0)
+
+  room : n ≤ length q
+  room = omega (arith, g.same.beyond.size)
+
+  below : x < n
   below = omega (arith, g.low)
 
-  pub up-low : up ≤ x
-  up-low = omega (arith, g.above, g.same.down x below)
+  up-low : parent ≤ x
+  up-low = g.same.down x below
 
-  pub over-low : get_or q up 0 ≤ up
-  over-low = g.same.down up (omega (arith, up-low, below))
-
-  pub going_more : (v w : ℕ) → v ≡ get_or q up 0 → w ≡ get_or (set q x v) v 0 → Going n p f (set q x v) v w
-  going_more v w e i = record {
-    same = same-trans n p q (set q x v) g.same (subst (λ z. Same n q (set q x z)) (sym over-is) (shorter n q x (omega (arith, size)) below g.same.down));
-    low = omega (arith, e, over-low, up-low, g.low);
-    above = i;
+  pub going_more : Going n p f higher (get_or higher x 0)
+  going_more = subst (Going n p f higher) (sym (get_or-set_same q x (get_or q parent 0) 0 (omega (arith, below, room)))) record {
+    same = same-trans n p q higher g.same (shorter n q x room below g.same.down);
+    low = omega (arith, g.same.down parent (omega (arith, up-low, below)), up-low, g.low);
     joined = λ l k.
-        let k' = g.same.onto l k in
-        ap l e ∙ k' up (omega (arith, up-low, below)) ∙ ap l g.above ∙ k' x below ∙ g.joined l k;
+        let k' = g.same.onto l k in k' parent (omega (arith, up-low, below)) ∙ k' x below ∙ g.joined l k;
   }
-    where
-      over-is : v ≡ get_or q (get_or q x 0) 0
-      over-is = e ∙ ap (λ z. get_or q z 0) g.above
 
-  pub climbed : up ≡ x → Climbed n p q f x
-  climbed e = record { same = g.same; low = g.low; top = sym g.above ∙ e; joined = g.joined }
+  pub climbed : parent ≡ x → Climbed n p q f x
+  climbed e = record { same = g.same; low = g.low; top = e; joined = g.joined }
 
 -- ---- settling, from below
 
@@ -232,21 +251,18 @@ settled n p q s = record { beyond = s.beyond; low = s.low; level = λ x h. s.lev
 
 -- ---- each by itself
 
-pub record Counting (n : ℕ) (p : List ℕ) (x : ℕ) (q : List ℕ) : Type 0 where
-  pub beyond : Beyond n p q
-  pub own : (y : ℕ) → y < x → get_or q y 0 ≡ y
-
-pub counting-none : (n : ℕ) (p : List ℕ) → Counting n p 0 p
-counting-none n p = record { beyond = record { size = refl; rest = λ x h. refl }; own = λ y h. absurd (omega arith) }
-
-pub counting_more : (n : ℕ) (p : List ℕ) (x : ℕ) (q : List ℕ) → n ≤ length p → x < n → Counting n p x q → Counting n p (x + 1) (set q x x)
-counting_more n p x q long h s = record {
-  beyond = beyond-trans n p q (set q x x) s.beyond (beyond-set n q x x h);
-  own = λ y k. after (λ v. v ≡ y) q x x y (omega (arith, s.beyond.size)) (λ e. sym e) (λ e. s.own y (omega arith));
+-- the first n are each their own parent, and what follows stands
+pub alone-front : (n : ℕ) (p q : List ℕ) → n ≤ length p → length q ≡ length (take n p) → ((x : ℕ) → x < n → get_or q x 0 ≡ x) → Alone n p (q ++ drop n p)
+alone-front n p q long e own = record {
+  beyond = record {
+    size = length-append q (drop n p) ∙ omega (arith, e, length-take n p, length-drop n p);
+    rest = λ x h. get_or-append_right q (drop n p) n x 0 size h ∙ get_or-drop n p (x - n) 0 ∙ ap (λ k. get_or p k 0) (omega arith);
+  };
+  own = λ x h. get_or-append q (drop n p) 0 x (omega (arith, size)) ∙ own x h;
 }
-
-pub counted : (n : ℕ) (p q : List ℕ) → Counting n p n q → Alone n p q
-counted n p q s = record { beyond = s.beyond; own = s.own }
+  where
+    size : length q ≡ n
+    size = omega (arith, e, length-take n p)
 
 -- what is alone is downward, and every number is level on it
 pub alone-down : (n : ℕ) (p q : List ℕ) → Alone n p q → Downward n q

@@ -9,8 +9,8 @@ pub fn alone(parents: &mut [u32], count: usize)
     requires { (count ≤ length parents.old) × (count < 4294967296) }
     ensures { spec.Alone count parents.old parents.new }
 {
-    for x in 0..count {
-        parents[x] = x as u32;
+    for (x, parent) in parents[..count].iter_mut().enumerate() {
+        *parent = x as u32;
     }
 }
 
@@ -20,12 +20,9 @@ fn root(parents: &mut [u32], count: usize, from: u32) -> u32
     ensures { spec.Climbed count parents.old parents.new from result }
 {
     let mut x = from;
-    let mut up = parents[x as usize];
-    while up != x {
-        let over = parents[up as usize];
-        parents[x as usize] = over;
-        x = over;
-        up = parents[x as usize];
+    while parents[x as usize] != x {
+        parents[x as usize] = parents[parents[x as usize] as usize];
+        x = parents[x as usize];
     }
     x
 }
@@ -37,12 +34,7 @@ pub fn unite(parents: &mut [u32], count: usize, a: u32, b: u32)
 {
     let x = root(parents, count, a);
     let y = root(parents, count, b);
-    let lower = x < y;
-    if lower {
-        parents[y as usize] = x;
-        return;
-    }
-    parents[x as usize] = y;
+    parents[x.max(y) as usize] = x.min(y);
 }
 
 // Each number gets the end of its parents for a parent.
@@ -51,7 +43,6 @@ pub fn settle(parents: &mut [u32], count: usize)
     ensures { spec.Settled count parents.old parents.new }
 {
     for x in 0..count {
-        let up = parents[x];
-        parents[x] = parents[up as usize];
+        parents[x] = parents[parents[x] as usize];
     }
 }

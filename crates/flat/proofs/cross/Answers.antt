@@ -1,9 +1,8 @@
 -- Proof that `cross` meets its contract. Assumes nothing.
-use Prim.Native.Nat.{◌*◌}
+use Prim.Native.Nat.{ℕ, ◌*◌, ◌<◌}
 use native.Mathlib.Omega.{arith}
 use mathlib.Core.Path.{sym, ◌∙◌, subst}
-use Rattle.neighbors.specs.declared.Link.TheVariants.{To}
-use Rattle.neighbors.specs.Links.{Below}
+use Rattle.std.specs.Prelude.{Option, IfSome}
 use Rattle.flat.proofs.Crossing.{stored-left, crosses-none, crosses-to}
 use Rattle.flat.proofs.cross.Goals as goal
 
@@ -19,9 +18,9 @@ returns-in_default c =
 pub go_to-requires : goal.go_to-requires
 go_to-requires c =
     let a = c.args in
-    let below : Below (3 * a.tris) (To c.in-To.u) = subst (Below (3 * a.tris)) c.in-To.is c.link_at.ensures.1 in
+    let below : c.in-Some.u < 3 * a.tris = subst (λ (o : Option ℕ). IfSome o (λ u. u < 3 * a.tris)) c.in-Some.is c.link_at.ensures.1 in
     (omega arith, c.requires.2, stored-left a.rows a.tris a.group a.vertex a.orient a.s.side a.s.left a.s.count a.work.now c.requires.0 c.requires.2 c.requires.3)
 
 pub returns : goal.returns
 returns c =
-    crosses-to _ _ _ _ _ _ _ _ _ c.requires.0 c.requires.2 c.requires.3 _ _ _ (omega (arith, c.requires.1, c.requires.2.fits)) (sym c.in-To.is ∙ c.link_at.ensures.0) c.go_to.ensures
+    crosses-to _ _ _ _ _ _ _ _ _ c.requires.0 c.requires.2 c.requires.3 _ _ _ (omega (arith, c.requires.1, c.requires.2.fits)) (sym c.in-Some.is ∙ c.link_at.ensures.0) c.go_to.ensures

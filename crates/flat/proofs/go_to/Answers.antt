@@ -12,21 +12,21 @@ returns-in_default c =
 
 pub overflow_add-work : goal.overflow_add-work
 overflow_add-work c =
-    let below : c.in-At.i < 3 = corner-below _ _ _ _ _ _ _ _ c.requires.0 c.requires.1 _ _ c.enter_at.ensures.entry c.enter_at.ensures.work _ c.in-At.is in
+    let below : c.in-Some.i < 3 = corner-below _ _ _ _ _ _ _ _ c.requires.0 c.requires.1 _ _ c.enter_at.ensures.entry c.enter_at.ensures.work _ c.in-Some.is in
     omega (arith, c.requires.1.fits)
 
 pub overflow_cast-work : goal.overflow_cast-work
 overflow_cast-work c =
-    let below : c.in-At.i < 3 = corner-below _ _ _ _ _ _ _ _ c.requires.0 c.requires.1 _ _ c.enter_at.ensures.entry c.enter_at.ensures.work _ c.in-At.is in
+    let below : c.in-Some.i < 3 = corner-below _ _ _ _ _ _ _ _ c.requires.0 c.requires.1 _ _ c.enter_at.ensures.entry c.enter_at.ensures.work _ c.in-Some.is in
     omega (arith, c.requires.1.fits, c.requires.1.few)
 
 pub overflow_add-result : goal.overflow_add-result
 overflow_add-result c =
-    let below : c.in-At.i < 3 = corner-below _ _ _ _ _ _ _ _ c.requires.0 c.requires.1 _ _ c.enter_at.ensures.entry c.enter_at.ensures.work _ c.in-At.is in
+    let below : c.in-Some.i < 3 = corner-below _ _ _ _ _ _ _ _ c.requires.0 c.requires.1 _ _ c.enter_at.ensures.entry c.enter_at.ensures.work _ c.in-Some.is in
     omega arith
 
 pub returns : goal.returns
 returns c =
     let enter = c.enter_at in
-    let below : c.in-At.i < 3 = corner-below _ _ _ _ _ _ _ _ c.requires.0 c.requires.1 _ _ c.enter_at.ensures.entry c.enter_at.ensures.work _ c.in-At.is in
-    goes_to _ _ _ _ _ _ _ _ _ c.requires.0 c.requires.1 c.requires.2 _ _ enter.ensures.entry enter.ensures.work _ c.in-At.is _ _ _ _ (omega arith) (omega arith) (omega arith) (omega arith)
+    let below : c.in-Some.i < 3 = corner-below _ _ _ _ _ _ _ _ c.requires.0 c.requires.1 _ _ c.enter_at.ensures.entry c.enter_at.ensures.work _ c.in-Some.is in
+    goes_to _ _ _ _ _ _ _ _ _ c.requires.0 c.requires.1 c.requires.2 _ _ enter.ensures.entry enter.ensures.work _ c.in-Some.is _ _ _ _ (omega arith) (omega arith) (omega arith) (omega arith)

@@ -2,8 +2,8 @@
 use Rattle.unions.proofs.Stores.{Going}
 use Rattle.unions.proofs.root.Given as goal
 
-abbrev pub invariant-loop-up : goal.invariant-loop-up
-invariant-loop-up l = Going l.count l.initial.parents l.from l.parents l.x l.up
+abbrev pub invariant-loop-parents : goal.invariant-loop-parents
+invariant-loop-parents l = Going l.count l.initial.parents l.from l.parents l.x
 
-abbrev pub decreases-loop-up : goal.decreases-loop-up
-decreases-loop-up l = l.x
+abbrev pub decreases-loop-parents : goal.decreases-loop-parents
+decreases-loop-parents l = l.x
