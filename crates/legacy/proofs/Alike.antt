@@ -25,7 +25,7 @@ use Rattle.quick.proofs.Enough.{length-swapped}
 use Rattle.quick.proofs.Halves.{Cut, halved-cut}
 use Rattle.quick.proofs.Apart.{swapped_other}
 use Rattle.edges.proofs.Whole.{length-numbers, numbers-at, set_holds}
-use Rattle.edges.proofs.Runs.{run_past}
+use Rattle.quick.proofs.Searches.{run_past}
 use Rattle.merge.specs.Rows.{merged_one}
 use Rattle.merge.proofs.Stable.{sorted-same}
 use Rattle.legacy.proofs.Rows.{merge_keeps, set_keeps}

@@ -1,8 +1,7 @@
 pub mod Reading
 pub mod Boxes
-pub mod Buckets
+pub mod Shares
 pub mod Leaves
-pub mod Ends
 pub mod Filling
 pub mod Parts
 pub mod Ways

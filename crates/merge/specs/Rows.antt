@@ -1,20 +1,27 @@
 -- Step 4 of the old edition in the columns of the work list: rows in order, the box of their positions, pieces of the order. Definitions only.
-use Rattle.std.specs.Prelude.{◌≡◌, ℕ, zero, suc, ◌+◌, ◌-◌, ◌*◌, ◌<◌, ◌≤◌, min, cond, List, [], ◌∷◌, take, nat_le, nat_lt, slice_index, slice_set, Float}
+use Rattle.std.specs.Prelude.{◌≡◌, ℕ, suc, ◌+◌, ◌-◌, ◌*◌, ◌<◌, ◌≤◌, min, cond, List, [], ◌∷◌, take, nat_le, nat_lt, slice_index, slice_set, Float}
 use Rattle.std.specs.Float.Ieee as Ieee
 use Rattle.math.specs.declared.Vec3.{Vec3}
 use Rattle.math.specs.Vector.{vec}
 use Rattle.lists.specs.Lists.{first}
 use Rattle.definition.specs.declared.Corner.{Corner}
 use Rattle.definition.specs.Handed.{vector_at}
-use Rattle.definition.specs.Mesh.{Third}
-use Rattle.definition.specs.Step4Old.{Box, Merging, halved, Way, leave, weld, cut, side_of, same_values, or_row, merge, merge_runs, merged_rows}
+use Rattle.definition.specs.Mesh.{Third, one, two, three}
+use Rattle.definition.specs.Step4Old.{Box, Merging, halved, Way, leave, weld, cut, side_of, same_values, or_row, merge, merge_runs, bucket_in, merged_rows}
 use Rattle.definition.specs.Step5Old.{numbers_from}
 use Rattle.definition.specs.Step5Sorted.{sorted_by}
 use Rattle.table.specs.Table.{column}
 use Rattle.table.specs.Columns.{corner_column, into_column, order_column, spare_column, lower_column, higher_column}
 use Rattle.view.specs.Frame.{Only}
 use Rattle.weld.specs.Welding.{corner_in}
+use Rattle.std.specs.declared.option.Option.{Option}
+use Rattle.std.specs.declared.option.Option.TheVariants.{None, Some}
+use Rattle.merge.specs.declared.Axis.{Axis}
+use Rattle.merge.specs.declared.Axis.TheVariants.{X, Y, Z}
 use Rattle.merge.specs.declared.Extent.{Extent}
+use Rattle.merge.specs.declared.Action.{Action}
+use Rattle.merge.specs.declared.Action.TheVariants.{Leave, Merge, Part}
+use Rattle.merge.specs.declared.Buckets.{Buckets}
 
 -- ---- rows
 
@@ -40,6 +47,12 @@ standing rows n w = record { rows = order rows n w; into = into rows n w }
 
 -- ---- the box
 
+-- the coordinate
+abbrev pub third_of : Axis → Third
+third_of X = one
+third_of Y = two
+third_of Z = three
+
 -- the box of two vectors
 abbrev pub box_in : Extent → Box
 box_in b = record { low = b.low; high = b.high }
@@ -60,15 +73,19 @@ wider b v =
       high = vec (larger b.high.x v.x) (larger b.high.y v.y) (larger b.high.z v.z);
     }
 
+-- the bucket of a row at position P
+abbrev pub bucket_by : Buckets → (ℕ → Vec3) → ℕ → ℕ
+bucket_by b P = bucket_in (box_in b.extent) (third_of b.axis) P
+
 -- a number, at most 2,047
 unfoldable pub within : ℕ → ℕ
 within k = min 2047 k
 
--- what is done with rows, by number: 0 leaves them, 1 merges them, any other cuts them
-abbrev pub way_by : ℕ → Third → Float → Way
-way_by zero c x = leave
-way_by (suc zero) c x = weld
-way_by (suc (suc n)) c x = cut c x
+-- what is done with rows
+abbrev pub way_of : Action → Way
+way_of Leave = leave
+way_of Merge = weld
+way_of (Part k) = cut (third_of k.axis) k.at
 
 -- ---- columns
 
@@ -135,12 +152,12 @@ unfoldable pub in_turn : (ℕ → Corner) → ℕ → List ℕ → Merging → M
 in_turn C a [] m = m
 in_turn C a (e ∷ es) m = in_turn C e es (merge (e - a) C a e m)
 
--- what a turn does with the rows at places from a up to e, which are two lists m before it and k after it: at 0 the piece is done, at another place it is in two parts, of which the second begins there
-pub record Turned (C : ℕ → Corner) (a e at : ℕ) (m k : Merging) : Type 0 where
-  pub settled : at ≡ 0 → (es : List ℕ) → in_turn C a (e ∷ es) m ≡ in_turn C e es k
-  pub parted : 0 < at → (es : List ℕ) → in_turn C a (e ∷ es) m ≡ in_turn C a (at ∷ e ∷ es) k
-  pub low : 0 < at → a < at
-  pub high : 0 < at → at < e
+-- what a turn does with the rows at places from a up to e, which are two lists m before it and k after it: the piece is done, or it is in two parts, of which the second begins at place p
+pub record Turned (C : ℕ → Corner) (a e : ℕ) (at : Option ℕ) (m k : Merging) : Type 0 where
+  pub settled : at ≡ None → (es : List ℕ) → in_turn C a (e ∷ es) m ≡ in_turn C e es k
+  pub parted : (p : ℕ) → at ≡ Some p → (es : List ℕ) → in_turn C a (e ∷ es) m ≡ in_turn C a (p ∷ e ∷ es) k
+  pub low : (p : ℕ) → at ≡ Some p → a < p
+  pub high : (p : ℕ) → at ≡ Some p → p < e
 
 -- the ends of the pieces that follow place e up to place `to`, in a list l: the end of each stands at the place where it begins
 pub data Kept (l : List ℕ) (to : ℕ) : ℕ → List ℕ → Type 0 where
