@@ -2,13 +2,16 @@
 #![tactic(auto)]
 
 ghost use Rattle.std.specs.Prelude.{◌≡◌, true, cond, List, [], ◌∷◌, ℕ, ◌+◌, ◌*◌, ◌-◌, ◌/◌, ◌<◌, ◌≤◌, ◌^◌, length, drop};
-ghost use Rattle.definition.specs.Handed.{handed, used};
+ghost use Rattle.definition.specs.Handed.{used};
+ghost use Rattle.mesh.specs.Parts.{given as mesh_given};
 ghost use Rattle.definition.specs.Limits.{face_limit};
 ghost use Rattle.table.specs.Columns.{columns, rows_of};
 ghost use Rattle.view.specs.Frame.{Only};
 ghost use Rattle.unions.specs.Unions.{Downward, United};
 ghost use Rattle.islands.specs.Islands.{no_island};
 ghost use Rattle.islands.specs.Rows as spec;
+
+use mesh::Mesh;
 
 // ---- the corners in rows
 
@@ -43,14 +46,11 @@ fn list_faces(sizes: &[u8], work: &mut [u32]) -> usize
     ensures { spec.FacesListed sizes.now (length sizes.now) result (spec.corner_row (rows_of (length sizes.now)) work.new) (spec.face_row (rows_of (length sizes.now)) work.new) × Only spec.list_columns (rows_of (length sizes.now)) work.old work.new }
 {
     let rows = 6 * sizes.len();
-    let mut k: usize = 0;
+    let mut k = 0;
     let mut base: u32 = 0;
-    let mut f: usize = 0;
-    while f < sizes.len() {
-        let size = sizes[f];
+    for (f, &size) in sizes.iter().enumerate() {
         k = list_face(work, rows, k, f as u32, base, size);
         base += size as u32;
-        f += 1;
     }
     k
 }
@@ -98,29 +98,22 @@ fn strike(sizes: &[u8], labels: &mut [u32])
     requires { length sizes.now ≤ length labels.old }
     ensures { spec.Struck sizes.now labels.old labels.new }
 {
-    for f in 0..sizes.len() {
-        labels[f] = given(sizes[f], labels[f]);
+    for (f, &size) in sizes.iter().enumerate() {
+        labels[f] = given(size, labels[f]);
     }
 }
 
 // The lowest face number of the island of each face of 3 or 4, and FFFFFFFF for the others.
-pub fn label(
-    sizes: &[u8],
-    positions: &[f32],
-    normals: &[f32],
-    texture: &[f32],
-    labels: &mut [u32],
-    work: &mut [u32],
-)
-    requires { (length sizes.now ≤ face_limit) × (length sizes.now ≤ length labels.old) × (columns * rows_of (length sizes.now) ≤ length work.old) }
-    ensures { (labels.new ≡ spec.labelled (handed sizes.now positions.now normals.now texture.now) labels.old) × (length work.new ≡ length work.old) × (drop (columns * rows_of (length sizes.now)) work.new ≡ drop (columns * rows_of (length sizes.now)) work.old) }
+pub fn label(mesh: &Mesh, labels: &mut [u32], work: &mut [u32])
+    requires { (length mesh.now.sizes.now ≤ face_limit) × (length mesh.now.sizes.now ≤ length labels.old) × (columns * rows_of (length mesh.now.sizes.now) ≤ length work.old) }
+    ensures { (labels.new ≡ spec.labelled (mesh_given mesh.now) labels.old) × (length work.new ≡ length work.old) × (drop (columns * rows_of (length mesh.now.sizes.now)) work.new ≡ drop (columns * rows_of (length mesh.now.sizes.now)) work.old) }
 {
-    let faces = sizes.len();
+    let faces = mesh.sizes.len();
     let rows = 6 * faces;
     unions::alone(labels, faces);
-    let k = list_faces(sizes, work);
-    weld::weld(work, rows, 4 * k, positions, normals, texture);
+    let k = list_faces(mesh.sizes, work);
+    weld::weld(work, rows, 4 * k, mesh);
     unite_rows(work, rows, 4 * k, labels, faces);
     unions::settle(labels, faces);
-    strike(sizes, labels);
+    strike(mesh.sizes, labels);
 }

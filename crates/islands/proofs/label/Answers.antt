@@ -1,40 +1,33 @@
 -- Proof that `label` meets its contract. Assumes nothing.
-use Prim.Native.Nat.{◌*◌, ◌≤◌}
+use Prim.Native.Nat.{ℕ, ◌*◌, ◌≤◌}
+use mathlib.Core.List.{List}
+use Rattle.table.specs.Columns.{columns, rows_of}
 use native.Mathlib.Omega.{arith}
-use mathlib.Core.Path.{◌∙◌}
+use mathlib.Core.Path.{◌≡◌, ◌∙◌}
 use lib.ListN.{length}
 use Rattle.definition.specs.Limits.{face_limit}
 use Rattle.unions.proofs.Stores.{alone-down}
 use Rattle.islands.proofs.Labels.{readable, labels-are}
 use Rattle.islands.proofs.label.Goals as goal
-use Rattle.islands.proofs.label.Tie as tie
-use Rattle.islands.proofs.label.Lts as lts
-use Rattle.islands.proofs.label.Reads as reads
-
-abbrev At-After-weld-arg-1 : Type 0
-At-After-weld-arg-1 = lts.After-weld-arg tie.the-claims reads.Pre reads.Post
 
 -- so few faces are listed, in a list as long as the one that is lent
-few : (c : At-After-weld-arg-1) → let f = c in let s = f in
-    (4 * f.list_faces-k.result ≤ 6 * length s.args.sizes.now) × (126 * length s.args.sizes.now ≤ length f.list_faces-k.new.work) × (length s.args.sizes.now ≤ face_limit)
-few c =
-    let f = c in
-    let s = f in
-    (omega (arith, f.list_faces-k.ensures.0.few), omega (arith, f.list_faces-k.ensures.1.size, s.requires.2), s.requires.0)
+module _ (n k : ℕ) (w u : List ℕ) (few : n ≤ face_limit) (listed : k ≤ n) (long : columns * rows_of n ≤ length w) (size : length u ≡ length w) where
+  room : (4 * k ≤ 6 * n) × (126 * n ≤ length u) × (n ≤ face_limit)
+  room = (omega arith, omega arith, few)
 
 pub overflow_mul-k : goal.overflow_mul-k
-overflow_mul-k c = let f = few c.before in omega (arith, f.0, f.2)
+overflow_mul-k c = let f = room _ _ _ _ c.requires.0 c.list_faces-k.ensures.0.few c.requires.2 c.list_faces-k.ensures.1.size in omega (arith, f.0, f.2)
 
 pub weld-requires : goal.weld-requires
-weld-requires c = let f = few c.before in (f.0, omega (arith, f.1), omega (arith, f.2))
+weld-requires c = let f = room _ _ _ _ c.requires.0 c.list_faces-k.ensures.0.few c.requires.2 c.list_faces-k.ensures.1.size in (f.0, omega (arith, f.1), omega (arith, f.2))
 
 pub overflow_mul-k-2 : goal.overflow_mul-k-2
-overflow_mul-k-2 c = let f = few c.before.before.before.before in omega (arith, f.0, f.2)
+overflow_mul-k-2 c = let f = room _ _ _ _ c.requires.0 c.list_faces-k.ensures.0.few c.requires.2 c.list_faces-k.ensures.1.size in omega (arith, f.0, f.2)
 
 pub unite_rows-requires : goal.unite_rows-requires
 unite_rows-requires c =
     let w = c.weld.ensures.0 in
-    let f = few c.before.before.before.before.before in
+    let f = room _ _ _ _ c.requires.0 c.list_faces-k.ensures.0.few c.requires.2 c.list_faces-k.ensures.1.size in
     let a = c.alone.ensures in
     (omega (arith, f.0), omega (arith, f.1, w.only.size), omega (arith, a.beyond.size, c.requires.1), alone-down _ _ _ a, readable _ _ _ _ c.list_faces-k.ensures.0 w _ (omega arith))
 

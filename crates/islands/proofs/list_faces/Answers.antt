@@ -14,13 +14,7 @@ use Rattle.islands.specs.Rows.{FacesListed, corner_row, face_row, list_columns, 
 use Rattle.islands.proofs.Sizes.{used-three}
 use Rattle.islands.proofs.Listing.{listed-none, listed-skip, listed_more, added-only}
 use Rattle.islands.proofs.list_faces.Goals as goal
-use Rattle.islands.proofs.list_faces.Tie as tie
-use Rattle.islands.proofs.list_faces.Lts as lts
-use Rattle.islands.proofs.list_faces.Reads as reads
 use Rattle.islands.proofs.list_faces.Invariants.{Going}
-
-abbrev At-After-slice_known-in-loop-f-1 : Type 0
-At-After-slice_known-in-loop-f-1 = lts.After-slice_known2 tie.the-claims reads.Pre reads.Post goal.the-invariant-loop-f goal.the-decreases-loop-f
 
 -- one face more: listed where it is of 3 or 4, passed over else
 listed_next : (sizes w u v : List ℕ) (k k' base f size : ℕ) → 21 * (6 * length sizes) ≤ length w → f < length sizes → size ≡ get_or sizes f 0 → Going sizes w k base f u → (b : Bool) → used size ≡ b → k' ≡ cond b (k + 1) k → v ≡ cond b (added (6 * length sizes) k f base size u) u → FacesListed sizes (f + 1) k' (corner_row (6 * length sizes) v) (face_row (6 * length sizes) v) × Only list_columns (6 * length sizes) w v
@@ -44,10 +38,6 @@ going_more sizes w u v k k' base f size long h e small g b t p q =
     let r = listed_next sizes w u v k k' base f size long h e g b t p q in
     record { within = omega arith; sum = (λ i. g.sum i + e i) ∙ sym (corners-more sizes f h); few = omega (arith, g.few); listed = r.0; only = r.1 }
 
--- a size is a byte
-byte : (c : At-After-slice_known-in-loop-f-1) → let i = c in get_or i.args.sizes.now i.loop-f.f 0 < 256
-byte c = omega (arith, c.shared_slice_known-in-loop-f-1.given c.loop-f.f)
-
 pub loop-f-init : goal.loop-f-init
 loop-f-init c =
     let a = c.args in
@@ -62,16 +52,13 @@ list_face-k-requires c =
     let g = c.loop-f.invariant in
     (omega (arith, g.listed.few, c.loop-f-test.true), omega (arith, c.requires.1, g.only.size), omega (arith, g.few, c.loop-f-test.true, c.requires.0))
 
-pub overflow_cast-base : goal.overflow_cast-base
-overflow_cast-base c = omega (arith, byte c.before)
-
 pub overflow_add-base : goal.overflow_add-base
-overflow_add-base c = omega (arith, byte c.before, c.loop-f.invariant.few, c.loop-f-test.true, c.requires.0)
+overflow_add-base c = omega (arith, c.type_inv.sizes c.loop-f.f, c.loop-f.invariant.few, c.loop-f-test.true, c.requires.0)
 
 pub loop-f-preserved : goal.loop-f-preserved
 loop-f-preserved c =
     let l = c.loop-f in
-    going_more _ _ _ _ _ _ _ _ _ c.requires.1 c.loop-f-test.true refl (byte c.before) l.invariant _ refl c.list_face-k.ensures.0 c.list_face-k.ensures.1
+    going_more _ _ _ _ _ _ _ _ _ c.requires.1 c.loop-f-test.true refl (omega arith) l.invariant _ refl c.list_face-k.ensures.0 c.list_face-k.ensures.1
 
 pub shape_of-work : goal.shape_of-work
 shape_of-work c = c.loop-f.invariant.only.size

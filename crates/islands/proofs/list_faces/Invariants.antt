@@ -18,6 +18,3 @@ pub record Going (sizes w : List ℕ) (k base f : ℕ) (u : List ℕ) : Type 0 w
 
 abbrev pub invariant-loop-f : goal.invariant-loop-f
 invariant-loop-f l = Going l.sizes l.initial.work l.k l.base l.f l.work
-
-abbrev pub decreases-loop-f : goal.decreases-loop-f
-decreases-loop-f l = length l.sizes - l.f

@@ -6,6 +6,3 @@ use Rattle.islands.proofs.strike.Given as goal
 
 abbrev pub invariant-loop-f : goal.invariant-loop-f
 invariant-loop-f l = (l.f ≤ length l.sizes) × Striking l.sizes l.initial.labels l.f l.labels
-
-abbrev pub decreases-loop-f : goal.decreases-loop-f
-decreases-loop-f l = length l.sizes - l.f

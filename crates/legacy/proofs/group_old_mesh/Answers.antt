@@ -1,7 +1,7 @@
 -- `legacy::group_old_mesh` meets its contract. Assumes nothing.
 use native.Mathlib.Omega.{arith}
-use Rattle.definition.specs.Handed.{handed}
 use Rattle.legacy.proofs.Grouped.{old-room, grouped-old}
+use Rattle.mesh.specs.Parts.{given}
 use Rattle.legacy.proofs.group_old_mesh.Goals as goal
 
 pub group_sides-requires : goal.group_sides-requires
@@ -12,4 +12,4 @@ group_sides-requires c =
 pub returns : goal.returns
 returns c =
     let a = c.args in
-    grouped-old (handed a.sizes.now a.positions.now a.normals.now a.texture.now) c.link_old_mesh-triangles.result.sound c.link_old_mesh-triangles.result.all c.group_sides.result a.work.now _ _ c.link_old_mesh-triangles.ensures c.group_sides.ensures
+    grouped-old (given a.mesh.now) c.link_old_mesh-triangles.result.sound c.link_old_mesh-triangles.result.all c.group_sides.result a.work.now _ _ c.link_old_mesh-triangles.ensures c.group_sides.ensures
