@@ -97,9 +97,8 @@ pub fn clear(work: &mut [u32], rows: usize, column: usize)
     requires { (column < columns) × (columns * rows ≤ length work.old) }
     ensures { work.new ≡ filled_to rows column (λ _. 0) work.old rows }
 {
-    for r in 0..rows {
-        work[column * rows + r] = 0;
-    }
+    let from = column * rows;
+    work[from..from + rows].fill(0);
 }
 
 // The first words of a list, zeros.
@@ -107,7 +106,5 @@ pub fn clear_first(words: &mut [u32], count: usize)
     requires { count ≤ length words.old }
     ensures { words.new ≡ replicate count 0 ++ drop count words.old }
 {
-    for i in 0..count {
-        words[i] = 0;
-    }
+    words[..count].fill(0);
 }
