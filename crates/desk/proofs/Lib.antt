@@ -1,2 +1,2 @@
 mod Bad
-mod Telling
+pub mod Telling

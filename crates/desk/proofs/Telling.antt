@@ -15,7 +15,7 @@ use Rattle.definition.specs.Handed.{corner_count, slot_count}
 use Rattle.definition.specs.Desk.{Shown, too_many, unfit, misfit, not_finite, no_normal, is_there, or_zero, table, verdict}
 use Rattle.std.specs.Prelude.{Result, Ok, Err}
 use Rattle.desk.specs.declared.Refusal.{Refusal}
-use Rattle.desk.specs.declared.Refusal.TheVariants.{TooManyFaces, Misfit, Threshold, NotFinite, NoNormal, ShortAnswer, ShortWork}
+use Rattle.desk.specs.declared.Refusal.TheVariants.{TooManyFaces, Misfit, Threshold, NotFinite, NoNormal, ShortAnswer, ShortWork, ShortOwn}
 use Rattle.desk.specs.Verdict.{as_verdict, told, number_of, place_of}
 
 module _ (x : Shown) where
@@ -88,3 +88,15 @@ module _ (x : Shown) where
     pub no-row : slot_words * slot_count x.mesh.sizes ≤ x.answer → work_words * length x.mesh.sizes ≤ x.work → Told (Ok tt)
     unfolding as_verdict verdict table first is_there or_zero told number_of place_of
     no-row a w = rw (m, f, t, b, n, le-ltb x.answer (slot_words * slot_count x.mesh.sizes) a, le-ltb x.work (work_words * length x.mesh.sizes) w)
+
+-- a refusal has a number
+pub number-some : (r : Refusal) → number_of r ≡ 0 → ⊥
+unfolding number_of
+number-some TooManyFaces e = absurd (omega (arith, e))
+number-some Misfit e = absurd (omega (arith, e))
+number-some Threshold e = absurd (omega (arith, e))
+number-some (NotFinite i) e = absurd (omega (arith, e))
+number-some (NoNormal i) e = absurd (omega (arith, e))
+number-some ShortAnswer e = absurd (omega (arith, e))
+number-some ShortWork e = absurd (omega (arith, e))
+number-some ShortOwn e = absurd (omega (arith, e))

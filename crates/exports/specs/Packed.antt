@@ -1,6 +1,6 @@
 -- A verdict as one number, for a caller outside Rattle. Definitions only.
 use Rattle.std.specs.Prelude.{ℕ, ◌+◌, ◌*◌, ◌^◌}
-use Rattle.desk.specs.declared.Verdict.{Verdict}
+use Rattle.desk.specs.Verdict.{Verdict}
 
 -- the refusal's number times 2 ^ 32, and its place
 unfoldable pub packed : Verdict → ℕ

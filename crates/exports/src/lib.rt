@@ -11,6 +11,8 @@ ghost use Rattle.root.specs.Root.{sqrt};
 ghost use Rattle.table.specs.Columns.{columns, link_column};
 ghost use Rattle.table.specs.Table.{cell};
 
+use mesh::Mesh;
+
 // The root of document 01.
 #[unsafe(no_mangle)]
 pub extern "C" fn export_sqrt(x: f32) -> f32
@@ -31,17 +33,13 @@ pub extern "C" fn export_acos(x: f32) -> f32
 #[unsafe(no_mangle)]
 pub extern "C" fn export_acos_all(xs: &[f32], out: &mut [f32]) {
     let table = angle::table();
-    let mut i: usize = 0;
-    while i < xs.len() {
-        if out.len() <= i {
-            return;
-        }
-        out[i] = angle::acos_by(&table, xs[i]);
-        i += 1;
+    for (y, &x) in out.iter_mut().zip(xs) {
+        *y = angle::acos_by(&table, x);
     }
 }
 
 // The desk's verdict as one number: the refusal's number times 2 ^ 32, and its place.
+#[tactic(auto, unfolding(crate::specs::Packed::packed, desk::specs::Verdict::told))]
 #[unsafe(no_mangle)]
 pub extern "C" fn export_judge(
     sizes: &[u8],
@@ -54,8 +52,16 @@ pub extern "C" fn export_judge(
 ) -> u64
     ensures { result ≡ packed (as_verdict (verdict (shown (handed sizes.now positions.now normals.now texture.now) threshold answer work))) }
 {
-    let v = desk::judge(sizes, positions, normals, texture, threshold, answer, work);
-    (v.number as u64) * 0x1_0000_0000 + v.place as u64
+    let mesh = Mesh {
+        sizes,
+        positions,
+        normals,
+        texture,
+    };
+    match desk::judge(&mesh, threshold, answer, work) {
+        Ok(()) => 0,
+        Err(refusal) => (refusal.number() as u64) * 0x1_0000_0000 + refusal.place() as u64,
+    }
 }
 
 // A count as a word.
@@ -73,12 +79,10 @@ fn links_fit(work: &[u32], rows: usize, tris: usize) -> bool
     requires { (3 * tris ≤ rows) × (columns * rows ≤ length work.now) }
     ensures { result ≡ true → (r : ℕ) → r < 3 * tris → cell rows link_column r work.now ≤ 3 * tris }
 {
-    let mut r = 0;
-    while r < 3 * tris {
+    for r in 0..3 * tris {
         if 3 * tris < work[table::LINK * rows + r] as usize {
             return false;
         }
-        r += 1;
     }
     true
 }
@@ -87,22 +91,10 @@ fn links_fit(work: &[u32], rows: usize, tris: usize) -> bool
 fn may_walk(work: &[u32], rows: usize, tris: usize, most: usize) -> bool
     ensures { result ≡ true → (3 * tris ≤ rows) × (columns * rows ≤ length work.now) × (rows < 4294967295) × ((r : ℕ) → r < 3 * tris → cell rows link_column r work.now ≤ 3 * tris) }
 {
-    if most < rows {
+    if most < rows || 4294967294 < rows || rows < tris || rows < 3 * tris {
         return false;
     }
-    if 4294967294 < rows {
-        return false;
-    }
-    if rows < tris {
-        return false;
-    }
-    if rows < 3 * tris {
-        return false;
-    }
-    if work.len() < table::COLUMNS * rows {
-        return false;
-    }
-    links_fit(work, rows, tris)
+    work.len() >= table::COLUMNS * rows && links_fit(work, rows, tris)
 }
 
 // Groups times 2 ^ 32, and members; all ones where a walk may not be called, and then nothing is done.

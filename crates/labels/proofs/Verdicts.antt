@@ -11,25 +11,26 @@ use Rattle.definition.specs.Handed.{Handed}
 use Rattle.definition.specs.Desk.{Row, shown}
 use Rattle.bits.specs.Single.{zeroᶠ}
 use Rattle.laws.proofs.Verdict.{verdict-numbered}
-use Rattle.desk.specs.Verdict.{as_verdict}
+use Rattle.std.specs.Prelude.{Err}
+use Rattle.desk.specs.declared.Refusal.{Refusal}
+use Rattle.desk.specs.declared.Refusal.TheVariants.{ShortOwn}
+use Rattle.desk.specs.Verdict.{as_verdict, told, number_of, place_of}
+use Rattle.desk.proofs.Telling.{number-some}
 use Rattle.islands.specs.Nine.{afterwards}
 use Rattle.islands.proofs.Nine.{passed, numbered-row}
 use Rattle.labels.specs.declared.Labelled.{Labelled}
 use Rattle.mikktspace.specs.Alone.{desk_verdict, longest_answer}
-use Rattle.labels.specs.Labels.{Leaving, left, answered, labels_verdict}
-
-pub left-same : (r s : Labelled) (l w : List ℕ) → r ≡ s → left r l w ≡ left s l w
-left-same r s l w e = ap (λ x. left x l w) e
+use Rattle.labels.specs.Labels.{Leaving, left, answered, labelled_of, labels_verdict}
 
 -- a refusal of the table: what the call leaves behind
-pub refused : (o : Option Row) (b : Bool) (z : Leaving) (l w : List ℕ) → ((as_verdict o).number ≡ 0 → ⊥) → left (record { number = (as_verdict o).number; place = (as_verdict o).place; islands = 0 }) l w ≡ answered (afterwards o b) z l w
-unfolding as_verdict answered left afterwards
-refused none b z l w h = absurd (h refl)
-refused (some r) b z l w h = refl
+pub refused : (o : Option Row) (r : Refusal) (b : Bool) (z : Leaving) (l w : List ℕ) → told (Err r) ≡ as_verdict o → left (labelled_of (Err r)) l w ≡ answered (afterwards o b) z l w
+unfolding told as_verdict answered left afterwards labelled_of
+refused none r b z l w e = absurd (number-some r (ap (λ v. v.number) e))
+refused (some x) r b z l w e = λ i. record { number = (e i).number; place = (e i).place; islands = 0; labels = l; work = w }
 
 -- refusal 9
-pub too_short : (o : Option Row) (b : Bool) (z : Leaving) (l w : List ℕ) → o ≡ none → b ≡ true → left (record { number = 9; place = 0; islands = 0 }) l w ≡ answered (afterwards o b) z l w
-unfolding answered left afterwards
+pub too_short : (o : Option Row) (b : Bool) (z : Leaving) (l w : List ℕ) → o ≡ none → b ≡ true → left (labelled_of (Err ShortOwn)) l w ≡ answered (afterwards o b) z l w
+unfolding answered left afterwards labelled_of number_of place_of
 too_short o b z l w e h = sym (ap (λ x. answered (afterwards x b) z l w) e ∙ ap (λ x. answered (afterwards none x) z l w) h)
 
 -- where nothing is refused the table has no row, and there is a label a face

@@ -1,9 +1,11 @@
 -- Request E9: the islands' numbers by themselves, as a public call leaves them, for every input whatever. Definitions only.
-use Rattle.std.specs.Prelude.{ℕ, zero, suc, ◌+◌, ◌*◌, ◌≡◌, cond, List, ◌++◌, eqb, ltb, length, drop, replicate}
+use Rattle.std.specs.Prelude.{ℕ, zero, suc, ◌+◌, ◌*◌, ◌≡◌, cond, List, ◌++◌, eqb, ltb, length, drop, replicate, Result, Ok, Err}
 use Rattle.std.proofs.Math.Option.{Option, none, some}
 use Rattle.definition.specs.Limits.{work_words}
 use Rattle.definition.specs.Handed.{mesh_of, Handed}
 use Rattle.definition.specs.Desk.{Row}
+use Rattle.desk.specs.declared.Refusal.{Refusal}
+use Rattle.desk.specs.Verdict.{number_of, place_of}
 use Rattle.mikktspace.specs.Alone.{desk_verdict}
 use Rattle.islands.specs.Islands.{island_of}
 use Rattle.islands.specs.Rows.{labelled}
@@ -33,6 +35,11 @@ pub record Leaving : Type 0 where
 
 unfoldable pub left : Labelled → List ℕ → List ℕ → Leaving
 left r labels work = record { number = r.number; place = r.place; islands = r.islands; labels = labels; work = work }
+
+-- how many islands there are, or why the call was refused, as it is returned
+unfoldable pub labelled_of : Result ℕ Refusal → Labelled
+labelled_of (Ok n) = record { number = 0; place = 0; islands = n }
+labelled_of (Err r) = record { number = number_of r; place = place_of r; islands = 0 }
 
 -- acceptance: each face's number, and the work list as one call for frames leaves it
 unfoldable pub accepted_labels : Handed → List ℕ → List ℕ → Leaving

@@ -5,7 +5,11 @@ ghost use Rattle.std.specs.Prelude.{◌≡◌, cond, ◌+◌, ◌≤◌, ◌<◌
 ghost use Rattle.std.proofs.Math.Option.{none};
 ghost use Rattle.definition.specs.Handed.{handed};
 ghost use Rattle.definition.specs.Limits.{face_limit};
+ghost use Rattle.mesh.specs.Parts.{given};
 ghost use Rattle.labels.specs.Labels as spec;
+
+use desk::Refusal;
+use mesh::Mesh;
 
 // What the call says: the number of a refusal and its place, or 0 and 0; and how many islands there are.
 #[repr(C)]
@@ -16,14 +20,24 @@ pub struct Labelled {
     pub islands: u32,
 }
 
-// A result of this number, place and count of islands.
-fn said(number: u32, place: u32, islands: u32) -> Labelled
-    ensures { result ≡ record { number = number; place = place; islands = islands } }
-{
-    Labelled {
-        number,
-        place,
-        islands,
+// How many islands there are, or why the call was refused, as it is handed out.
+impl From<Result<u32, Refusal>> for Labelled {
+    ghost from_gives = { λ made labelled. labelled ≡ spec.labelled_of made };
+
+    #[tactic(auto, unfolding(crate::specs::Labels::labelled_of))]
+    fn from(made: Result<u32, Refusal>) -> Labelled {
+        match made {
+            Ok(islands) => Labelled {
+                number: 0,
+                place: 0,
+                islands,
+            },
+            Err(refusal) => Labelled {
+                number: refusal.number(),
+                place: refusal.place(),
+                islands: 0,
+            },
+        }
     }
 }
 
@@ -33,10 +47,7 @@ fn counted(count: u32, label: u32, face: usize) -> u32
     ensures { result ≡ count + cond (eqb label face) 1 0 }
 {
     let own = label as usize == face;
-    if own {
-        return count + 1;
-    }
-    count
+    count + u32::from(own)
 }
 
 // How many of the first faces have their own number.
@@ -44,30 +55,34 @@ fn count_islands(labels: &[u32], faces: usize) -> u32
     requires { (faces ≤ length labels.now) × (faces ≤ face_limit) }
     ensures { result ≡ spec.own_numbers faces (λ f. get_or labels.now f 0) }
 {
-    let mut count: u32 = 0;
-    let mut f: usize = 0;
-    while f < faces {
+    let mut count = 0;
+    for f in 0..faces {
         count = counted(count, labels[f], f);
-        f += 1;
     }
     count
 }
 
 // The numbers of a mesh that the desk accepts; the result is how many islands there are.
-fn number_faces(
-    sizes: &[u8],
-    positions: &[f32],
-    normals: &[f32],
-    texture: &[f32],
-    work: &mut [u32],
-    labels: &mut [u32],
-) -> u32
-    requires { spec.labels_verdict (handed sizes.now positions.now normals.now texture.now) (length labels.old) (length work.old) ≡ none }
-    ensures { spec.left (record { number = 0; place = 0; islands = result }) labels.new work.new ≡ spec.accepted_labels (handed sizes.now positions.now normals.now texture.now) labels.old work.old }
+fn number_faces(mesh: &Mesh, work: &mut [u32], labels: &mut [u32]) -> u32
+    requires { spec.labels_verdict (given mesh.now) (length labels.old) (length work.old) ≡ none }
+    ensures { spec.left (record { number = 0; place = 0; islands = result }) labels.new work.new ≡ spec.accepted_labels (given mesh.now) labels.old work.old }
 {
-    islands::label(sizes, positions, normals, texture, labels, work);
-    table::clear_first(work, definition::WORK_WORDS * sizes.len());
-    count_islands(labels, sizes.len())
+    let faces = mesh.sizes.len();
+    islands::label(mesh, labels, work);
+    table::clear_first(work, definition::WORK_WORDS * faces);
+    count_islands(labels, faces)
+}
+
+// The desk, the list for the numbers, and then the numbers: how many islands there are, or why not.
+fn try_labels(mesh: &Mesh, labels: &mut [u32], work: &mut [u32]) -> Result<u32, Refusal>
+    ensures { spec.left (spec.labelled_of result) labels.new work.new ≡ spec.labels_outcome (given mesh.now) labels.old work.old }
+{
+    desk::judge(mesh, 0.0, mikktspace::LONGEST_ANSWER, work.len())?;
+    let few = labels.len() < mesh.sizes.len();
+    if few {
+        return Err(Refusal::ShortOwn);
+    }
+    Ok(number_faces(mesh, work, labels))
 }
 
 // The lowest face number of its island for each face of 3 or 4, and FFFFFFFF for every other face. The work list is lent, and WORK_WORDS words a face of it are cleared.
@@ -82,22 +97,11 @@ pub fn label_faces(
 ) -> Labelled
     ensures { spec.Labels (handed sizes.now positions.now normals.now texture.now) labels.old work.old result labels.new work.new }
 {
-    let v = desk::judge(
+    let mesh = Mesh {
         sizes,
         positions,
         normals,
         texture,
-        0.0,
-        mikktspace::LONGEST_ANSWER,
-        work.len(),
-    );
-    if v.number != 0 {
-        return said(v.number, v.place, 0);
-    }
-    let few = labels.len() < sizes.len();
-    if few {
-        return said(9, 0, 0);
-    }
-    let islands = number_faces(sizes, positions, normals, texture, work, labels);
-    said(0, 0, islands)
+    };
+    Labelled::from(try_labels(&mesh, labels, work))
 }

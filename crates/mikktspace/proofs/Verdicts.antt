@@ -6,43 +6,37 @@ use mathlib.Core.List.{List, ◌++◌}
 use mathlib.Core.Option.{Option, none, some}
 use lib.ListN.{length, take, drop, replicate}
 use lib.Seq.{take_all, drop-drop}
-use Rattle.definition.specs.Limits.{face_limit, work_words, highest_refusal}
+use Rattle.definition.specs.Limits.{face_limit, work_words}
 use Rattle.definition.specs.Handed.{slot_count}
 use Rattle.definition.specs.Desk.{Row, verdict, Shown}
 use Rattle.definition.specs.Outcome.{Result, answered}
 use Rattle.table.specs.Columns.{columns, rows_of}
 use Rattle.lists.specs.Every.{Each, each_none, each_some}
 use Rattle.laws.proofs.Verdict.{verdict-numbered, InTable}
-use Rattle.desk.specs.Verdict.{as_verdict}
+use Rattle.std.specs.Prelude.{Ok, Err}
+use Rattle.desk.specs.declared.Refusal.{Refusal}
+use Rattle.desk.specs.Verdict.{as_verdict, told}
+use Rattle.desk.proofs.Telling.{number-some}
 use Rattle.mikktspace.specs.declared.Outcome.{Outcome}
-use Rattle.mikktspace.specs.Contract.{left}
+use Rattle.mikktspace.specs.Contract.{left, outcome_of}
 
 pub left-same : (r s : Outcome) (a w : List ℕ) → r ≡ s → left r a w ≡ left s a w
 left-same r s a w e = ap (λ x. left x a w) e
 
 -- a refusal: what the call leaves behind
-pub refused : (o : Option Row) (z : Result) (a w : List ℕ) → ((as_verdict o).number ≡ 0 → ⊥) → left (record { number = (as_verdict o).number; place = (as_verdict o).place; slots = 0 }) a w ≡ answered o z a w
-unfolding as_verdict answered left
-refused none z a w h = absurd (h refl)
-refused (some r) z a w h = refl
+pub refused : (o : Option Row) (r : Refusal) (z : Result) (a w : List ℕ) → told (Err r) ≡ as_verdict o → left (outcome_of (Err r)) a w ≡ answered o z a w
+unfolding told as_verdict answered left outcome_of
+refused none r z a w e = absurd (number-some r (ap (λ v. v.number) e))
+refused (some x) r z a w e = λ i. record { number = (e i).number; place = (e i).place; slots = 0; answer = a; work = w }
 
--- a number of 0 is no refusal
-pub no-refusal : (x : Shown) → (as_verdict (verdict x)).number ≡ 0 → verdict x ≡ none
-unfolding as_verdict
-no-refusal x e = go (verdict x) (verdict-numbered x) e
+-- no refusal is said where no row applies
+pub no-refusal : (x : Shown) → told (Ok tt) ≡ as_verdict (verdict x) → verdict x ≡ none
+unfolding as_verdict told
+no-refusal x e = go (verdict x) (verdict-numbered x) (sym (ap (λ v. v.number) e))
   where
     go : (o : Option Row) → Each InTable o → (as_verdict o).number ≡ 0 → o ≡ none
     go none each_none e = refl
     go (some r) (each_some f) e = let g = f.known.0 in absurd (omega arith)
-
--- and every number is a small one
-pub number_small : (x : Shown) → (as_verdict (verdict x)).number ≤ highest_refusal
-unfolding as_verdict
-number_small x = go (verdict x) (verdict-numbered x)
-  where
-    go : (o : Option Row) → Each InTable o → (as_verdict o).number ≤ highest_refusal
-    go none each_none = omega arith
-    go (some r) (each_some f) = f.known.1
 
 -- so few faces are all counted
 pub all_slots : (sizes : List ℕ) (n : ℕ) → length sizes ≤ face_limit → n ≡ slot_count (take (min face_limit face_limit) sizes) → n ≡ slot_count sizes

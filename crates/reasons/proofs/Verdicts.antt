@@ -17,9 +17,12 @@ use Rattle.definition.specs.Desk.{Row}
 use Rattle.definition.specs.Frames.{frames}
 use Rattle.definition.specs.Outcome.{answer_words, accepted}
 use Rattle.view.proofs.Lists.{list_of-same}
-use Rattle.desk.specs.Verdict.{as_verdict}
+use Rattle.std.specs.Prelude.{Err}
+use Rattle.desk.specs.declared.Refusal.{Refusal}
+use Rattle.desk.specs.declared.Refusal.TheVariants.{ShortOwn}
+use Rattle.desk.specs.Verdict.{as_verdict, told, number_of, place_of}
+use Rattle.desk.proofs.Telling.{number-some}
 use Rattle.islands.specs.Nine.{afterwards}
-use Rattle.mikktspace.specs.declared.Outcome.{Outcome}
 use Rattle.mikktspace.specs.Contract as made
 use Rattle.mikktspace.proofs.Verdicts.{cleared-past}
 use Rattle.worth.proofs.Filling.{filled_at}
@@ -29,18 +32,15 @@ use Rattle.reasons.specs.Contract.{ReasonsLeft, left, reason_bytes, accepted_rea
 
 -- ---- refusals
 
-pub left-same : (r s : Outcome) (a w k : List ℕ) → r ≡ s → left r a w k ≡ left s a w k
-left-same r s a w k e = ap (λ x. left x a w k) e
-
 -- a refusal of the table
-pub refused : (o : Option Row) (b : Bool) (z : ReasonsLeft) (a w k : List ℕ) → ((as_verdict o).number ≡ 0 → ⊥) → left (record { number = (as_verdict o).number; place = (as_verdict o).place; slots = 0 }) a w k ≡ answered (afterwards o b) z a w k
-unfolding as_verdict answered left afterwards
-refused none b z a w k h = absurd (h refl)
-refused (some r) b z a w k h = refl
+pub refused : (o : Option Row) (r : Refusal) (b : Bool) (z : ReasonsLeft) (a w k : List ℕ) → told (Err r) ≡ as_verdict o → left (made.outcome_of (Err r)) a w k ≡ answered (afterwards o b) z a w k
+unfolding told as_verdict answered left afterwards made.outcome_of
+refused none r b z a w k e = absurd (number-some r (ap (λ v. v.number) e))
+refused (some x) r b z a w k e = λ i. record { number = (e i).number; place = (e i).place; slots = 0; answer = a; work = w; reasons = k }
 
 -- refusal 9
-pub too_short : (o : Option Row) (b : Bool) (z : ReasonsLeft) (a w k : List ℕ) → o ≡ none → b ≡ true → left (record { number = 9; place = 0; slots = 0 }) a w k ≡ answered (afterwards o b) z a w k
-unfolding answered left afterwards
+pub too_short : (o : Option Row) (b : Bool) (z : ReasonsLeft) (a w k : List ℕ) → o ≡ none → b ≡ true → left (made.outcome_of (Err ShortOwn)) a w k ≡ answered (afterwards o b) z a w k
+unfolding answered left afterwards made.outcome_of number_of place_of
 too_short o b z a w k e h = sym (ap (λ x. answered (afterwards x b) z a w k) e ∙ ap (λ x. answered (afterwards none x) z a w k) h)
 
 -- ---- acceptance

@@ -13,10 +13,14 @@ ghost use Rattle.definition.specs.Handed.{call, handed, mesh_of, slot_count};
 ghost use Rattle.definition.specs.Limits.{face_limit};
 ghost use Rattle.definition.specs.Desk.{not_finite};
 ghost use Rattle.definition.specs.Outcome.{answer_words};
+ghost use Rattle.mesh.specs.Parts.{given};
+ghost use Rattle.mikktspace.specs.Contract.{outcome_of};
 ghost use Rattle.reasons.specs.Trial as trial;
 ghost use Rattle.reasons.specs.Reasons as spec;
 ghost use Rattle.reasons.specs.Contract as contract;
 
+use desk::Refusal;
+use mesh::Mesh;
 use mikktspace::Outcome;
 
 // The slot is there.
@@ -33,17 +37,6 @@ pub const UNREACHED: u8 = 3;
 
 // The word of a slot that tells where its frame comes from.
 const ORIGIN: usize = 10;
-
-// A result of this number, place and count of slots.
-fn said(number: u32, place: u32, slots: u32) -> Outcome
-    ensures { result ≡ record { number = number; place = place; slots = slots } }
-{
-    Outcome {
-        number,
-        place,
-        slots,
-    }
-}
 
 // ---- the trial
 
@@ -62,37 +55,35 @@ fn fill(answer: &mut [u32], count: usize)
 }
 
 // Step 9 where every slot has a frame.
-fn try_copies(
-    sizes: &[u8],
-    positions: &[f32],
-    normals: &[f32],
-    texture: &[f32],
-    work: &mut [u32],
-    answer: &mut [u32],
-    slots: usize,
-)
-    requires { (length sizes.now ≤ face_limit) × (columns * rows_of (length sizes.now) ≤ length work.old) × (slot_words * slot_count sizes.now ≤ length answer.old) × (slots ≡ slot_count sizes.now) × (not_finite (handed sizes.now positions.now normals.now texture.now) ≡ none) }
-    ensures { (answer.new ≡ answer_words (trial.trial (mesh_of (handed sizes.now positions.now normals.now texture.now))) ++ drop (slot_words * slot_count sizes.now) answer.old) × (drop (columns * rows_of (length sizes.now)) work.new ≡ drop (columns * rows_of (length sizes.now)) work.old) }
+fn try_copies(mesh: &Mesh, work: &mut [u32], answer: &mut [u32], slots: usize)
+    requires { (length mesh.now.sizes.now ≤ face_limit) × (columns * rows_of (length mesh.now.sizes.now) ≤ length work.old) × (slot_words * slot_count mesh.now.sizes.now ≤ length answer.old) × (slots ≡ slot_count mesh.now.sizes.now) × (not_finite (given mesh.now) ≡ none) }
+    ensures { (answer.new ≡ answer_words (trial.trial (mesh_of (given mesh.now))) ++ drop (slot_words * slot_count mesh.now.sizes.now) answer.old) × (drop (columns * rows_of (length mesh.now.sizes.now)) work.new ≡ drop (columns * rows_of (length mesh.now.sizes.now)) work.old) }
 {
     fill(answer, slots);
-    let rows = 6 * sizes.len();
-    let counts = grouped::link_mesh(sizes, positions, normals, texture, work);
-    copies::copy_frames(work, rows, counts.sound, counts.all, positions, answer);
+    let rows = 6 * mesh.sizes.len();
+    let counts = grouped::link_mesh(mesh, work);
+    copies::copy_frames(
+        work,
+        rows,
+        counts.sound,
+        counts.all,
+        mesh.positions,
+        answer,
+    );
 }
 
 // ---- bytes
 
 // The reason that a slot has where it is absent, by the origin of what it has in the trial.
+#[tactic(auto, unfolding(crate::specs::Reasons::reason_by))]
 fn reason_by(origin: u32) -> u8
     ensures { result ≡ spec.reason_by origin }
 {
-    if origin == 0 {
-        return UNWELDED;
+    match origin {
+        0 => UNWELDED,
+        tangent::SINGLE => UNREACHED,
+        _ => COPIES_ABSENT,
     }
-    if origin == tangent::SINGLE {
-        return UNREACHED;
-    }
-    COPIES_ABSENT
 }
 
 // Those of `count` slots of the trial.
@@ -106,13 +97,14 @@ fn note_reasons(answer: &[u32], reasons: &mut [u8], count: usize)
 }
 
 // A slot's reason, by its word 0: none where it is there.
+#[tactic(auto, unfolding(crate::specs::Reasons::only_absent))]
 fn reason_of(there: u32, noted: u8) -> u8
     ensures { result ≡ spec.only_absent there noted }
 {
-    if there == 0 {
-        return noted;
+    match there {
+        0 => noted,
+        _ => PRESENT,
     }
-    PRESENT
 }
 
 // The reasons of `count` slots that are absent; the others have none.
@@ -126,6 +118,29 @@ fn strike(answer: &[u32], reasons: &mut [u8], count: usize)
 }
 
 // ---- the call
+
+// The desk, the list for the reasons, the trial, and then the frames: how many slots were written, or why none were.
+fn try_reasons(
+    mesh: &Mesh,
+    threshold: f32,
+    answer: &mut [u32],
+    work: &mut [u32],
+    reasons: &mut [u8],
+) -> Result<u32, Refusal>
+    ensures { contract.left (outcome_of result) answer.new work.new reasons.new ≡ contract.reasons_outcome (call (given mesh.now) threshold answer.old work.old) reasons.old }
+{
+    desk::judge(mesh, threshold, answer.len(), work.len())?;
+    let slots = mesh::slots_before(mesh.sizes, definition::FACE_LIMIT);
+    let few = reasons.len() < slots;
+    if few {
+        return Err(Refusal::ShortOwn);
+    }
+    try_copies(mesh, work, answer, slots);
+    note_reasons(answer, reasons, slots);
+    let made = mikktspace::make_frames(mesh, work, answer, threshold);
+    strike(answer, reasons, slots);
+    Ok(made)
+}
 
 // Tangent frames of a mesh, as mikktspace::generate_tangent_space makes them, and a byte for each slot: why it is absent, or 0.
 // A refusal (1 to 7 as for frames, and 9 where there is less than one byte a slot) alters no list.
@@ -141,20 +156,11 @@ pub fn explain(
 ) -> Outcome
     ensures { contract.Explains (call (handed sizes.now positions.now normals.now texture.now) threshold answer.old work.old) reasons.old result answer.new work.new reasons.new }
 {
-    let room = answer.len();
-    let spare = work.len();
-    let v = desk::judge(sizes, positions, normals, texture, threshold, room, spare);
-    if v.number != 0 {
-        return said(v.number, v.place, 0);
-    }
-    let slots = mesh::slots_before(sizes, definition::FACE_LIMIT);
-    let few = reasons.len() < slots;
-    if few {
-        return said(9, 0, 0);
-    }
-    try_copies(sizes, positions, normals, texture, work, answer, slots);
-    note_reasons(answer, reasons, slots);
-    let made = mikktspace::make_frames(sizes, positions, normals, texture, work, answer, threshold);
-    strike(answer, reasons, slots);
-    said(0, 0, made)
+    let mesh = Mesh {
+        sizes,
+        positions,
+        normals,
+        texture,
+    };
+    Outcome::from(try_reasons(&mesh, threshold, answer, work, reasons))
 }

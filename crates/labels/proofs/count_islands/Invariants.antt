@@ -8,6 +8,3 @@ use Rattle.labels.proofs.count_islands.Given as goal
 
 abbrev pub invariant-loop-f : goal.invariant-loop-f
 invariant-loop-f l = (l.count ≡ own_numbers l.f (λ k. get_or l.labels k 0)) × (l.f ≤ l.faces) × (l.faces ≤ length l.labels) × (l.faces ≤ face_limit)
-
-abbrev pub decreases-loop-f : goal.decreases-loop-f
-decreases-loop-f l = l.faces - l.f

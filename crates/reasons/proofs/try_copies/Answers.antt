@@ -6,7 +6,8 @@ use mathlib.Core.List.{List, ◌++◌}
 use lib.ListN.{drop}
 use Rattle.lists.specs.Parts.{joined}
 use Rattle.tangent.specs.Slot.{slot_words}
-use Rattle.definition.specs.Handed.{handed, slot_count}
+use Rattle.definition.specs.Handed.{slot_count}
+use Rattle.mesh.specs.Parts.{given}
 use Rattle.reasons.specs.Trial.{tried_words}
 use Rattle.reasons.proofs.Whole.{counts-fit, tried-out}
 use Rattle.reasons.proofs.try_copies.Goals as goal
@@ -15,7 +16,7 @@ pub copy_frames-requires : goal.copy_frames-requires
 copy_frames-requires c =
     let a = c.args in
     let L = c.link_mesh-counts.ensures in
-    let R = counts-fit (handed a.sizes.now a.positions.now a.normals.now a.texture.now) _ _ a.work.now _ L in
+    let R = counts-fit (given a.mesh.now) _ _ a.work.now _ L in
     (R.0, R.1, omega (arith, c.requires.1, L.only.size))
 
 -- so many slots are filled
@@ -26,4 +27,4 @@ pub returns : goal.returns
 returns c =
     let a = c.args in
     let L = c.link_mesh-counts.ensures in
-    (tried-out (handed a.sizes.now a.positions.now a.normals.now a.texture.now) _ _ a.work.now _ L c.requires.4 a.answer.now _ _ (filled-to _ (slot_count a.sizes.now) a.answer.now _ c.fill.ensures c.requires.3) c.copy_frames.ensures, L.only.rest)
+    (tried-out (given a.mesh.now) _ _ a.work.now _ L c.requires.4 a.answer.now _ _ (filled-to _ (slot_count a.mesh.now.sizes.now) a.answer.now _ c.fill.ensures c.requires.3) c.copy_frames.ensures, L.only.rest)
