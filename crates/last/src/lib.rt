@@ -27,7 +27,8 @@ pub fn finish_frames(
 {
     let sound = counts.sound;
     let all = counts.all;
-    contributions::contribute_all(work, rows, k, sound, mesh.positions, mesh.normals);
+    mesh.single();
+    contributions::contribute_all(work, rows, k, sound, mesh);
     let met = GroupCounts {
         groups: counts.groups,
         members: counts.members,

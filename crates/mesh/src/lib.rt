@@ -105,11 +105,13 @@ impl<'a> Mesh<'a> {
         }
     }
 
-    // The positions are numbers of single precision: what laws about them start from.
+    // Positions and normals are numbers of single precision: what laws about them start from.
     pub fn single(&self)
-        ensures { (i : ℕ) → T (fits binary32 (get_or self.now.positions.now i nan)) }
+        ensures positions { (i : ℕ) → T (fits binary32 (get_or self.now.positions.now i nan)) }
+        ensures normals { (i : ℕ) → T (fits binary32 (get_or self.now.normals.now i nan)) }
     {
         single(self.positions);
+        single(self.normals);
     }
 
     // Whether refusal 1 or 2 would catch the lists.

@@ -12,4 +12,4 @@ link_sides-requires c =
 pub returns : goal.returns
 returns c =
     let a = c.args in
-    left (given a.mesh.now) c.list_triangles-counts.result.sound c.list_triangles-counts.result.all a.work.now _ _ _ c.list_triangles-counts.ensures c.weld.ensures.0.only (λ sizes ys d n H. c.weld.ensures.1 sizes ys d (omega (arith, n)) H) (λ ss d n N S W. c.link_sides.ensures.linked ss d (omega (arith, n)) N S W) (λ r h. omega (arith, c.link_sides.ensures.range r (omega (arith, h)))) c.link_sides.ensures.only c.single.ensures
+    left (given a.mesh.now) c.list_triangles-counts.result.sound c.list_triangles-counts.result.all a.work.now _ _ _ c.list_triangles-counts.ensures c.weld.ensures.0.only (λ sizes ys d n H. c.weld.ensures.1 sizes ys d (omega (arith, n)) H) (λ ss d n N S W. c.link_sides.ensures.linked ss d (omega (arith, n)) N S W) (λ r h. omega (arith, c.link_sides.ensures.range r (omega (arith, h)))) c.link_sides.ensures.only c.single.ensures.positions

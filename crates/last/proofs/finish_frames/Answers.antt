@@ -12,4 +12,4 @@ pub returns : goal.returns
 returns c =
     let a = c.args in
     finished a.rows a.k a.counts a.mesh.now.positions.now a.mesh.now.normals.now a.threshold a.work.now _ _ a.answer.now _ _ c.requires.2 c.requires.3 c.requires.4 c.requires.5 c.requires.6
-    (λ i. c.shared_slice_known-2-1.given i) c.contribute_all.ensures.brings c.contribute_all.ensures.only c.generate_tangent_spaces.ensures.0 c.generate_tangent_spaces.ensures.1 c.copy_frames.ensures
+    c.single.ensures.normals c.contribute_all.ensures.brings c.contribute_all.ensures.only c.generate_tangent_spaces.ensures.0 c.generate_tangent_spaces.ensures.1 c.copy_frames.ensures

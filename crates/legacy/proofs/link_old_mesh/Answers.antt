@@ -22,4 +22,4 @@ pub returns : goal.returns
 returns c =
     let a = c.args in
     let L = c.list_triangles-counts.ensures in
-    left-old (given a.mesh.now) c.list_triangles-counts.result.sound c.list_triangles-counts.result.all a.work.now _ _ _ _ (omega (arith, c.requires.1, L.only.size)) _ (omega arith) L c.merge_rows.ensures c.name_rows.ensures (λ ss d n N S W G. c.link_old_sides.ensures.linked ss d (omega (arith, n)) N S W G) (λ r h. omega (arith, c.link_old_sides.ensures.range r (omega (arith, h)))) c.link_old_sides.ensures.only c.single.ensures
+    left-old (given a.mesh.now) c.list_triangles-counts.result.sound c.list_triangles-counts.result.all a.work.now _ _ _ _ (omega (arith, c.requires.1, L.only.size)) _ (omega arith) L c.merge_rows.ensures c.name_rows.ensures (λ ss d n N S W G. c.link_old_sides.ensures.linked ss d (omega (arith, n)) N S W G) (λ r h. omega (arith, c.link_old_sides.ensures.range r (omega (arith, h)))) c.link_old_sides.ensures.only c.single.ensures.positions
