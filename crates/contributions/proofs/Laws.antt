@@ -85,10 +85,13 @@ module _ (rows r : ℕ) (s t : Vec3) (a : Float) (w : List ℕ) (inside : r < ro
   }
 
   -- the list with the words set one after the other
-  pub stored-as : (v : List ℕ) → v ≡ set (set (set (set (set (set (set w (sx_column * rows + r) (word s.x)) (sy_column * rows + r) (word s.y)) (sz_column * rows + r) (word s.z)) (tx_column * rows + r) (word t.x)) (ty_column * rows + r) (word t.y)) (tz_column * rows + r) (word t.z)) (opening_column * rows + r) (word a)
-      → HeldVec s → HeldVec t → T (fits binary32 a) → Stored rows r s t a w v
+  pub stored_as : (p q : List ℕ) (n : ℕ) → p ≡ set (set (set w (sx_column * rows + r) (word s.x)) (sy_column * rows + r) (word s.y)) (sz_column * rows + r) (word s.z)
+      → q ≡ set (set (set p (tx_column * rows + r) (word t.x)) (ty_column * rows + r) (word t.y)) (tz_column * rows + r) (word t.z) → n ≡ word a → HeldVec s → HeldVec t → T (fits binary32 a) → Stored rows r s t a w (set q (opening_column * rows + r) n)
   unfolding storing
-  stored-as v e hs ht ha = subst (Stored rows r s t a w) (sym e) (stored hs ht ha)
+  stored_as p q n e f g hs ht ha =
+      subst (Stored rows r s t a w)
+      (sym ((λ i. set (f i) (opening_column * rows + r) (g i)) ∙ ap (λ (l : List ℕ). set (set (set (set l (tx_column * rows + r) (word t.x)) (ty_column * rows + r) (word t.y)) (tz_column * rows + r) (word t.z)) (opening_column * rows + r) (word a)) e))
+      (stored hs ht ha)
 
 -- the same by other names
 pub stored-named : (rows r : ℕ) (s s' t t' : Vec3) (a a' : Float) (w u : List ℕ) → s ≡ s' → t ≡ t' → a ≡ a' → Stored rows r s t a w u → Stored rows r s' t' a' w u

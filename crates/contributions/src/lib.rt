@@ -15,6 +15,7 @@ ghost use Rattle.view.specs.Contributions.{s_at, t_at, Contributed, contribution
 ghost use Rattle.contributions.specs.Contributions as spec;
 
 use math::Vec3;
+use mesh::Mesh;
 use tangent::RawTangentSpace;
 
 // ---- vectors in the work list
@@ -24,15 +25,13 @@ fn put_vector(work: &mut [u32], x: usize, y: usize, z: usize, v: Vec3)
     requires { (x < length work.old) × (y < length work.old) × (z < length work.old) }
     ensures { (work.new ≡ set (set (set work.old x (word v.x)) y (word v.y)) z (word v.z)) × HeldVec v }
 {
-    let a = bits::word(v.x);
-    let b = bits::word(v.y);
-    let c = bits::word(v.z);
-    work[x] = a;
-    work[y] = b;
-    work[z] = c;
+    work[x] = bits::word(v.x);
+    work[y] = bits::word(v.y);
+    work[z] = bits::word(v.z);
 }
 
 // The projected s of the corner at a row.
+#[tactic(auto, unfolding(view::specs::Contributions::s_at))]
 pub fn s_at(work: &[u32], rows: usize, r: usize) -> Vec3
     requires { (r < rows) × (columns * rows ≤ length work.now) }
     ensures { result ≡ s_at rows r work.now }
@@ -46,6 +45,7 @@ pub fn s_at(work: &[u32], rows: usize, r: usize) -> Vec3
 }
 
 // The projected t of the corner at a row.
+#[tactic(auto, unfolding(view::specs::Contributions::t_at))]
 pub fn t_at(work: &[u32], rows: usize, r: usize) -> Vec3
     requires { (r < rows) × (columns * rows ≤ length work.now) }
     ensures { result ≡ t_at rows r work.now }
@@ -79,8 +79,7 @@ fn store(work: &mut [u32], rows: usize, r: usize, s: Vec3, t: Vec3, opening: f32
         table::T_Z * rows + r,
         t,
     );
-    let a = bits::word(opening);
-    work[table::OPENING * rows + r] = a;
+    work[table::OPENING * rows + r] = bits::word(opening);
 }
 
 // The number of the corner at row r, as column k has it.
@@ -97,23 +96,22 @@ fn contribute(
     rows: usize,
     k: usize,
     cosines: &[u32; 1025],
-    positions: &[f32],
-    normals: &[f32],
+    mesh: &Mesh,
     g: RawTangentSpace,
     r: usize,
     q: usize,
     p: usize,
 )
     requires { (cosines.now ≡ angles.cosines) × (k < columns) × (r < rows) × (q < rows) × (p < rows) × (columns * rows ≤ length work.old) }
-    ensures { spec.Brought rows k positions.now normals.now g r q p work.old work.new }
+    ensures { spec.Brought rows k mesh.now.positions mesh.now.normals g r q p work.old work.new }
 {
     let corner = number_at(work, rows, k, r);
     let next = number_at(work, rows, k, q);
     let prior = number_at(work, rows, k, p);
-    let n = mesh::vector_at(normals, corner);
-    let at = mesh::vector_at(positions, corner);
-    let to = mesh::vector_at(positions, next);
-    let from = mesh::vector_at(positions, prior);
+    let n = mesh::vector_at(mesh.normals, corner);
+    let at = mesh::vector_at(mesh.positions, corner);
+    let to = mesh::vector_at(mesh.positions, next);
+    let from = mesh::vector_at(mesh.positions, prior);
     let opening = sums::opening(cosines, n, at, to, from);
     let s = sums::project(n, g.s);
     let t = sums::project(n, g.t);
@@ -123,56 +121,23 @@ fn contribute(
 // ---- all of them
 
 // The three corners of triangle t.
+#[tactic(auto, using(crate::proofs::Laws::turn))]
 fn contribute_triangle(
     work: &mut [u32],
     rows: usize,
     k: usize,
     cosines: &[u32; 1025],
-    positions: &[f32],
-    normals: &[f32],
+    mesh: &Mesh,
     t: usize,
 )
     requires { (cosines.now ≡ angles.cosines) × (k < columns) × (outside contribution_columns k ≡ true) × (3 * t + 3 ≤ rows) × (columns * rows ≤ length work.old) }
-    ensures { spec.Turn rows k positions.now normals.now t work.old work.new }
+    ensures { spec.Turn rows k mesh.now.positions mesh.now.normals t work.old work.new }
 {
     let g = records::tangent_at(work, rows, t);
     let at = 3 * t;
-    contribute(
-        work,
-        rows,
-        k,
-        cosines,
-        positions,
-        normals,
-        g,
-        at,
-        at + 1,
-        at + 2,
-    );
-    contribute(
-        work,
-        rows,
-        k,
-        cosines,
-        positions,
-        normals,
-        g,
-        at + 1,
-        at + 2,
-        at,
-    );
-    contribute(
-        work,
-        rows,
-        k,
-        cosines,
-        positions,
-        normals,
-        g,
-        at + 2,
-        at,
-        at + 1,
-    );
+    contribute(work, rows, k, cosines, mesh, g, at, at + 1, at + 2);
+    contribute(work, rows, k, cosines, mesh, g, at + 1, at + 2, at);
+    contribute(work, rows, k, cosines, mesh, g, at + 2, at, at + 1);
 }
 
 // The corners of the first tris triangles; their numbers stand in column k.
@@ -181,15 +146,14 @@ pub fn contribute_all(
     rows: usize,
     k: usize,
     tris: usize,
-    positions: &[f32],
-    normals: &[f32],
+    mesh: &Mesh,
 )
     requires { (k < columns) × (outside contribution_columns k ≡ true) × (3 * tris ≤ rows) × (columns * rows ≤ length work.old) }
-    ensures brings { (ss : List Triangle) (d : Triangle) → length ss ≡ tris → ((t : ℕ) → t < length ss → Reads rows k positions.now normals.now work.old t (get_or ss t d)) → Contributed rows ss d work.new }
+    ensures brings { (ss : List Triangle) (d : Triangle) → length ss ≡ tris → ((t : ℕ) → t < length ss → Reads rows k mesh.now.positions mesh.now.normals work.old t (get_or ss t d)) → Contributed rows ss d work.new }
     ensures only { Only contribution_columns rows work.old work.new }
 {
     let cosines = angle::table();
     for t in 0..tris {
-        contribute_triangle(work, rows, k, &cosines, positions, normals, t);
+        contribute_triangle(work, rows, k, &cosines, mesh, t);
     }
 }

@@ -463,8 +463,8 @@ module _ (rows : ℕ) (ps : List Float) (w sizes : List ℕ) (ns ts : List Float
         slots_same sizes a₀ E.readings Fin _ (everywhere E.readings E.far) E.shows
 
 -- the same as the contract says it
-pub copied-frames : (rows n all : ℕ) (ps : List Float) (w a u : List ℕ) → u ≡ frames_copied rows n all ps w a → Copied rows n all ps w a u
-copied-frames rows n all ps w a u e = record {
+pub copied_frames : (rows n all : ℕ) (ps : List Float) (w a u : List ℕ) → u ≡ frames_copied rows n all ps w a → Copied rows n all ps w a u
+copied_frames rows n all ps w a u e = record {
   final = λ sizes ns ts bs d a₀ us vs see en ea T C L W H S. e ∙ (λ z. frames_copied rows (sym en z) (sym ea z) ps w a) ∙ shown rows ps w sizes ns ts bs d a₀ us vs see T C L W H a S;
 }
 

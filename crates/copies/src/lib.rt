@@ -13,6 +13,7 @@ use math::Vec3;
 // ---- degenerate triangles
 
 // The corner at row r: what the first sound corner welded to it has, absent or not; absent where there is none.
+#[tactic(auto, unfolding(crate::specs::Copies::corner_copied))]
 fn copy_corner(work: &[u32], rows: usize, sound: usize, r: usize, answer: &mut [u32])
     requires { (r < rows) × (3 * sound ≤ rows) × (columns * rows ≤ length work.now) }
     ensures { answer.new ≡ spec.corner_copied rows sound work.now r answer.old }
@@ -22,12 +23,13 @@ fn copy_corner(work: &[u32], rows: usize, sound: usize, r: usize, answer: &mut [
     if first < 3 * sound {
         let from = records::slot_at(work, rows, first) as usize;
         slots::copy(answer, from, to, false);
-        return;
+    } else {
+        slots::clear(answer, to);
     }
-    slots::clear(answer, to);
 }
 
 // The three corners of triangle t, unless its quad is marked.
+#[tactic(auto, unfolding(crate::specs::Copies::triangle_copied))]
 fn copy_triangle(work: &[u32], rows: usize, sound: usize, t: usize, answer: &mut [u32])
     requires { (3 * t + 3 ≤ rows) × (3 * sound ≤ rows) × (columns * rows ≤ length work.now) }
     ensures { answer.new ≡ spec.triangle_copied rows sound work.now t answer.old }
@@ -54,17 +56,16 @@ fn copy_degenerate(work: &[u32], rows: usize, sound: usize, all: usize, answer: 
 // ---- marked quads
 
 // The number of the corner (or slot) that a triangle misses, from that of its first corner, which is 0 in its quad unless 0 is the missing one.
+#[tactic(auto, unfolding(crate::specs::Copies::missed))]
 fn missed(first: usize, missing: usize) -> usize
     requires { (first < 2 ^ 32) × (missing < 2 ^ 32) }
     ensures { (result ≡ spec.missed first missing) × (result < 2 ^ 33) }
 {
-    if missing != 0 {
-        return first + missing;
+    if missing == 0 {
+        first.saturating_sub(1)
+    } else {
+        first + missing
     }
-    if first == 0 {
-        return 0;
-    }
-    first - 1
 }
 
 // That of triangle t, from the number of its first corner, or of its slot.
@@ -76,6 +77,7 @@ fn missed_of(work: &[u32], rows: usize, t: usize, first: u32) -> usize
 }
 
 // The position of corner number i: mesh::vector_at for a number that may take 33 bits.
+#[tactic(auto, unfolding(definition::specs::Handed::vector_at))]
 fn place_at(positions: &[f32], i: usize) -> Vec3
     requires { i < 2 ^ 33 }
     ensures { result ≡ vector_at positions.now i }
@@ -97,19 +99,19 @@ fn corner_place(work: &[u32], rows: usize, positions: &[f32], r: usize) -> Vec3
 }
 
 // The row of the first corner of triangle t at a position; its last where it is neither of the others.
+#[tactic(auto, unfolding(crate::specs::Copies::kept_at, math::specs::Vector::equals))]
 fn kept_at(work: &[u32], rows: usize, positions: &[f32], t: usize, place: Vec3) -> usize
     requires { (3 * t + 3 ≤ rows) × (columns * rows ≤ length work.now) }
     ensures { (result ≡ spec.kept_at rows positions.now work.now t place) × (result < rows) }
 {
     let at = 3 * t;
     if corner_place(work, rows, positions, at) == place {
-        return at;
+        at
+    } else if corner_place(work, rows, positions, at + 1) == place {
+        at + 1
+    } else {
+        at + 2
     }
-    let second = corner_place(work, rows, positions, at + 1) == place;
-    if second {
-        return at + 1;
-    }
-    at + 2 // neither of the others
 }
 
 // The row of the first corner of triangle t at the position of the corner that it misses.
@@ -122,17 +124,17 @@ fn equal_at(work: &[u32], rows: usize, positions: &[f32], t: usize) -> usize
 }
 
 // The missing corner of the quad of triangle t, if that is marked.
+#[tactic(auto, unfolding(crate::specs::Copies::missing_copied))]
 fn copy_missing(work: &[u32], rows: usize, positions: &[f32], t: usize, answer: &mut [u32])
     requires { (3 * t + 3 ≤ rows) × (columns * rows ≤ length work.now) }
     ensures { answer.new ≡ spec.missing_copied rows positions.now work.now t answer.old }
 {
-    if !records::is_marked(work, rows, t) {
-        return;
+    if records::is_marked(work, rows, t) {
+        let row = equal_at(work, rows, positions, t);
+        let kept = records::slot_at(work, rows, row) as usize;
+        let gone = missed_of(work, rows, t, records::slot_at(work, rows, 3 * t));
+        slots::copy(answer, kept, gone, true);
     }
-    let row = equal_at(work, rows, positions, t);
-    let kept = records::slot_at(work, rows, row) as usize;
-    let gone = missed_of(work, rows, t, records::slot_at(work, rows, 3 * t));
-    slots::copy(answer, kept, gone, true);
 }
 
 // Of all sound triangles.
@@ -148,6 +150,7 @@ fn copy_all_missing(work: &[u32], rows: usize, sound: usize, positions: &[f32], 
 // ---- the step
 
 // The answer list shows what was brought to each slot, and then its final reading.
+#[tactic(auto, using(crate::proofs::Turns::copied_frames), unfolding(crate::specs::Copies::frames_copied))]
 pub fn copy_frames(
     work: &[u32],
     rows: usize,

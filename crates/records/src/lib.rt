@@ -22,21 +22,13 @@ use tangent::RawTangentSpace;
 
 // ---- stored
 
-// 1 for true, and 0 else.
-fn word_of(b: bool) -> u32
-    ensures { result ≡ flag b }
-{
-    if b { 1 } else { 0 }
-}
-
 // Three words from a place on.
-fn put_three(work: &mut [u32], at: usize, x: u32, y: u32, z: u32)
+#[tactic(auto, using(crate::proofs::Parts::part_set))]
+fn put_three(work: &mut [u32], at: usize, words: [u32; 3])
     requires { at + 3 ≤ length work.old }
-    ensures { work.new ≡ sets work.old at (x ∷ y ∷ z ∷ []) }
+    ensures { work.new ≡ sets work.old at words }
 {
-    work[at] = x;
-    work[at + 1] = y;
-    work[at + 2] = z;
+    work[at..at + 3].copy_from_slice(&words);
 }
 
 // The numbers of a triangle's corners, or of their slots, where those of its face start at number base.
@@ -44,10 +36,7 @@ fn put_numbers(work: &mut [u32], at: usize, base: u32, x: Triangle)
     requires { (at + 3 ≤ length work.old) × spec.Small base x }
     ensures { work.new ≡ sets work.old at (numbers base x) }
 {
-    let a = x.a;
-    let b = x.b;
-    let c = x.c;
-    put_three(work, at, base + a.which, base + b.which, base + c.which);
+    put_three(work, at, [base + x.a.which, base + x.b.which, base + x.c.which]);
 }
 
 // Its face, whether it is the second of it, the corner it misses.
@@ -55,8 +44,7 @@ fn put_names(work: &mut [u32], at: usize, x: Triangle)
     requires { at + 3 ≤ length work.old }
     ensures { work.new ≡ sets work.old at (names x) }
 {
-    let second = word_of(x.second);
-    put_three(work, at, x.face, second, x.missing);
+    put_three(work, at, [x.face, tangent::flag(x.second), x.missing]);
 }
 
 // A vector's three numbers.
@@ -64,10 +52,7 @@ fn put_vec(work: &mut [u32], at: usize, v: Vec3)
     requires { at + 3 ≤ length work.old }
     ensures { (work.new ≡ sets work.old at (three_of v)) × HeldVec v }
 {
-    let x = bits::word(v.x);
-    let y = bits::word(v.y);
-    let z = bits::word(v.z);
-    put_three(work, at, x, y, z);
+    put_three(work, at, [bits::word(v.x), bits::word(v.y), bits::word(v.z)]);
 }
 
 // The two magnitudes, and whether the quad is marked.
@@ -75,25 +60,30 @@ fn put_lengths(work: &mut [u32], at: usize, g: RawTangentSpace, m: bool)
     requires { at + 3 ≤ length work.old }
     ensures { (work.new ≡ sets work.old at (lengths g m)) × spec.Fits g.s_magnitude × spec.Fits g.t_magnitude }
 {
-    let x = bits::word(g.s_magnitude);
-    let y = bits::word(g.t_magnitude);
-    let z = word_of(m);
-    put_three(work, at, x, y, z);
+    put_three(
+        work,
+        at,
+        [
+            bits::word(g.s_magnitude),
+            bits::word(g.t_magnitude),
+            tangent::flag(m),
+        ],
+    );
 }
 
 // The tangent in its three columns.
+#[tactic(auto, unfolding(view::specs::Stores::storing))]
 fn put_tangent(work: &mut [u32], rows: usize, t: usize, g: RawTangentSpace, m: bool)
     requires { (3 * t + 3 ≤ rows) × (columns * rows ≤ length work.old) }
     ensures { (work.new ≡ storing rows (spec.tangent_entries t g m) work.old) × HeldSpace g }
 {
-    let s = g.s;
-    let v = g.t;
-    put_vec(work, table::TANGENT_S * rows + 3 * t, s);
-    put_vec(work, table::TANGENT_T * rows + 3 * t, v);
+    put_vec(work, table::TANGENT_S * rows + 3 * t, g.s);
+    put_vec(work, table::TANGENT_T * rows + 3 * t, g.t);
     put_lengths(work, table::MAGNITUDE * rows + 3 * t, g, m);
 }
 
 // The names and numbers in their three columns.
+#[tactic(auto, unfolding(view::specs::Stores::storing))]
 fn put_places(work: &mut [u32], rows: usize, t: usize, base: u32, slot: u32, x: Triangle)
     requires { (3 * t + 3 ≤ rows) × (columns * rows ≤ length work.old) × spec.Small base x × spec.Small slot x }
     ensures { work.new ≡ storing rows (spec.place_entries t base slot x) work.old }
@@ -104,24 +94,23 @@ fn put_places(work: &mut [u32], rows: usize, t: usize, base: u32, slot: u32, x: 
 }
 
 // The orientation and `group_with_any`, at the triangle's own row.
+#[tactic(auto, unfolding(view::specs::Stores::storing))]
 fn put_flags(work: &mut [u32], rows: usize, t: usize, way: bool, any: bool)
     requires { (3 * t + 3 ≤ rows) × (columns * rows ≤ length work.old) }
     ensures { work.new ≡ storing rows (spec.flag_entries t way any) work.old }
 {
-    let a = word_of(way);
-    let f = word_of(any);
-    work[table::ORIENTATION * rows + t] = a;
-    work[table::ANY * rows + t] = f;
+    work[table::ORIENTATION * rows + t] = tangent::flag(way);
+    work[table::ANY * rows + t] = tangent::flag(any);
 }
 
 // A triangle, whole.
+#[tactic(auto, unfolding(crate::specs::Stored::stored))]
 pub fn store(work: &mut [u32], rows: usize, t: usize, base: u32, slot: u32, x: Triangle)
     requires { (3 * t + 3 ≤ rows) × (columns * rows ≤ length work.old) × spec.Small base x × spec.Small slot x }
     ensures { (work.new ≡ spec.stored rows t base slot x work.old) × HeldSpace x.tangent }
 {
-    let g = x.tangent;
     put_places(work, rows, t, base, slot, x);
-    put_tangent(work, rows, t, g, x.marked);
+    put_tangent(work, rows, t, x.tangent, x.marked);
     put_flags(work, rows, t, x.orientation, x.any);
 }
 
@@ -160,6 +149,7 @@ pub fn missing_at(work: &[u32], rows: usize, t: usize) -> u32
 }
 
 // Whether triangle t is of a quad with exactly one degenerate triangle.
+#[tactic(auto, unfolding(crate::specs::Fields::marked_at))]
 pub fn is_marked(work: &[u32], rows: usize, t: usize) -> bool
     requires { (3 * t + 3 ≤ rows) × (columns * rows ≤ length work.now) }
     ensures { result ≡ fields.marked_at rows work.now t }
@@ -192,6 +182,7 @@ pub fn t_magnitude_at(work: &[u32], rows: usize, t: usize) -> f32
 }
 
 // The vector of three words.
+#[tactic(auto, unfolding(tangent::specs::Slot::vector_of))]
 pub fn vector_of(work: &[u32], x: usize, y: usize, z: usize) -> Vec3
     requires { (x < length work.now) × (y < length work.now) × (z < length work.now) }
     ensures { result ≡ vector_of (get_or work.now x 0) (get_or work.now y 0) (get_or work.now z 0) }
@@ -203,27 +194,23 @@ pub fn vector_of(work: &[u32], x: usize, y: usize, z: usize) -> Vec3
     )
 }
 
+// The vector of three words from a place on.
+fn vector_from(work: &[u32], at: usize) -> Vec3
+    requires { at + 3 ≤ length work.now }
+    ensures { result ≡ vector_of (get_or work.now at 0) (get_or work.now (at + 1) 0) (get_or work.now (at + 2) 0) }
+{
+    vector_of(work, at, at + 1, at + 2)
+}
+
 // The first-order tangent of triangle t.
+#[tactic(auto, unfolding(crate::specs::Fields::tangent_at))]
 pub fn tangent_at(work: &[u32], rows: usize, t: usize) -> RawTangentSpace
     requires { (3 * t + 3 ≤ rows) × (columns * rows ≤ length work.now) }
     ensures { result ≡ fields.tangent_at rows t work.now }
 {
-    let at = 3 * t;
-    let s = vector_of(
-        work,
-        table::TANGENT_S * rows + at,
-        table::TANGENT_S * rows + (at + 1),
-        table::TANGENT_S * rows + (at + 2),
-    );
-    let v = vector_of(
-        work,
-        table::TANGENT_T * rows + at,
-        table::TANGENT_T * rows + (at + 1),
-        table::TANGENT_T * rows + (at + 2),
-    );
     RawTangentSpace {
-        s,
-        t: v,
+        s: vector_from(work, table::TANGENT_S * rows + 3 * t),
+        t: vector_from(work, table::TANGENT_T * rows + 3 * t),
         s_magnitude: s_magnitude_at(work, rows, t),
         t_magnitude: t_magnitude_at(work, rows, t),
     }

@@ -3,7 +3,7 @@
 // Every function does nothing where the list is too short for the slot.
 #![tactic(auto)]
 
-ghost use Rattle.std.specs.Prelude.{◌≡◌, ◌+◌, ◌*◌, ◌≤◌, length};
+ghost use Rattle.std.specs.Prelude.{◌≡◌, ◌+◌, ◌*◌, ◌/◌, ◌≤◌, ltb, length};
 ghost use Rattle.std.proofs.lemmas.List.Edits.{sets};
 ghost use Rattle.tangent.specs.Slot.{slot_words};
 ghost use Rattle.slots.specs.Slots as spec;
@@ -11,70 +11,64 @@ ghost use Rattle.slots.specs.Slots as spec;
 use tangent::Evaluated;
 
 // The words of a slot.
+#[tactic(auto, unfolding(crate::specs::Slots::words_at))]
 fn words_at(answer: &[u32], slot: usize) -> [u32; tangent::SLOT_WORDS]
     requires { slot_words * slot + slot_words ≤ length answer.now }
     ensures { result ≡ spec.words_at slot answer.now }
 {
     let at = tangent::SLOT_WORDS * slot;
-    [
-        answer[at],
-        answer[at + 1],
-        answer[at + 2],
-        answer[at + 3],
-        answer[at + 4],
-        answer[at + 5],
-        answer[at + 6],
-        answer[at + 7],
-        answer[at + 8],
-        answer[at + 9],
-        answer[at + 10],
-        answer[at + 11],
-    ]
+    let mut words = [0; tangent::SLOT_WORDS];
+    words.copy_from_slice(&answer[at..at + tangent::SLOT_WORDS]);
+    words
 }
 
 // Words into a slot.
+#[tactic(auto, using(crate::proofs::Runs::part_set))]
 pub fn put(answer: &mut [u32], slot: usize, words: [u32; tangent::SLOT_WORDS])
     requires { slot_words * slot + slot_words ≤ length answer.old }
     ensures { answer.new ≡ sets answer.old (slot_words * slot) words }
 {
-    for i in 0..tangent::SLOT_WORDS {
-        answer[tangent::SLOT_WORDS * slot + i] = words[i];
-    }
+    let at = tangent::SLOT_WORDS * slot;
+    answer[at..at + tangent::SLOT_WORDS].copy_from_slice(&words);
+}
+
+// Whether a list has a slot.
+fn has(answer: &[u32], slot: usize) -> bool
+    ensures { result ≡ ltb slot (length answer.now / slot_words) }
+{
+    slot < answer.len() / tangent::SLOT_WORDS
 }
 
 // A slot reached by what a subgroup gave: combined where it was reached before.
+#[tactic(auto, unfolding(crate::specs::Slots::reached_at, crate::specs::Slots::written_at))]
 pub fn reach(answer: &mut [u32], slot: usize, v: Evaluated, orientation: bool)
     ensures { answer.new ≡ spec.reached_at slot v orientation answer.old }
 {
-    if answer.len() / tangent::SLOT_WORDS <= slot {
-        return;
+    if has(answer, slot) {
+        let before = tangent::reading_of(words_at(answer, slot));
+        let after = tangent::reached(before, v, orientation);
+        put(answer, slot, tangent::words(after));
     }
-    let before = tangent::reading_of(words_at(answer, slot));
-    let words = tangent::words(tangent::reached(before, v, orientation));
-    put(answer, slot, words);
 }
 
 // A copy of one slot's reading in another, within a quad or not.
+#[tactic(auto, unfolding(crate::specs::Slots::copied_at, crate::specs::Slots::written_at, crate::specs::Slots::copy_at))]
 pub fn copy(answer: &mut [u32], from: usize, to: usize, quad: bool)
     ensures { answer.new ≡ spec.copied_at quad from to answer.old }
 {
-    if answer.len() / tangent::SLOT_WORDS <= from {
-        return;
+    if has(answer, from) && has(answer, to) {
+        let before = tangent::reading_of(words_at(answer, from));
+        let after = tangent::copy_of(before, quad);
+        put(answer, to, tangent::words(after));
     }
-    if answer.len() / tangent::SLOT_WORDS <= to {
-        return;
-    }
-    let before = tangent::reading_of(words_at(answer, from));
-    let words = tangent::words(tangent::copy_of(before, quad));
-    put(answer, to, words);
 }
 
 // A slot made absent.
+#[tactic(auto, unfolding(crate::specs::Slots::cleared_at, crate::specs::Slots::written_at))]
 pub fn clear(answer: &mut [u32], slot: usize)
     ensures { answer.new ≡ spec.cleared_at slot answer.old }
 {
-    if answer.len() / tangent::SLOT_WORDS <= slot {
-        return;
+    if has(answer, slot) {
+        put(answer, slot, [0; tangent::SLOT_WORDS]);
     }
-    put(answer, slot, [0; tangent::SLOT_WORDS]);
 }

@@ -27,39 +27,34 @@ pub struct Peer {
 }
 
 // The corner at a row.
+#[tactic(auto, unfolding(crate::specs::Subgroups::peer_at))]
 fn peer_at(work: &[u32], rows: usize, r: usize) -> Peer
     requires { (r < rows) × (columns * rows ≤ length work.now) }
     ensures { result ≡ spec.peer_at rows r work.now }
 {
-    let any = records::is_any(work, rows, r / 3);
-    let face = records::face_at(work, rows, r / 3);
-    let s = contributions::s_at(work, rows, r);
-    let t = contributions::t_at(work, rows, r);
-    Peer { any, face, s, t }
+    Peer {
+        any: records::is_any(work, rows, r / 3),
+        face: records::face_at(work, rows, r / 3),
+        s: contributions::s_at(work, rows, r),
+        t: contributions::t_at(work, rows, r),
+    }
 }
 
 // Whether the corner at row r is in the subgroup of a member: either `group_with_any`, the same face, or both cosines strictly above the threshold.
+#[tactic(auto, unfolding(crate::specs::Subgroups::peer_at, crate::specs::Subgroups::joins_by))]
 fn joins(work: &[u32], rows: usize, threshold: f32, m: Peer, r: usize) -> bool
     requires { (r < rows) × (columns * rows ≤ length work.now) }
     ensures { result ≡ spec.joins_by threshold m (spec.peer_at rows r work.now) }
 {
-    if m.any {
-        return true;
-    }
-    if records::is_any(work, rows, r / 3) {
-        return true;
-    }
-    let face = records::face_at(work, rows, r / 3);
-    if m.face == face {
-        return true;
-    }
-    if threshold < m.s.dot(contributions::s_at(work, rows, r)) {
-        return threshold < m.t.dot(contributions::t_at(work, rows, r));
-    }
-    false
+    m.any
+        || records::is_any(work, rows, r / 3)
+        || m.face == records::face_at(work, rows, r / 3)
+        || (threshold < m.s.dot(contributions::s_at(work, rows, r))
+            && threshold < m.t.dot(contributions::t_at(work, rows, r)))
 }
 
 // Whether the p-th in triangle order is in it, marked; the result says whether it was marked so before.
+#[tactic(auto, unfolding(crate::specs::Subgroups::mark_of, crate::specs::Subgroups::joins_at))]
 fn mark(work: &mut [u32], rows: usize, threshold: f32, m: Peer, p: usize) -> bool
     requires { (p < rows) × (cell rows order_column p work.old < rows) × (columns * rows ≤ length work.old) }
     ensures { (work.new ≡ put rows joined_column p (spec.mark_of rows threshold m p work.old) work.old) × (result ≡ true → work.new ≡ work.old) }
@@ -87,66 +82,61 @@ fn mark_subgroup(
 {
     let mut same = true;
     for p in from..to {
-        same = mark(work, rows, threshold, m, p) & same;
+        same &= mark(work, rows, threshold, m, p);
     }
     same
 }
 
 // ---- its sum
 
-// What a `group_with_any` triangle adds to a sum, and to its count: nothing.
-fn none_added(z: Sum) -> Sum
-    ensures { result ≡ z }
+// The tangent space that the corner at row r brings: its projected directions, and its triangle's magnitudes.
+#[tactic(auto, unfolding(crate::specs::Subgroups::space_at))]
+fn space_at(work: &[u32], rows: usize, r: usize) -> RawTangentSpace
+    requires { (r < rows) × (columns * rows ≤ length work.now) }
+    ensures { result ≡ spec.space_at rows work.now r }
 {
-    let sum = z.weighted;
-    Sum {
-        angles: z.angles,
-        weighted: sum,
-        behind: z.behind,
+    RawTangentSpace {
+        s: contributions::s_at(work, rows, r),
+        t: contributions::t_at(work, rows, r),
+        s_magnitude: records::s_magnitude_at(work, rows, r / 3),
+        t_magnitude: records::t_magnitude_at(work, rows, r / 3),
     }
 }
 
 // The contribution of the corner at row r; none of a `group_with_any` triangle.
+#[tactic(auto, unfolding(crate::specs::Subgroups::add_row))]
 fn add_row(work: &[u32], rows: usize, r: usize, z: Sum) -> Sum
     requires { (r < rows) × (columns * rows ≤ length work.now) }
     ensures { result ≡ spec.add_row rows work.now r z }
 {
     let any = records::is_any(work, rows, r / 3); // it brings nothing
     if any {
-        return none_added(z);
+        return z;
     }
-    let s = contributions::s_at(work, rows, r);
-    let t = contributions::t_at(work, rows, r);
-    let g = RawTangentSpace {
-        s,
-        t,
-        s_magnitude: records::s_magnitude_at(work, rows, r / 3),
-        t_magnitude: records::t_magnitude_at(work, rows, r / 3),
-    };
     let angle = bits::number(work[table::OPENING * rows + r]);
-    sums::weigh(z, angle, g)
+    sums::weigh(z, angle, space_at(work, rows, r))
 }
 
 // Whether the p-th in triangle order is taken: where all are, or where it is marked.
+#[tactic(auto, unfolding(crate::specs::Subgroups::taken_at))]
 fn taken(work: &[u32], rows: usize, all: bool, p: usize) -> bool
     requires { (p < rows) × (columns * rows ≤ length work.now) }
     ensures { result ≡ spec.taken_at rows all work.now p }
 {
-    if all {
-        return true;
-    }
-    work[table::JOINED * rows + p] == 1
+    all || work[table::JOINED * rows + p] == 1
 }
 
 // The contribution of the p-th in triangle order, if it is taken. One call of `add_row`, so that it is compiled in place.
+#[tactic(auto, unfolding(crate::specs::Subgroups::add_taken))]
 fn add_taken(work: &[u32], rows: usize, all: bool, p: usize, z: Sum) -> Sum
     requires { (p < rows) × (cell rows order_column p work.now < rows) × (columns * rows ≤ length work.now) }
     ensures { result ≡ spec.add_taken rows all work.now p z }
 {
     if taken(work, rows, all, p) {
-        return add_row(work, rows, work[table::ORDER * rows + p] as usize, z);
+        add_row(work, rows, work[table::ORDER * rows + p] as usize, z)
+    } else {
+        z
     }
-    z
 }
 
 // The sum of all members, or of the marked ones, made a tangent space, and how many added to it.
@@ -162,6 +152,7 @@ fn sum_taken(work: &[u32], rows: usize, all: bool, from: usize, to: usize) -> Ev
 }
 
 // The sum of all that are marked, made a tangent space, and how many added to it.
+#[tactic(auto, unfolding(crate::specs::Subgroups::taken_sum, crate::specs::Subgroups::add_taken, crate::specs::Subgroups::taken_at, crate::specs::Subgroups::add_marked, crate::specs::Subgroups::evaluated))]
 pub fn evaluate_tangent_space(work: &[u32], rows: usize, from: usize, to: usize) -> Evaluated
     requires { (from ≤ to) × (to ≤ rows) × (columns * rows ≤ length work.now) × spec.Ranged rows to work.now }
     ensures { result ≡ spec.evaluated rows from (to - from) work.now }
@@ -179,6 +170,7 @@ pub struct Span {
 }
 
 // The corner at row r taken in; a corner of a `group_with_any` triangle joins all, and is left out.
+#[tactic(auto, unfolding(crate::specs::Spans::absorbed))]
 fn absorb(work: &[u32], rows: usize, r: usize, b: Span) -> Span
     requires { (r < rows) × (columns * rows ≤ length work.now) }
     ensures { result ≡ spans.absorbed rows work.now r b }
@@ -186,14 +178,14 @@ fn absorb(work: &[u32], rows: usize, r: usize, b: Span) -> Span
     if records::is_any(work, rows, r / 3) {
         return b;
     }
-    let p = b.s;
-    let q = b.t;
-    let s = hulls::widen(p, contributions::s_at(work, rows, r));
-    let t = hulls::widen(q, contributions::t_at(work, rows, r));
-    Span { s, t }
+    Span {
+        s: b.s.widened(contributions::s_at(work, rows, r)),
+        t: b.t.widened(contributions::t_at(work, rows, r)),
+    }
 }
 
 // The p-th as met and the p-th in triangle order taken in.
+#[tactic(auto, unfolding(crate::specs::Spans::absorbed_at))]
 fn absorb_at(work: &[u32], rows: usize, p: usize, b: Span) -> Span
     requires { (p < rows) × (cell rows met_column p work.now < rows) × (cell rows order_column p work.now < rows) × (columns * rows ≤ length work.now) }
     ensures { result ≡ spans.absorbed_at rows work.now p b }
@@ -207,9 +199,10 @@ fn span_of(work: &[u32], rows: usize, from: usize, to: usize) -> Span
     requires { (from ≤ to) × (to ≤ rows) × (columns * rows ≤ length work.now) × spec.Ranged rows to work.now }
     ensures { result ≡ spans.span_of rows from (to - from) work.now }
 {
-    let s = hulls::nothing();
-    let t = hulls::nothing();
-    let mut b = Span { s, t };
+    let mut b = Span {
+        s: Hull::nothing(),
+        t: Hull::nothing(),
+    };
     for p in from..to {
         b = absorb_at(work, rows, p, b);
     }
@@ -222,12 +215,11 @@ pub fn whole(work: &[u32], rows: usize, threshold: f32, from: usize, to: usize) 
     ensures { result ≡ true → spans.Whole rows threshold from (to - from) work.now }
 {
     let b = span_of(work, rows, from, to);
-    let s = b.s;
-    let t = b.t;
-    hulls::above(s, threshold) & hulls::above(t, threshold)
+    b.s.above(threshold) & b.t.above(threshold)
 }
 
 // The sum of the whole group, made a tangent space, and how many added to it.
+#[tactic(auto, unfolding(crate::specs::Subgroups::taken_sum, crate::specs::Subgroups::add_taken, crate::specs::Subgroups::taken_at, crate::specs::Spans::summed))]
 pub fn sum_of_all(work: &[u32], rows: usize, from: usize, to: usize) -> Evaluated
     requires { (from ≤ to) × (to ≤ rows) × (columns * rows ≤ length work.now) × spec.Ranged rows to work.now }
     ensures { result ≡ spans.summed rows from (to - from) work.now }
@@ -251,9 +243,9 @@ pub fn space_of(
     ensures { (result ≡ spec.value_of rows threshold r from (to - from) work.old) × (result ≡ spec.evaluated rows from (to - from) work.new) × Only (joined_column ∷ []) rows work.old work.new }
 {
     let m = peer_at(work, rows, r);
-    let same = mark_subgroup(work, rows, threshold, m, from, to);
-    if same {
-        return before;
+    if mark_subgroup(work, rows, threshold, m, from, to) {
+        before
+    } else {
+        evaluate_tangent_space(work, rows, from, to)
     }
-    evaluate_tangent_space(work, rows, from, to)
 }

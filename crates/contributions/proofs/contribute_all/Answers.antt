@@ -5,7 +5,7 @@ use Rattle.contributions.proofs.Laws.{none_done, one_more}
 use Rattle.contributions.proofs.contribute_all.Goals as goal
 
 pub loop-t-init : goal.loop-t-init
-loop-t-init c = let a = c.args in (omega arith, none_done a.rows a.k a.positions.now a.normals.now a.tris a.work.now)
+loop-t-init c = let a = c.args in (omega arith, none_done a.rows a.k a.mesh.now.positions a.mesh.now.normals a.tris a.work.now)
 
 pub contribute_triangle-requires : goal.contribute_triangle-requires
 contribute_triangle-requires c =
@@ -16,7 +16,7 @@ pub loop-t-preserved : goal.loop-t-preserved
 loop-t-preserved c =
     let l = c.loop-t in
     let a = c.args in
-    (omega (arith, c.loop-t-test.true), one_more a.rows a.k a.positions.now a.normals.now a.tris a.work.now c.requires.1 l.t _ _ (omega (arith, c.requires.2, c.loop-t-test.true)) c.loop-t-test.true l.invariant.1 c.contribute_triangle.ensures)
+    (omega (arith, c.loop-t-test.true), one_more a.rows a.k a.mesh.now.positions a.mesh.now.normals a.tris a.work.now c.requires.1 l.t _ _ (omega (arith, c.requires.2, c.loop-t-test.true)) c.loop-t-test.true l.invariant.1 c.contribute_triangle.ensures)
 
 pub shape_of-work : goal.shape_of-work
 shape_of-work c = c.loop-t.invariant.1.only.size

@@ -33,7 +33,7 @@ loop-p-preserved c =
     let e : (l.p - a.from) + 1 ≡ l.p + 1 - a.from = omega (arith, l.invariant.2) in
     let M = one-marked a.rows a.threshold a.m a.from a.work.now c.requires.2 (l.p - a.from) l.p _ at b (c.requires.3.order l.p p) l.invariant.0 in
     let N = c.mark-same.ensures.0 ∙ M in
-    (marked-as a.rows a.threshold a.m a.from a.work.now c.requires.2 _ _ _ e N, λ q. c.mark-same.ensures.1 (and_left _ _ q) ∙ l.invariant.1 (and_right c.mark-same.result _ q), omega (arith, l.invariant.2), omega (arith, p), marked-only a.rows a.threshold a.m a.from a.work.now c.requires.2 (l.p - a.from + 1) _ (omega (arith, at, b)) N)
+    (marked-as a.rows a.threshold a.m a.from a.work.now c.requires.2 _ _ _ e N, λ q. c.mark-same.ensures.1 (and_right l.same _ q) ∙ l.invariant.1 (and_left _ _ q), omega (arith, l.invariant.2), omega (arith, p), marked-only a.rows a.threshold a.m a.from a.work.now c.requires.2 (l.p - a.from + 1) _ (omega (arith, at, b)) N)
 
 pub shape_of-work : goal.shape_of-work
 shape_of-work c = c.loop-p.invariant.4.size

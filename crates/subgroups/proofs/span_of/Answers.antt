@@ -15,7 +15,7 @@ unfolding up_to
 loop-p-init c =
     let a = c.args in
     let z : 0 ≡ a.from - a.from = omega arith in
-    ((λ i. record { s = c.nothing-s.ensures i; t = c.nothing-t.ensures i }) ∙ ap (λ n. up_to n (λ k. absorbed_at a.rows a.work.now (a.from + k)) (record { s = nothing; t = nothing })) z, omega arith, c.requires.0)
+    ((λ i. record { s = c.nothing.ensures i; t = c.nothing-2.ensures i }) ∙ ap (λ n. up_to n (λ k. absorbed_at a.rows a.work.now (a.from + k)) (record { s = nothing; t = nothing })) z, omega arith, c.requires.0)
 
 pub absorb_at-b-requires : goal.absorb_at-b-requires
 absorb_at-b-requires c =
