@@ -2,26 +2,26 @@
 // and a walk one way from its first member and then the other meets all that chains lead to: no stack.
 #![tactic(auto)]
 
-ghost use Rattle.std.specs.Prelude.{◌≡◌, true, false, [], ◌∷◌, ℕ, ◌*◌, ◌≤◌, ◌<◌, length, get_or};
+ghost use Rattle.std.specs.Prelude.{◌≡◌, true, false, [], ◌∷◌, ℕ, ◌*◌, ◌≤◌, ◌<◌, length, get_or, OnOk};
 ghost use Rattle.table.specs.Columns.{columns, next_column, head_column};
 ghost use Rattle.table.specs.Table.{cell, put};
 ghost use Rattle.view.specs.Frame.{Only};
 ghost use Rattle.neighbors.specs.Sides.{end_row};
-ghost use Rattle.asked.specs.Lowest.{None, Lowest};
+ghost use Rattle.asked.specs.Lowest.{None};
 ghost use Rattle.asked.specs.Links as links;
 ghost use Rattle.asked.specs.Links.{Equal};
 ghost use Rattle.asked.specs.Groups.{group_word, Connected, Severed};
+ghost use Rattle.examiner.specs.Said.{Refuses};
 ghost use Rattle.severed.specs.Walk.{WayTo, NextIs, Marked, Goes, WalksGroup, Firsts, WalksTo, TurnsAt};
+
+use examiner::{Fault, Objection};
 
 // The row of the side that ends in the corner of row r.
 fn before_of(r: usize) -> usize
     requires { r < 4294967295 }
     ensures { end_row result ≡ r }
 {
-    if r % 3 == 0 {
-        return r + 2;
-    }
-    r - 1
+    if r % 3 == 0 { r + 2 } else { r - 1 }
 }
 
 // Over the side that runs from the corner of row x, to the same corner beyond; 3 * tris where there is none.
@@ -142,7 +142,7 @@ pub fn first_at(work: &[u32], rows: usize, x: usize) -> usize
     requires { (x < rows) × (columns * rows ≤ length work.now) }
     ensures { result ≡ cell rows head_column x work.now }
 {
-    neighbors::wide(work[table::HEAD * rows + x])
+    work[table::HEAD * rows + x] as usize
 }
 
 // The turn of row r: whether objection 12 applies there.
@@ -171,24 +171,27 @@ fn severed_at(
     false
 }
 
-// Objection 12: the lowest row at which it applies, or 3 * tris, where the lowest row of each group is known.
-pub fn first_severed(
+// Objection 12: a group is not connected, where the lowest row of each group is known.
+pub fn refuse_severed(
     work: &mut [u32],
     rows: usize,
     tris: usize,
     given: &[u32],
     groups: &[u32],
-) -> usize
+) -> Result<(), Objection>
     requires { (3 * tris ≤ rows) × (rows < 4294967295) × (columns * rows ≤ length work.old) × (3 * tris ≤ length given.now) × (3 * tris ≤ length groups.now) × None (links.Wide (3 * tris) given.now) (3 * tris) × Firsts rows tris groups.now work.old }
-    ensures lowest { (vertex : ℕ → ℕ) → links.LinksFit (3 * tris) (Equal vertex) given.now → Lowest (Severed tris given.now groups.now) (3 * tris) result }
-    ensures connected { 3 * tris ≤ result → (vertex : ℕ → ℕ) → links.LinksFit (3 * tris) (Equal vertex) given.now → Connected tris given.now groups.now }
+    ensures says { (vertex : ℕ → ℕ) → links.LinksFit (3 * tris) (Equal vertex) given.now → Refuses Fault.Severed (Severed tris given.now groups.now) (3 * tris) result }
+    ensures connected { OnOk result ((vertex : ℕ → ℕ) → links.LinksFit (3 * tris) (Equal vertex) given.now → Connected tris given.now groups.now) }
     ensures only { Only (next_column ∷ []) rows work.old work.new }
 {
     table::clear(work, rows, table::NEXT);
     for r in 0..3 * tris {
         if severed_at(work, rows, tris, given, groups, r) {
-            return r;
+            return Err(Objection {
+                fault: Fault::Severed,
+                place: r as u32,
+            });
         }
     }
-    3 * tris
+    Ok(())
 }
