@@ -2,7 +2,7 @@
 // and a walk one way from its first member and then the other meets all that chains lead to: no stack.
 #![tactic(auto)]
 
-ghost use Rattle.std.specs.Prelude.{◌≡◌, true, false, [], ◌∷◌, ℕ, ◌*◌, ◌≤◌, ◌<◌, length, get_or, OnOk};
+ghost use Rattle.std.specs.Prelude.{◌≡◌, true, false, [], ◌∷◌, ℕ, ◌*◌, ◌≤◌, ◌<◌, length, get_or, OnOk, IfSome, unwrap_or};
 ghost use Rattle.table.specs.Columns.{columns, next_column, head_column};
 ghost use Rattle.table.specs.Table.{cell, put};
 ghost use Rattle.view.specs.Frame.{Only};
@@ -24,32 +24,32 @@ fn before_of(r: usize) -> usize
     if r % 3 == 0 { r + 2 } else { r - 1 }
 }
 
-// Over the side that runs from the corner of row x, to the same corner beyond; 3 * tris where there is none.
-fn over_after(given: &[u32], tris: usize, x: usize) -> usize
+// Over the side that runs from the corner of row x, to the same corner beyond.
+fn over_after(given: &[u32], tris: usize, x: usize) -> Option<usize>
     requires { (x < 3 * tris) × (3 * tris < 4294967295) × (3 * tris ≤ length given.now) × None (links.Wide (3 * tris) given.now) (3 * tris) }
     ensures { WayTo tris given.now false x result }
 {
     let word = examiner::word_at(given, x);
     if word == 0 {
-        return 3 * tris;
+        return None;
     }
-    neighbors::end_of(word - 1)
+    Some(neighbors::end_of(word - 1))
 }
 
 // Over the side that ends in it.
-fn over_before(given: &[u32], tris: usize, x: usize) -> usize
+fn over_before(given: &[u32], tris: usize, x: usize) -> Option<usize>
     requires { (x < 3 * tris) × (3 * tris < 4294967295) × (3 * tris ≤ length given.now) × None (links.Wide (3 * tris) given.now) (3 * tris) }
     ensures { WayTo tris given.now true x result }
 {
     let word = examiner::word_at(given, before_of(x));
     if word == 0 {
-        return 3 * tris;
+        return None;
     }
-    word - 1
+    Some(word - 1)
 }
 
 // Over the one or the other.
-fn over_to(given: &[u32], tris: usize, x: usize, back: bool) -> usize
+fn over_to(given: &[u32], tris: usize, x: usize, back: bool) -> Option<usize>
     requires { (x < 3 * tris) × (3 * tris < 4294967295) × (3 * tris ≤ length given.now) × None (links.Wide (3 * tris) given.now) (3 * tris) }
     ensures { WayTo tris given.now back x result }
 {
@@ -75,7 +75,7 @@ fn mark(work: &mut [u32], rows: usize, x: usize)
     work[table::NEXT * rows + x] = 1;
 }
 
-// The next of x's group, if it is there and unmarked; 3 * tris otherwise.
+// The next of x's group, if it is there and unmarked.
 fn next_on(
     work: &[u32],
     rows: usize,
@@ -84,23 +84,19 @@ fn next_on(
     groups: &[u32],
     x: usize,
     back: bool,
-) -> usize
+) -> Option<usize>
     requires { (x < 3 * tris) × (3 * tris ≤ rows) × (rows < 4294967295) × (columns * rows ≤ length work.now) × (3 * tris ≤ length given.now) × (3 * tris ≤ length groups.now) × None (links.Wide (3 * tris) given.now) (3 * tris) × (group_word groups.now x ≡ 0 → ⊥) }
-    ensures { NextIs tris given.now groups.now (Marked rows work.now) back x result }
+    ensures is { NextIs tris given.now groups.now (Marked rows work.now) back x (unwrap_or result (3 * tris)) }
+    ensures low { IfSome result (λ y. y < 3 * tris) }
 {
-    let y = over_to(given, tris, x, back);
-    if y == 3 * tris {
-        return 3 * tris;
-    }
-    let g = examiner::word_at(groups, y);
-    let k = examiner::word_at(groups, x);
-    if g != k {
-        return 3 * tris;
+    let y = over_to(given, tris, x, back)?;
+    if examiner::word_at(groups, y) != examiner::word_at(groups, x) {
+        return None;
     }
     if mark_at(work, rows, y) != 0 {
-        return 3 * tris;
+        return None;
     }
-    y
+    Some(y)
 }
 
 // Marks from `start` on, one way.
@@ -110,17 +106,17 @@ fn go_on(
     tris: usize,
     given: &[u32],
     groups: &[u32],
-    start: usize,
+    start: Option<usize>,
     back: bool,
 )
-    requires { (start ≤ 3 * tris) × (3 * tris ≤ rows) × (rows < 4294967295) × (columns * rows ≤ length work.old) × (3 * tris ≤ length given.now) × (3 * tris ≤ length groups.now) × None (links.Wide (3 * tris) given.now) (3 * tris) × (start < 3 * tris → group_word groups.now start ≡ 0 → ⊥) × (start < 3 * tris → cell rows next_column start work.old ≡ 0) }
-    ensures goes { Goes rows tris given.now groups.now back start (3 * tris) work.old work.new }
+    requires { (3 * tris ≤ rows) × (rows < 4294967295) × (columns * rows ≤ length work.old) × (3 * tris ≤ length given.now) × (3 * tris ≤ length groups.now) × None (links.Wide (3 * tris) given.now) (3 * tris) × IfSome start (λ x. (x < 3 * tris) × (group_word groups.now x ≡ 0 → ⊥) × (cell rows next_column x work.old ≡ 0)) }
+    ensures goes { Goes rows tris given.now groups.now back (unwrap_or start (3 * tris)) (3 * tris) work.old work.new }
     ensures only { Only (next_column ∷ []) rows work.old work.new }
 {
-    let mut x = start;
-    while x < 3 * tris {
+    let mut next = start;
+    while let Some(x) = next {
         mark(work, rows, x);
-        x = next_on(work, rows, tris, given, groups, x, back);
+        next = next_on(work, rows, tris, given, groups, x, back);
     }
 }
 
