@@ -4,10 +4,11 @@ use native.Mathlib.Nat.{le_antisymm, eq-or-lt_of_le}
 use native.Mathlib.Omega.{arith}
 use mathlib.Core.Path.{◌≡◌, refl, sym, subst}
 use mathlib.Core.Logic.{⊎_elim}
-use mathlib.Core.Bool.{Bool, true, false, true≢false}
+use mathlib.Core.Bool.{Bool, true, false, not, true≢false}
 use lib.Dec.{eqb}
 use borrow.Author.Tests.{eqb-true, eqb-false}
-use Rattle.asked.specs.Lowest.{None, Lowest, Tells}
+use Rattle.std.proofs.Common.{Option, Some, None as NoRow, IfSome, MatchOption, unwrap_or}
+use Rattle.asked.specs.Lowest.{None, Lowest, Finds, Tells}
 
 -- the bound of a word that isn't above it
 pub not-lt : (a b : ℕ) → (a < b → ⊥) → b ≤ a
@@ -19,6 +20,22 @@ told p = record { holds = λ _. p; fails = λ e. absurd (true≢false e) }
 
 pub told-not : {P : Type 0} → (P → ⊥) → Tells P false
 told-not n = record { holds = λ e. absurd (true≢false (sym e)); fails = λ _. n }
+
+-- that two numbers differ tells P
+pub tells-differ : {P : Type 0} (a b : ℕ) → ((a ≡ b → ⊥) → P) → (a ≡ b → P → ⊥) → Tells P (not (eqb a b))
+tells-differ {P} a b f g = go (eqb a b) refl
+  where
+    go : (x : Bool) → eqb a b ≡ x → Tells P (not x)
+    go true e = told-not (g (eqb-true a b e))
+    go false e = told (f (eqb-false a b e))
+
+-- that they are equal tells P
+pub tells-equal : {P : Type 0} (a b : ℕ) → (a ≡ b → P) → ((a ≡ b → ⊥) → P → ⊥) → Tells P (eqb a b)
+tells-equal {P} a b f g = go (eqb a b) refl
+  where
+    go : (x : Bool) → eqb a b ≡ x → Tells P x
+    go true e = told (f (eqb-true a b e))
+    go false e = told-not (g (eqb-false a b e))
 
 -- a number is another or not
 pub same_or : {P : Type 0} (a b : ℕ) → (a ≡ b → P) → ((a ≡ b → ⊥) → P) → P
@@ -45,22 +62,23 @@ module _ (P : ℕ → Type 0) where
   pub all-passed : (n r : ℕ) → Lowest P n r → n ≤ r → None P n
   all-passed n r L h = subst (None P) (le_antisymm L.low h) L.none
 
--- ---- a loop that looks for the lowest row below n
+-- ---- a search of the rows below n by a test
 
--- none was found below r
-pub record Passed (P : ℕ → Type 0) (n r : ℕ) : Type 0 where
-  pub low : r ≤ n
-  pub none : None P r
+-- a search from 0 finds the lowest of which P holds
+pub finds : (P : ℕ → Type 0) (n : ℕ) (found : Option ℕ) → MatchOption found ((k : ℕ) → 0 ≤ k → k < n → P k → ⊥) (λ i. (0 ≤ i) × (i < n) × P i × ((k : ℕ) → 0 ≤ k → k < i → P k → ⊥)) → Finds P n found
+finds P n NoRow f = λ r h. f r (omega arith) h
+finds P n (Some i) f = (f.1, f.2, λ r h. f.3 r (omega arith) h)
 
-module _ (P : ℕ → Type 0) (n : ℕ) where
-  pub passed-zero : Passed P n 0
-  passed-zero = record { low = omega arith; none = none-zero P }
+-- and so does one that says n where there is none
+pub finds-lowest : (P : ℕ → Type 0) (n : ℕ) (found : Option ℕ) → IfSome found (λ r. r < n) → Lowest P n (unwrap_or found n) → Finds P n found
+finds-lowest P n NoRow h L = L.none
+finds-lowest P n (Some r) h L = (h, L.here h, L.none)
 
-  pub passed-more : (r : ℕ) → Passed P n r → r < n → (P r → ⊥) → Passed P n (r + 1)
-  passed-more r K h ne = record { low = omega arith; none = none_more P r K.none ne }
+-- what it finds is below n
+pub finds-below : (P : ℕ → Type 0) (n m : ℕ) (found : Option ℕ) → n ≤ m → Finds P n found → IfSome found (λ r. r < m)
+finds-below P n m NoRow h f = tt
+finds-below P n m (Some i) h f = let l = f.0 in omega arith
 
-  pub passed_here : (r : ℕ) → Passed P n r → r < n → P r → Lowest P n r
-  passed_here r K h p = lowest-here P n r h K.none p
-
-  pub passed-end : (r : ℕ) → Passed P n r → n ≤ r → Lowest P n n
-  passed-end r K h = lowest-end P n r K.low h K.none
+pub found-below : (Yes No : ℕ → Type 0) (n m : ℕ) (found : Option ℕ) → n ≤ m → MatchOption found ((k : ℕ) → 0 ≤ k → k < n → No k) (λ i. (0 ≤ i) × (i < n) × Yes i × ((k : ℕ) → 0 ≤ k → k < i → No k)) → IfSome found (λ r. r < m)
+found-below Yes No n m NoRow h f = tt
+found-below Yes No n m (Some i) h f = let l = f.1 in omega arith

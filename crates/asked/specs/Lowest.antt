@@ -1,5 +1,5 @@
 -- The lowest row of which something holds, what a test tells, and the first of several numbered objections. Definitions only.
-use Rattle.std.specs.Prelude.{ℕ, ◌≤◌, ◌<◌, ◌≡◌, Bool, true, false}
+use Rattle.std.specs.Prelude.{ℕ, ◌≤◌, ◌<◌, ◌≡◌, Bool, true, false, Option, MatchOption}
 
 -- P holds of no row below n
 abbrev pub None : (ℕ → Type 0) → ℕ → Type 0
@@ -10,6 +10,10 @@ pub record Lowest (P : ℕ → Type 0) (n r : ℕ) : Type 0 where
   pub low : r ≤ n
   pub none : None P r
   pub here : r < n → P r
+
+-- what a search of the rows below n finds: the lowest row of which P holds, or that there is none
+abbrev pub Finds : (ℕ → Type 0) → ℕ → Option ℕ → Type 0
+Finds P n found = MatchOption found (None P n) (λ r. (r < n) × P r × None P r)
 
 -- a test tells whether P holds
 pub record Tells (P : Type 0) (b : Bool) : Type 0 where

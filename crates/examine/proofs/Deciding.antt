@@ -1,7 +1,8 @@
 -- The examination stage by stage. Assumes nothing.
 use Prim.Native.Nat.{ℕ, zero, suc, ◌*◌, ◌≤◌, ◌<◌}
 use native.Mathlib.Omega.{arith}
-use mathlib.Core.Path.{◌≡◌, refl}
+use mathlib.Core.Path.{◌≡◌, refl, ap}
+use Rattle.std.proofs.Common.{Result, Ok, Err, MatchResult}
 use mathlib.Core.List.{List}
 use lib.ListN.{length}
 use Rattle.table.specs.Table.{cell}
@@ -14,6 +15,9 @@ use Rattle.asked.specs.Objections.{Applies}
 use Rattle.asked.proofs.Fits.{Long, clear-one, clear-long, not-misfit}
 use Rattle.asked.proofs.Stages.{clear-more, stops, passes, stage-like, stage-verdict, clear-like}
 use Rattle.examiner.specs.OnLinks.{OnLinks}
+use Rattle.examiner.specs.declared.Fault.TheVariants.{Misfit}
+use Rattle.examiner.specs.declared.Objection.{Objection}
+use Rattle.examiner.specs.Said.{number_of, number_in, place_in}
 use Rattle.fellows.specs.Fellows.{applies_here, OnGroups}
 use Rattle.fellows.proofs.Stages.{applies-kept, applies-back}
 use Rattle.examine.specs.Deciding.{OnLengths, Overall}
@@ -45,6 +49,11 @@ module _ (n : ℕ) (L G O : List ℕ) (number place : ℕ) where
   pub on_none : length L ≡ 3 * n → length G ≡ 3 * n → length O ≡ n → number ≡ 0 → place ≡ 0 → OnLengths n L G O number place
   on_none i j k e f =
       record { stage = λ v a w. passes (A v a w) 13 1 2 number place e f (λ c. clear-more (A v a w) 1 c (λ p x. not-misfit n (Equal v) a w L G O (record { links = i; groups = j; ways = k }) p x)) }
+
+-- what is said of the third list, where the first two have their lengths
+pub on-last : (n : ℕ) (L G O : List ℕ) (said : Result Unit Objection) → length L ≡ 3 * n → length G ≡ 3 * n → MatchResult said (λ _. length O ≡ n) (λ o. (o.fault ≡ Misfit) × (o.place ≡ 2) × (length O ≡ n → ⊥)) → OnLengths n L G O (number_in said) (place_in said)
+on-last n L G O (Ok x) i j k = on_none n L G O 0 0 i j k refl refl
+on-last n L G O (Err o) i j k = on-ways n L G O (number_of o.fault) o.place i j k.2 (ap number_of k.0) k.1
 
 -- ---- all of them
 

@@ -1,7 +1,7 @@
 // The examiner of somebody else's links, groups and orientations for a mesh, which are not trusted, and our own handed out as it reads them (request E10).
 #![tactic(auto)]
 
-ghost use Rattle.std.specs.Prelude.{◌≡◌, Bool, ℕ, ◌*◌, ◌≤◌, ◌<◌, length};
+ghost use Rattle.std.specs.Prelude.{◌≡◌, Bool, ℕ, ◌*◌, ◌≤◌, ◌<◌, length, MatchResult};
 ghost use Rattle.std.proofs.Math.Option.{none};
 ghost use Rattle.std.proofs.lemmas.List.Edits.{sets};
 ghost use Rattle.table.specs.Columns.{columns, vertex_column};
@@ -10,13 +10,14 @@ ghost use Rattle.table.specs.Table.{cell};
 ghost use Rattle.view.specs.Frame.{Only};
 ghost use Rattle.neighbors.specs.Sides.{end_row};
 ghost use Rattle.desk.specs.Verdict as desk;
+ghost use Rattle.examiner.specs.Said.{number_in, place_in};
 ghost use Rattle.examine.specs.Contract as spec;
 ghost use Rattle.examine.specs.Deciding.{OnLengths, Overall, all_columns};
 ghost use Rattle.definition.specs.Handed.{handed};
 ghost use Rattle.definition.specs.Limits.{face_limit};
 
 use desk::Verdict;
-use examiner::Objection;
+use examiner::{Fault, Objection};
 
 // What the examiner says: the number of the desk's refusal, or 0; the number of an objection, or 0; the place of either.
 #[repr(C)]
@@ -53,21 +54,32 @@ fn ask(sizes: &[u8], positions: &[f32], normals: &[f32], texture: &[f32], work: 
 
 // ---- the examiner
 
-// Objection 1, for so many triangles; 0 and 0 where it does not apply.
-fn examine_lengths(tris: usize, given: &[u32], groups: &[u32], ways: &[u32]) -> Objection
-    requires { 3 * tris < 4294967295 }
-    ensures { OnLengths tris given.now groups.now ways.now result.number result.place }
+// Objection 1 to the list of this number, unless it has the length wanted.
+fn refuse_misfit(list: u32, length: usize, wanted: usize) -> Result<(), Objection>
+    ensures { MatchResult result (λ _. length ≡ wanted) (λ o. (o.fault ≡ Fault.Misfit) × (o.place ≡ list) × (length ≡ wanted → ⊥)) }
 {
-    if given.len() != 3 * tris {
-        return examiner::said(1, 0);
+    if length == wanted {
+        return Ok(());
     }
-    if groups.len() != 3 * tris {
-        return examiner::said(1, 1);
-    }
-    if ways.len() != tris {
-        return examiner::said(1, 2);
-    }
-    examiner::said(0, 0)
+    Err(Objection {
+        fault: Fault::Misfit,
+        place: list,
+    })
+}
+
+// Objection 1, for so many triangles.
+fn examine_lengths(
+    tris: usize,
+    given: &[u32],
+    groups: &[u32],
+    ways: &[u32],
+) -> Result<(), Objection>
+    requires { 3 * tris < 4294967295 }
+    ensures { OnLengths tris given.now groups.now ways.now (number_in result) (place_in result) }
+{
+    refuse_misfit(0, given.len(), 3 * tris)?;
+    refuse_misfit(1, groups.len(), 3 * tris)?;
+    refuse_misfit(2, ways.len(), tris)
 }
 
 // Objections 1 to 12, for so many sound triangles, which stand in the columns.
@@ -78,19 +90,13 @@ fn examine_all(
     work: &mut [u32],
     rows: usize,
     tris: usize,
-) -> Objection
+) -> Result<(), Objection>
     requires { (3 * tris ≤ rows) × (columns * rows ≤ length work.old) × (rows < 4294967295) × ((r : ℕ) → r < 3 * tris → cell rows vertex_column r work.old ≡ cell rows vertex_column (end_row r) work.old → ⊥) }
-    ensures verdict { Overall rows tris work.old given.now groups.now ways.now result.number result.place }
+    ensures verdict { Overall rows tris work.old given.now groups.now ways.now (number_in result) (place_in result) }
     ensures only { Only all_columns rows work.old work.new }
 {
-    let a = examine_lengths(tris, given, groups, ways);
-    if a.number != 0 {
-        return a;
-    }
-    let b = examiner::examine_links(work, rows, tris, given);
-    if b.number != 0 {
-        return b;
-    }
+    examine_lengths(tris, given, groups, ways)?;
+    examiner::examine_links(work, rows, tris, given)?;
     fellows::examine_groups(work, rows, tris, given, groups, ways)
 }
 
@@ -104,9 +110,9 @@ fn decide(
     groups: &[u32],
     ways: &[u32],
     work: &mut [u32],
-) -> Objection
+) -> Result<(), Objection>
     requires { spec.refusal (handed sizes.now positions.now normals.now texture.now) (length work.old) ≡ none }
-    ensures decides { spec.Decides (spec.sound_of (handed sizes.now positions.now normals.now texture.now)) given.now groups.now ways.now result.number result.place }
+    ensures decides { spec.Decides (spec.sound_of (handed sizes.now positions.now normals.now texture.now)) given.now groups.now ways.now (number_in result) (place_in result) }
     ensures clears { work.new ≡ spec.cleared_for sizes.now work.old }
 {
     let rows = 6 * sizes.len();
@@ -138,7 +144,7 @@ pub fn examine(
             place: v.place,
         };
     }
-    let o = decide(
+    let said = decide(
         sizes,
         positions,
         normals,
@@ -148,10 +154,17 @@ pub fn examine(
         orientations,
         work,
     );
-    Examined {
-        refusal: 0,
-        objection: o.number,
-        place: o.place,
+    match said {
+        Ok(()) => Examined {
+            refusal: 0,
+            objection: 0,
+            place: 0,
+        },
+        Err(o) => Examined {
+            refusal: 0,
+            objection: u32::from(o.fault),
+            place: o.place,
+        },
     }
 }
 

@@ -7,6 +7,9 @@ use mathlib.Core.List.{List, [], ◌∷◌}
 use lib.Dec.{eqb}
 use lib.ListN.{length, take}
 use borrow.Author.Tests.{eq-eqb, eqb-true}
+use Rattle.std.proofs.Common.{Option}
+use Rattle.asked.specs.Lowest.{Finds}
+use Rattle.asked.specs.Links.{Equal, LeftOver}
 use Rattle.neighbors.proofs.Whole.{digit-one, digit-two, max-lt}
 use Rattle.table.specs.Table.{cell, column}
 use Rattle.lists.specs.Loops.{list_of}
@@ -108,3 +111,7 @@ module _ (rows tris : ℕ) (w v : List ℕ) (fits : 3 * tris ≤ rows) (long : c
             let q = higher-after r h ∙ (equal-high r s h k f ∙ sym (higher-after s k)) in
             true≢false (sym (λ z. eq-eqb (cell rows lower_column r v) (cell rows lower_column s v) p z && eq-eqb (cell rows higher_column r v) (cell rows higher_column s v) q z) ∙ e);
       }
+
+  -- what a scan of the sides in their order finds
+  pub left-found : ((r : ℕ) → r < n → vertex r ≡ vertex (end_row r) → ⊥) → (L : List ℕ) (found : Option ℕ) → ((vertex E : ℕ → ℕ) → Reads rows n v vertex E → OrderOf n vertex E X → Finds (LeftOver n (Equal vertex) L) n found) → Finds (LeftOver n (Equal vertex) L) n found
+  left-found sharp L found f = f vertex E reads-are (order_is sharp)

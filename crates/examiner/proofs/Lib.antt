@@ -3,4 +3,5 @@ pub mod Scanning
 pub mod Ranks
 pub mod InOrder
 pub mod Turning
+pub mod Finding
 pub mod Stages

@@ -4,15 +4,16 @@ use native.Mathlib.Nat.{le_antisymm}
 use native.Mathlib.Omega.{arith}
 use mathlib.Core.Path.{◌≡◌, sym, ap, ◌∙◌}
 use mathlib.Core.Bool.{Bool}
+use Rattle.std.proofs.Common.{Option, Some, None as NoRow}
+use Rattle.fellows.specs.declared.Shared.{Shared}
 use mathlib.Core.List.{List}
 use lib.ListN.{get_or}
 use Rattle.table.specs.Table.{cell}
 use Rattle.table.specs.Columns.{head_column}
 use Rattle.neighbors.specs.Sides.{end_row}
-use Rattle.asked.specs.Lowest.{None, Lowest, Tells}
+use Rattle.asked.specs.Lowest.{None, Finds, Tells}
 use Rattle.asked.specs.Links.{Equal, Leads}
 use Rattle.asked.specs.Groups.{group_word, way_word, Unlike, Parted}
-use Rattle.asked.proofs.Rows.{Passed}
 use Rattle.asked.proofs.Fits.{same-unless}
 use Rattle.firsts.specs.Firsts.{Alike, Right, Firsts}
 use Rattle.severed.specs.Walk as walk
@@ -25,15 +26,15 @@ one-first n G r q h k i j e R Q =
     (R.least Q.first (let l = Q.low in omega arith) (Q.alike ∙ sym e))
     (Q.least R.first (let l = R.low in omega arith) (R.alike ∙ e))
 
-module _ (rows n : ℕ) (w G O : List ℕ) (corner : Bool) (F : Firsts rows n G w) where
+module _ (rows n : ℕ) (w G O : List ℕ) (share : Shared) (F : Firsts rows n G w) where
   abbrev value : ℕ → ℕ
-  value = shared rows w O corner
+  value = shared rows w O share
 
   first_is : (r : ℕ) (h : r < n) → cell rows head_column r w - 1 ≡ (F.right r h).first
   first_is r h = let i = (F.right r h).is in omega arith
 
   -- a corner that is unlike the first is unlike an earlier one
-  pub unlike-here : (r : ℕ) → r < n → UnlikeFirst rows w G O corner r → Unlike (Equal value) G r
+  pub unlike-here : (r : ℕ) → r < n → UnlikeFirst rows w G O share r → Unlike (Equal value) G r
   unlike-here r h U =
       let R = F.right r h in
       let ne : value R.first ≡ value r → ⊥ = λ e. U.differs (ap value (first_is r h) ∙ e) in
@@ -42,10 +43,10 @@ module _ (rows n : ℕ) (w G O : List ℕ) (corner : Bool) (F : Firsts rows n G 
       record { fellow = R.first; earlier = omega arith; together = record { same = R.alike; some = λ z. U.some (sym R.alike ∙ z) }; differs = ne }
 
   -- where none is unlike the first of its group, no two are unlike
-  like-first : (r : ℕ) (h : r < n) → (UnlikeFirst rows w G O corner r → ⊥) → (group_word G r ≡ 0 → ⊥) → value (F.right r h).first ≡ value r
+  like-first : (r : ℕ) (h : r < n) → (UnlikeFirst rows w G O share r → ⊥) → (group_word G r ≡ 0 → ⊥) → value (F.right r h).first ≡ value r
   like-first r h never some = ap value (sym (first_is r h)) ∙ same-unless (value (cell rows head_column r w - 1)) (value r) (λ ne. never (record { some = some; differs = ne }))
 
-  pub none-unlike : (m : ℕ) → m ≤ n → None (UnlikeFirst rows w G O corner) m → None (Unlike (Equal value) G) m
+  pub none-unlike : (m : ℕ) → m ≤ n → None (UnlikeFirst rows w G O share) m → None (Unlike (Equal value) G) m
   none-unlike m l never q h U =
       let e = U.fellow in
       let k = U.earlier in
@@ -55,11 +56,10 @@ module _ (rows n : ℕ) (w G O : List ℕ) (corner : Bool) (F : Firsts rows n G 
       let s : group_word G q ≡ 0 → ⊥ = λ z. T.some (T.same ∙ z) in
       U.differs (sym (like-first e i (never e (omega arith)) T.some) ∙ (ap value (one-first n G e q _ _ i j T.same (F.right e i) (F.right q j)) ∙ like-first q j (never q h) s))
 
-  pub lowest-unlike : (r : ℕ) → Passed (UnlikeFirst rows w G O corner) n r → r < n → UnlikeFirst rows w G O corner r → Lowest (Unlike (Equal value) G) n r
-  lowest-unlike r K h U = record { low = omega arith; none = none-unlike r (omega arith) K.none; here = λ _. unlike-here r h U }
-
-  pub no-unlike : (r : ℕ) → Passed (UnlikeFirst rows w G O corner) n r → n ≤ r → Lowest (Unlike (Equal value) G) n n
-  no-unlike r K h = record { low = omega arith; none = none-unlike n (omega arith) (λ q l. K.none q (omega arith)); here = λ l. absurd (omega arith) }
+  -- the lowest that is unlike the first of its group is the lowest that is unlike another
+  pub finds-unlike : (found : Option ℕ) → Finds (UnlikeFirst rows w G O share) n found → Finds (Unlike (Equal value) G) n found
+  finds-unlike NoRow f = none-unlike n (omega arith) f
+  finds-unlike (Some r) f = (f.0, unlike-here r f.0 f.1, none-unlike r (let l = f.0 in omega arith) f.2)
 
 -- the lowest rows, as the walk asks for them
 pub walk-firsts : (rows n : ℕ) (G w : List ℕ) → Firsts rows (3 * n) G w → walk.Firsts rows n G w

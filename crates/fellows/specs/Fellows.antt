@@ -1,5 +1,5 @@
 -- The examination of groups and orientations. rows of the columns, n sound triangles, w the work list, L, G, O the words handed in. Definitions only.
-use Rattle.std.specs.Prelude.{ℕ, ◌-◌, ◌/◌, ◌≡◌, Bool, cond, List, ◌∷◌}
+use Rattle.std.specs.Prelude.{ℕ, ◌-◌, ◌/◌, ◌≡◌, List, ◌∷◌}
 use Rattle.table.specs.Table.{cell}
 use Rattle.table.specs.Columns.{orientation_column, any_column, vertex_column, head_column, next_column}
 use Rattle.neighbors.specs.Sides.{end_row}
@@ -8,15 +8,18 @@ use Rattle.asked.specs.Links.{Equal}
 use Rattle.asked.specs.Groups.{group_word, way_word, Together, Connected}
 use Rattle.asked.specs.Objections.{Applies}
 use Rattle.firsts.specs.Firsts.{first_columns}
+use Rattle.fellows.specs.declared.Shared.{Shared}
+use Rattle.fellows.specs.declared.Shared.TheVariants.{Vertex, Way}
 
 -- what the members of a group must share: the vertex of the corner at row r, or the orientation of its triangle
-abbrev pub shared : ℕ → List ℕ → List ℕ → Bool → ℕ → ℕ
-shared rows w O corner r = cond corner (cell rows vertex_column r w) (way_word O r)
+abbrev pub shared : ℕ → List ℕ → List ℕ → Shared → ℕ → ℕ
+shared rows w O Vertex r = cell rows vertex_column r w
+shared rows w O Way r = way_word O r
 
 -- the corner at row r is in a group, and has another value than the first of that group
-pub record UnlikeFirst (rows : ℕ) (w G O : List ℕ) (corner : Bool) (r : ℕ) : Type 0 where
+pub record UnlikeFirst (rows : ℕ) (w G O : List ℕ) (share : Shared) (r : ℕ) : Type 0 where
   pub some : group_word G r ≡ 0 → ⊥
-  pub differs : shared rows w O corner (cell rows head_column r w - 1) ≡ shared rows w O corner r → ⊥
+  pub differs : shared rows w O share (cell rows head_column r w - 1) ≡ shared rows w O share r → ⊥
 
 -- neither triangle is `group_with_any`, and they have one orientation
 pub record FirmPair (any : ℕ → ℕ) (O : List ℕ) (r q : ℕ) : Type 0 where

@@ -1,7 +1,7 @@
 // The lowest row of each group that was handed in, at the row of each of its members: rows are sorted by their group's word, since the words may be any numbers.
 #![tactic(auto)]
 
-ghost use Rattle.std.specs.Prelude.{◌≡◌, ℕ, ◌+◌, ◌*◌, ◌≤◌, ◌<◌, length, get_or};
+ghost use Rattle.std.specs.Prelude.{◌≡◌, ℕ, ◌+◌, ◌*◌, ◌≤◌, ◌<◌, length, get_or, IfSome, unwrap_or};
 ghost use Rattle.table.specs.Columns.{columns, lower_column, order_column, head_column};
 ghost use Rattle.table.specs.Table.{cell, put, filled_to};
 ghost use Rattle.view.specs.Frame.{Only};
@@ -38,18 +38,16 @@ fn order_rows(work: &mut [u32], rows: usize, n: usize, groups: &[u32])
     sort::sort(work, rows, 0, n);
 }
 
-// The first row of the group of row r, which is next in the order after a row whose group's first row is `first`, or the first of all (n).
-fn run_first(groups: &[u32], n: usize, first: usize, r: usize) -> usize
-    requires { (r < n) × (first ≤ n) × (n ≤ length groups.now) }
-    ensures { spec.Runs n groups.now first r result }
+// The first row of the group of row r, which is next in the order after a row whose group's first row is `first`, if there is one.
+fn run_first(groups: &[u32], n: usize, first: Option<usize>, r: usize) -> usize
+    requires { (r < n) × IfSome first (λ f. f < n) × (n ≤ length groups.now) }
+    ensures { spec.Runs n groups.now (unwrap_or first n) r result }
 {
-    if first == n {
-        return r;
+    let word = examiner::word_at(groups, r);
+    match first {
+        Some(f) if examiner::word_at(groups, f) == word => f,
+        _ => r,
     }
-    if examiner::word_at(groups, first) != examiner::word_at(groups, r) {
-        return r;
-    }
-    first
 }
 
 // The turn of place a of the order.
@@ -59,10 +57,10 @@ fn head_turn(
     n: usize,
     groups: &[u32],
     a: usize,
-    first: usize,
+    first: Option<usize>,
 ) -> usize
-    requires { (a < n) × (first ≤ n) × (n ≤ rows) × (columns * rows ≤ length work.old) × (rows < 4294967295) × (n ≤ length groups.now) × (cell rows order_column a work.old < n) }
-    ensures runs { spec.Runs n groups.now first (cell rows order_column a work.old) result }
+    requires { (a < n) × IfSome first (λ f. f < n) × (n ≤ rows) × (columns * rows ≤ length work.old) × (rows < 4294967295) × (n ≤ length groups.now) × (cell rows order_column a work.old < n) }
+    ensures runs { spec.Runs n groups.now (unwrap_or first n) (cell rows order_column a work.old) result }
     ensures puts { work.new ≡ put rows head_column (cell rows order_column a work.old) (result + 1) work.old }
 {
     let r = examiner::order_at(work, rows, a);
@@ -76,9 +74,9 @@ fn put_heads(work: &mut [u32], rows: usize, n: usize, groups: &[u32])
     requires { (n ≤ rows) × (columns * rows ≤ length work.old) × (rows < 4294967295) × (n ≤ length groups.now) × spec.InOrder rows n groups.now work.old }
     ensures { spec.Heads rows n groups.now work.old work.new }
 {
-    let mut first = n;
+    let mut first = None;
     for a in 0..n {
-        first = head_turn(work, rows, n, groups, a, first);
+        first = Some(head_turn(work, rows, n, groups, a, first));
     }
 }
 

@@ -7,6 +7,8 @@ use mathlib.Core.Bool.{Bool, true, false, true≢false}
 use mathlib.Core.List.{List, [], ◌∷◌}
 use lib.ListN.{length, get_or}
 use lib.Seq.{get_or-set_same, get_or-set_other}
+use Rattle.std.proofs.Common.{Option, Some, None as NoRow, IfSome, unwrap_or}
+use Rattle.asked.proofs.Fits.{same-unless}
 use Rattle.table.specs.Table.{cell, put, column, filled_to}
 use Rattle.table.specs.Columns.{columns, next_column, head_column}
 use Rattle.table.proofs.Laws.{column-set, get_or-column, length-column, filled-column}
@@ -35,58 +37,61 @@ module _ (n : ℕ) (L : List ℕ) where
   nowhere-before b x p e (after _ q l) c y z = true≢false (sym c)
   nowhere-before b x p e (before u q l) c y z = let f = ap (λ k. get_or L k 0) (end-one e u y) in omega arith
 
-  pub way-after-none : (b : Bool) (x v : ℕ) → b ≡ false → v ≡ get_or L x 0 → v ≡ 0 → WayTo n L b x (3 * n)
-  way-after-none b x v c e z = record { low = omega arith; way = λ h. absurd (omega arith); none = λ h p w. nowhere-after b x p w c (sym e ∙ z) }
+  pub way-after-none : (b : Bool) (x v : ℕ) → b ≡ false → v ≡ get_or L x 0 → v ≡ 0 → WayTo n L b x NoRow
+  way-after-none b x v c e z = λ p w. nowhere-after b x p w c (sym e ∙ z)
 
-  pub way-before-none : (b : Bool) (x e v : ℕ) → b ≡ true → end_row e ≡ x → v ≡ get_or L e 0 → v ≡ 0 → WayTo n L b x (3 * n)
-  way-before-none b x e v c y q z = record { low = omega arith; way = λ h. absurd (omega arith); none = λ h p w. nowhere-before b x p e w c y (sym q ∙ z) }
+  pub way-before-none : (b : Bool) (x e v : ℕ) → b ≡ true → end_row e ≡ x → v ≡ get_or L e 0 → v ≡ 0 → WayTo n L b x NoRow
+  way-before-none b x e v c y q z = λ p w. nowhere-before b x p e w c y (sym q ∙ z)
 
-  pub way-after-to : (b : Bool) (x v y : ℕ) → b ≡ false → v ≡ get_or L x 0 → (v ≡ 0 → ⊥) → y ≡ end_row (v - 1) → y < 3 * n → WayTo n L b x y
-  way-after-to b x v y c e ne f h =
-      record { low = omega arith; way = λ _. subst (λ d. Way L d x y) (sym c) (subst (Way L false x) (sym f) (after x (v - 1) (omega arith))); none = λ k. absurd (omega arith) }
+  pub way-after-to : (b : Bool) (x v y : ℕ) → b ≡ false → v ≡ get_or L x 0 → (v ≡ 0 → ⊥) → y ≡ end_row (v - 1) → y < 3 * n → WayTo n L b x (Some y)
+  way-after-to b x v y c e ne f h = (h, subst (λ d. Way L d x y) (sym c) (subst (Way L false x) (sym f) (after x (v - 1) (omega arith))))
 
-  pub way-before-to : (b : Bool) (x e v : ℕ) → b ≡ true → end_row e ≡ x → v ≡ get_or L e 0 → (v ≡ 0 → ⊥) → v ≤ 3 * n → WayTo n L b x (v - 1)
-  way-before-to b x e v c y q ne h =
-      record { low = omega arith; way = λ _. subst (λ d. Way L d x (v - 1)) (sym c) (subst (λ z. Way L true z (v - 1)) y (before e (v - 1) (omega arith))); none = λ k. absurd (omega arith) }
+  pub way-before-to : (b : Bool) (x e v : ℕ) → b ≡ true → end_row e ≡ x → v ≡ get_or L e 0 → (v ≡ 0 → ⊥) → v ≤ 3 * n → WayTo n L b x (Some (v - 1))
+  way-before-to b x e v c y q ne h = (omega arith, subst (λ d. Way L d x (v - 1)) (sym c) (subst (λ z. Way L true z (v - 1)) y (before e (v - 1) (omega arith))))
 
-  pub way_of : (b c : Bool) (x y : ℕ) → c ≡ b → WayTo n L b x y → WayTo n L c x y
+  pub way_of : (b c : Bool) (x : ℕ) (y : Option ℕ) → c ≡ b → WayTo n L b x y → WayTo n L c x y
   way_of b c x y e W = subst (λ d. WayTo n L d x y) (sym e) W
 
   -- ---- the next
 
   module _ (G : List ℕ) (M : ℕ → Type 0) (b : Bool) (x : ℕ) where
-    pub next-nowhere : (y : ℕ) → WayTo n L b x y → y ≡ 3 * n → NextIs n L G M b x (3 * n)
-    next-nowhere y W e = record { low = omega arith; ahead = λ p w t ne. absurd (W.none (omega arith) p w); way = λ h. absurd (omega arith); together = λ h. absurd (omega arith); fresh = λ h. absurd (omega arith) }
+    pub next-nowhere : ((p : ℕ) → Way L b x p → ⊥) → NextIs n L G M b x (3 * n)
+    next-nowhere none = record { low = omega arith; ahead = λ p w t ne. absurd (none p w); way = λ h. absurd (omega arith); together = λ h. absurd (omega arith); fresh = λ h. absurd (omega arith) }
 
-    pub next-other : (y g k : ℕ) → WayTo n L b x y → (y ≡ 3 * n → ⊥) → g ≡ group_word G y → k ≡ group_word G x → (g ≡ k → ⊥) → NextIs n L G M b x (3 * n)
-    next-other y g k W z p q ne =
+    pub next-other : (y g k : ℕ) → Way L b x y → g ≡ group_word G y → k ≡ group_word G x → (g ≡ k → ⊥) → NextIs n L G M b x (3 * n)
+    next-other y g k W p q ne =
         record {
           low = omega arith;
-          ahead = λ s w t d. absurd (ne (p ∙ (ap (group_word G) (way-one L b x y s (W.way (let l = W.low in omega arith)) w) ∙ (sym t.same ∙ sym q))));
+          ahead = λ s w t d. absurd (ne (p ∙ (ap (group_word G) (way-one L b x y s W w) ∙ (sym t.same ∙ sym q))));
           way = λ h. absurd (omega arith);
           together = λ h. absurd (omega arith);
           fresh = λ h. absurd (omega arith);
         }
 
-    pub next-marked : (y : ℕ) → WayTo n L b x y → (y ≡ 3 * n → ⊥) → M y → NextIs n L G M b x (3 * n)
-    next-marked y W z m =
+    pub next-marked : (y : ℕ) → Way L b x y → M y → NextIs n L G M b x (3 * n)
+    next-marked y W m =
         record {
           low = omega arith;
-          ahead = λ s w t d. subst M (way-one L b x y s (W.way (let l = W.low in omega arith)) w) m;
+          ahead = λ s w t d. subst M (way-one L b x y s W w) m;
           way = λ h. absurd (omega arith);
           together = λ h. absurd (omega arith);
           fresh = λ h. absurd (omega arith);
         }
 
-    pub next_here : (y g k : ℕ) → WayTo n L b x y → (y ≡ 3 * n → ⊥) → g ≡ group_word G y → k ≡ group_word G x → g ≡ k → (group_word G x ≡ 0 → ⊥) → (M y → ⊥) → NextIs n L G M b x y
-    next_here y g k W z p q e some fresh =
+    pub next_here : (y g k : ℕ) → y < 3 * n → Way L b x y → g ≡ group_word G y → k ≡ group_word G x → g ≡ k → (group_word G x ≡ 0 → ⊥) → (M y → ⊥) → NextIs n L G M b x y
+    next_here y g k l W p q e some fresh =
         record {
-          low = W.low;
-          ahead = λ s w t d. absurd (d (way-one L b x s y w (W.way (let l = W.low in omega arith))));
-          way = W.way;
+          low = omega arith;
+          ahead = λ s w t d. absurd (d (way-one L b x s y w W));
+          way = λ _. W;
           together = λ h. record { same = sym q ∙ (sym e ∙ p); some = some };
           fresh = λ h. fresh;
         }
+
+-- what is next is unmarked and in a group
+pub next-start : (rows n : ℕ) (L G w : List ℕ) (b : Bool) (x : ℕ) (y : Option ℕ) → NextIs n L G (Marked rows w) b x (unwrap_or y (3 * n)) → IfSome y (λ p. p < 3 * n) → IfSome y (λ p. (p < 3 * n) × (group_word G p ≡ 0 → ⊥) × (cell rows next_column p w ≡ 0))
+next-start rows n L G w b x NoRow N h = tt
+next-start rows n L G w b x (Some p) N h = (h, (λ z. (N.together h).some ((N.together h).same ∙ z)), same-unless _ _ (N.fresh h))
 
 -- ---- a mark
 
@@ -119,8 +124,9 @@ module _ (rows n : ℕ) (L G : List ℕ) where
   goes-more b s x y w u v h k long K e Y =
       record { goes = λ vertex w₀ f F Z. going_on n vertex L G F (Marked rows w₀) (Marked rows u) (Marked rows v) (Still b f) b f x y h (subst (λ z. Adds (Marked rows u) (Marked rows z) x) (sym e) (mark-adds rows x u k long)) Y (K.goes vertex w₀ f F Z) }
 
-  pub goes_end : (b : Bool) (s x : ℕ) (w u : List ℕ) → x ≤ 3 * n → 3 * n ≤ x → Goes rows n L G b s x w u → Goes rows n L G b s (3 * n) w u
-  goes_end b s x w u h k K = subst (λ (y : ℕ). Goes rows n L G b s y w u) (le_antisymm h k) K
+  pub goes-none-left : (b : Bool) (s : ℕ) (y : Option ℕ) (w u : List ℕ) → ((x : ℕ) → y ≡ Some x → ⊥) → Goes rows n L G b s (unwrap_or y (3 * n)) w u → Goes rows n L G b s (3 * n) w u
+  goes-none-left b s NoRow w u ne K = K
+  goes-none-left b s (Some x) w u ne K = absurd (ne x refl)
 
   -- a group: its first is marked, the one way is gone, then the other
   pub walks-group : (f x y : ℕ) (w v u z : List ℕ) → f < 3 * n → f < rows → columns * rows ≤ length w → (group_word G f ≡ 0 → ⊥) → v ≡ put rows next_column f 1 w → NextIs n L G (Marked rows v) false f x → Goes rows n L G false x (3 * n) v u → NextIs n L G (Marked rows u) true f y → Goes rows n L G true y (3 * n) u z → WalksGroup rows n L G f w z

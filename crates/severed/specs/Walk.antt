@@ -1,5 +1,5 @@
 -- The walk round a corner that finds out whether a group is connected: first one way from its lowest row, then the other. M: the corner at a row is marked. Definitions only.
-use Rattle.std.specs.Prelude.{ℕ, ◌+◌, ◌*◌, ◌≤◌, ◌<◌, ◌≡◌, Bool, true, false, not, List}
+use Rattle.std.specs.Prelude.{ℕ, ◌+◌, ◌*◌, ◌≤◌, ◌<◌, ◌≡◌, Bool, true, false, not, List, Option, MatchOption}
 use Rattle.lists.specs.Zeros.{zeros}
 use Rattle.table.specs.Table.{cell, column}
 use Rattle.table.specs.Columns.{next_column, head_column}
@@ -59,11 +59,9 @@ pub record Walked (n : ℕ) (L G : List ℕ) (M : ℕ → Type 0) (r : ℕ) : Ty
 abbrev pub Marked : ℕ → List ℕ → ℕ → Type 0
 Marked rows w r = cell rows next_column r w ≡ 0 → ⊥
 
--- y is where the way b leads from x, and 3n where it leads nowhere
-pub record WayTo (n : ℕ) (L : List ℕ) (b : Bool) (x y : ℕ) : Type 0 where
-  pub low : y ≤ 3 * n
-  pub way : y < 3 * n → Way L b x y
-  pub none : 3 * n ≤ y → (p : ℕ) → Way L b x p → ⊥
+-- y is where the way b leads from x, if it leads anywhere
+abbrev pub WayTo : ℕ → List ℕ → Bool → ℕ → Option ℕ → Type 0
+WayTo n L b x y = MatchOption y ((p : ℕ) → Way L b x p → ⊥) (λ p. (p < 3 * n) × Way L b x p)
 
 -- while the one way is gone the other is still to go from f
 abbrev pub Still : Bool → ℕ → ℕ → Type 0

@@ -2,54 +2,54 @@
 // and a walk one way from its first member and then the other meets all that chains lead to: no stack.
 #![tactic(auto)]
 
-ghost use Rattle.std.specs.Prelude.{◌≡◌, true, false, [], ◌∷◌, ℕ, ◌*◌, ◌≤◌, ◌<◌, length, get_or};
+ghost use Rattle.std.specs.Prelude.{◌≡◌, true, false, [], ◌∷◌, ℕ, ◌*◌, ◌≤◌, ◌<◌, length, get_or, OnOk, IfSome, unwrap_or};
 ghost use Rattle.table.specs.Columns.{columns, next_column, head_column};
 ghost use Rattle.table.specs.Table.{cell, put};
 ghost use Rattle.view.specs.Frame.{Only};
 ghost use Rattle.neighbors.specs.Sides.{end_row};
-ghost use Rattle.asked.specs.Lowest.{None, Lowest};
+ghost use Rattle.asked.specs.Lowest.{None};
 ghost use Rattle.asked.specs.Links as links;
 ghost use Rattle.asked.specs.Links.{Equal};
 ghost use Rattle.asked.specs.Groups.{group_word, Connected, Severed};
+ghost use Rattle.examiner.specs.Said.{Refuses};
 ghost use Rattle.severed.specs.Walk.{WayTo, NextIs, Marked, Goes, WalksGroup, Firsts, WalksTo, TurnsAt};
+
+use examiner::{Fault, Objection};
 
 // The row of the side that ends in the corner of row r.
 fn before_of(r: usize) -> usize
     requires { r < 4294967295 }
     ensures { end_row result ≡ r }
 {
-    if r % 3 == 0 {
-        return r + 2;
-    }
-    r - 1
+    if r % 3 == 0 { r + 2 } else { r - 1 }
 }
 
-// Over the side that runs from the corner of row x, to the same corner beyond; 3 * tris where there is none.
-fn over_after(given: &[u32], tris: usize, x: usize) -> usize
+// Over the side that runs from the corner of row x, to the same corner beyond.
+fn over_after(given: &[u32], tris: usize, x: usize) -> Option<usize>
     requires { (x < 3 * tris) × (3 * tris < 4294967295) × (3 * tris ≤ length given.now) × None (links.Wide (3 * tris) given.now) (3 * tris) }
     ensures { WayTo tris given.now false x result }
 {
     let word = examiner::word_at(given, x);
     if word == 0 {
-        return 3 * tris;
+        return None;
     }
-    neighbors::end_of(word - 1)
+    Some(neighbors::end_of(word - 1))
 }
 
 // Over the side that ends in it.
-fn over_before(given: &[u32], tris: usize, x: usize) -> usize
+fn over_before(given: &[u32], tris: usize, x: usize) -> Option<usize>
     requires { (x < 3 * tris) × (3 * tris < 4294967295) × (3 * tris ≤ length given.now) × None (links.Wide (3 * tris) given.now) (3 * tris) }
     ensures { WayTo tris given.now true x result }
 {
     let word = examiner::word_at(given, before_of(x));
     if word == 0 {
-        return 3 * tris;
+        return None;
     }
-    word - 1
+    Some(word - 1)
 }
 
 // Over the one or the other.
-fn over_to(given: &[u32], tris: usize, x: usize, back: bool) -> usize
+fn over_to(given: &[u32], tris: usize, x: usize, back: bool) -> Option<usize>
     requires { (x < 3 * tris) × (3 * tris < 4294967295) × (3 * tris ≤ length given.now) × None (links.Wide (3 * tris) given.now) (3 * tris) }
     ensures { WayTo tris given.now back x result }
 {
@@ -75,7 +75,7 @@ fn mark(work: &mut [u32], rows: usize, x: usize)
     work[table::NEXT * rows + x] = 1;
 }
 
-// The next of x's group, if it is there and unmarked; 3 * tris otherwise.
+// The next of x's group, if it is there and unmarked.
 fn next_on(
     work: &[u32],
     rows: usize,
@@ -84,23 +84,19 @@ fn next_on(
     groups: &[u32],
     x: usize,
     back: bool,
-) -> usize
+) -> Option<usize>
     requires { (x < 3 * tris) × (3 * tris ≤ rows) × (rows < 4294967295) × (columns * rows ≤ length work.now) × (3 * tris ≤ length given.now) × (3 * tris ≤ length groups.now) × None (links.Wide (3 * tris) given.now) (3 * tris) × (group_word groups.now x ≡ 0 → ⊥) }
-    ensures { NextIs tris given.now groups.now (Marked rows work.now) back x result }
+    ensures is { NextIs tris given.now groups.now (Marked rows work.now) back x (unwrap_or result (3 * tris)) }
+    ensures low { IfSome result (λ y. y < 3 * tris) }
 {
-    let y = over_to(given, tris, x, back);
-    if y == 3 * tris {
-        return 3 * tris;
-    }
-    let g = examiner::word_at(groups, y);
-    let k = examiner::word_at(groups, x);
-    if g != k {
-        return 3 * tris;
+    let y = over_to(given, tris, x, back)?;
+    if examiner::word_at(groups, y) != examiner::word_at(groups, x) {
+        return None;
     }
     if mark_at(work, rows, y) != 0 {
-        return 3 * tris;
+        return None;
     }
-    y
+    Some(y)
 }
 
 // Marks from `start` on, one way.
@@ -110,17 +106,17 @@ fn go_on(
     tris: usize,
     given: &[u32],
     groups: &[u32],
-    start: usize,
+    start: Option<usize>,
     back: bool,
 )
-    requires { (start ≤ 3 * tris) × (3 * tris ≤ rows) × (rows < 4294967295) × (columns * rows ≤ length work.old) × (3 * tris ≤ length given.now) × (3 * tris ≤ length groups.now) × None (links.Wide (3 * tris) given.now) (3 * tris) × (start < 3 * tris → group_word groups.now start ≡ 0 → ⊥) × (start < 3 * tris → cell rows next_column start work.old ≡ 0) }
-    ensures goes { Goes rows tris given.now groups.now back start (3 * tris) work.old work.new }
+    requires { (3 * tris ≤ rows) × (rows < 4294967295) × (columns * rows ≤ length work.old) × (3 * tris ≤ length given.now) × (3 * tris ≤ length groups.now) × None (links.Wide (3 * tris) given.now) (3 * tris) × IfSome start (λ x. (x < 3 * tris) × (group_word groups.now x ≡ 0 → ⊥) × (cell rows next_column x work.old ≡ 0)) }
+    ensures goes { Goes rows tris given.now groups.now back (unwrap_or start (3 * tris)) (3 * tris) work.old work.new }
     ensures only { Only (next_column ∷ []) rows work.old work.new }
 {
-    let mut x = start;
-    while x < 3 * tris {
+    let mut next = start;
+    while let Some(x) = next {
         mark(work, rows, x);
-        x = next_on(work, rows, tris, given, groups, x, back);
+        next = next_on(work, rows, tris, given, groups, x, back);
     }
 }
 
@@ -142,7 +138,7 @@ pub fn first_at(work: &[u32], rows: usize, x: usize) -> usize
     requires { (x < rows) × (columns * rows ≤ length work.now) }
     ensures { result ≡ cell rows head_column x work.now }
 {
-    neighbors::wide(work[table::HEAD * rows + x])
+    work[table::HEAD * rows + x] as usize
 }
 
 // The turn of row r: whether objection 12 applies there.
@@ -171,24 +167,27 @@ fn severed_at(
     false
 }
 
-// Objection 12: the lowest row at which it applies, or 3 * tris, where the lowest row of each group is known.
-pub fn first_severed(
+// Objection 12: a group is not connected, where the lowest row of each group is known.
+pub fn refuse_severed(
     work: &mut [u32],
     rows: usize,
     tris: usize,
     given: &[u32],
     groups: &[u32],
-) -> usize
+) -> Result<(), Objection>
     requires { (3 * tris ≤ rows) × (rows < 4294967295) × (columns * rows ≤ length work.old) × (3 * tris ≤ length given.now) × (3 * tris ≤ length groups.now) × None (links.Wide (3 * tris) given.now) (3 * tris) × Firsts rows tris groups.now work.old }
-    ensures lowest { (vertex : ℕ → ℕ) → links.LinksFit (3 * tris) (Equal vertex) given.now → Lowest (Severed tris given.now groups.now) (3 * tris) result }
-    ensures connected { 3 * tris ≤ result → (vertex : ℕ → ℕ) → links.LinksFit (3 * tris) (Equal vertex) given.now → Connected tris given.now groups.now }
+    ensures says { (vertex : ℕ → ℕ) → links.LinksFit (3 * tris) (Equal vertex) given.now → Refuses Fault.Severed (Severed tris given.now groups.now) (3 * tris) result }
+    ensures connected { OnOk result ((vertex : ℕ → ℕ) → links.LinksFit (3 * tris) (Equal vertex) given.now → Connected tris given.now groups.now) }
     ensures only { Only (next_column ∷ []) rows work.old work.new }
 {
     table::clear(work, rows, table::NEXT);
     for r in 0..3 * tris {
         if severed_at(work, rows, tris, given, groups, r) {
-            return r;
+            return Err(Objection {
+                fault: Fault::Severed,
+                place: r as u32,
+            });
         }
     }
-    3 * tris
+    Ok(())
 }

@@ -1,23 +1,25 @@
 -- `examine::examine_lengths` meets its contract. Assumes nothing.
-use Rattle.examine.proofs.Deciding.{on-links, on-groups, on-ways, on_none}
+use mathlib.Core.Path.{ap}
+use Rattle.std.proofs.lemmas.Result.{err_from_is_err_and}
+use Rattle.examiner.specs.Said.{number_of}
+use Rattle.examine.proofs.Deciding.{on-links, on-groups, on-last}
 use Rattle.examine.proofs.examine_lengths.Goals as goal
 
-pub returns-then-given-tris : goal.returns-then-given-tris
-returns-then-given-tris c =
+pub returns-in_err-refuse_misfit : goal.returns-in_err-refuse_misfit
+returns-in_err-refuse_misfit c =
     let t = c.args in
-    on-links t.tris t.given.now t.groups.now t.ways.now _ _ c.if-given-tris.true c.said.ensures.0 c.said.ensures.1
+    let p = err_from_is_err_and c.from_residual.result c.from_residual.ensures.1 in
+    let e = c.in_err-refuse_misfit.ensures in
+    rw (p.1, p.2) (on-links t.tris t.given.now t.groups.now t.ways.now _ _ e.2 (ap number_of e.0) e.1)
 
-pub returns-then-groups-tris : goal.returns-then-groups-tris
-returns-then-groups-tris c =
+pub returns-in_err-refuse_misfit-2 : goal.returns-in_err-refuse_misfit-2
+returns-in_err-refuse_misfit-2 c =
     let t = c.args in
-    on-groups t.tris t.given.now t.groups.now t.ways.now _ _ c.if-given-tris.false c.if-groups-tris.true c.said-then-groups-tris.ensures.0 c.said-then-groups-tris.ensures.1
-
-pub returns-then-ways-tris : goal.returns-then-ways-tris
-returns-then-ways-tris c =
-    let t = c.args in
-    on-ways t.tris t.given.now t.groups.now t.ways.now _ _ c.if-given-tris.false c.if-groups-tris.false c.if-ways-tris.true c.said-then-ways-tris.ensures.0 c.said-then-ways-tris.ensures.1
+    let p = err_from_is_err_and c.from_residual-in_err-refuse_misfit-2.result c.from_residual-in_err-refuse_misfit-2.ensures.1 in
+    let e = c.in_err-refuse_misfit-2.ensures in
+    rw (p.1, p.2) (on-groups t.tris t.given.now t.groups.now t.ways.now _ _ c.in_ok-refuse_misfit.ensures e.2 (ap number_of e.0) e.1)
 
 pub returns : goal.returns
 returns c =
     let t = c.args in
-    on_none t.tris t.given.now t.groups.now t.ways.now _ _ c.if-given-tris.false c.if-groups-tris.false c.if-ways-tris.false c.said-2.ensures.0 c.said-2.ensures.1
+    on-last t.tris t.given.now t.groups.now t.ways.now _ c.in_ok-refuse_misfit.ensures c.in_ok-refuse_misfit-2.ensures c.refuse_misfit-3.ensures

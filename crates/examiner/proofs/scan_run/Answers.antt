@@ -4,20 +4,26 @@ use native.Mathlib.Omega.{arith}
 use Rattle.examiner.proofs.Turning.{alike-turn, kept-turn, lower-turn}
 use Rattle.examiner.proofs.scan_run.Goals as goal
 
-pub returns-then-v-u : goal.returns-then-v-u
-returns-then-v-u c =
+pub returns-then-vertex_at-clause-turn : goal.returns-then-vertex_at-clause-turn
+returns-then-vertex_at-clause-turn c =
     let a = c.args in
     let p = c.requires in
-    record { low = (omega (arith, p.1), p.2); turn = alike-turn a.rows (3 * a.tris) a.work.now a.given.now a.a a.s.first a.s.best a.r p.0 p.5 p.1 p.6 p.7 p.8 _ _ c.vertex_at-v.ensures c.vertex_at-u.ensures c.if-v-u.true }
+    alike-turn a.rows (3 * a.tris) a.work.now a.given.now a.a a.first _ a.r p.0 p.5 p.1 p.6 p.7 p.8 _ _ c.vertex_at.ensures c.vertex_at-2.ensures c.if-vertex_at.true
 
-pub returns-then-best-first : goal.returns-then-best-first
-returns-then-best-first c =
+pub returns-in-Some-clause-turn : goal.returns-in-Some-clause-turn
+returns-in-Some-clause-turn c =
     let a = c.args in
     let p = c.requires in
-    record { low = (omega (arith, p.1), p.2); turn = kept-turn a.rows (3 * a.tris) a.work.now a.given.now a.a a.s.first a.s.best a.r p.0 p.5 p.1 p.6 p.7 p.8 c.if-best-first.true }
+    rw c.in-Some.is (kept-turn a.rows (3 * a.tris) a.work.now a.given.now a.a a.first c.in-Some.b a.r p.0 p.5 p.1 p.6 p.7 p.8 c.if-b-first.true)
 
-pub returns : goal.returns
-returns c =
+pub returns-in_default-clause-turn : goal.returns-in_default-clause-turn
+returns-in_default-clause-turn c =
     let a = c.args in
     let p = c.requires in
-    record { low = (omega (arith, p.1), omega (arith, p.1)); turn = lower-turn a.rows (3 * a.tris) a.work.now a.given.now a.a a.s.first a.s.best a.r p.0 p.5 p.1 p.6 p.7 p.8 _ _ c.vertex_at-v.ensures c.vertex_at-u.ensures c.if-v-u.false (omega (arith, c.if-best-first.false)) }
+    rw c.in-Some.is (lower-turn a.rows (3 * a.tris) a.work.now a.given.now a.a a.first c.in-Some.b a.r p.0 p.5 p.1 p.6 p.7 p.8 _ _ c.vertex_at.ensures c.vertex_at-2.ensures c.if-vertex_at.false (omega (arith, c.if-b-first.false)))
+
+pub returns-in_default-2-clause-turn : goal.returns-in_default-2-clause-turn
+returns-in_default-2-clause-turn c =
+    let a = c.args in
+    let p = c.requires in
+    rw c.in_default.is (lower-turn a.rows (3 * a.tris) a.work.now a.given.now a.a a.first (3 * a.tris) a.r p.0 p.5 p.1 p.6 p.7 p.8 _ _ c.vertex_at.ensures c.vertex_at-2.ensures c.if-vertex_at.false (omega (arith, p.1)))

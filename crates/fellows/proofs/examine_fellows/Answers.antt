@@ -1,23 +1,27 @@
 -- `fellows::examine_fellows` meets its contract. Assumes nothing.
-use Rattle.fellows.proofs.Stages.{on-elsewhere, on-otherwise, on-parted, on-beside}
+use native.Mathlib.Omega.{arith}
+use Rattle.std.proofs.lemmas.Result.{err_from_is_err_and}
+use Rattle.asked.proofs.Rows.{finds-below}
+use Rattle.examiner.proofs.Finding.{says}
+use Rattle.fellows.proofs.Stages.{on-elsewhere, on-otherwise, on-parted}
 use Rattle.fellows.proofs.examine_fellows.Goals as goal
 
-pub returns-then-a-tris : goal.returns-then-a-tris
-returns-then-a-tris c =
-    let t = c.args in
-    on-elsewhere t.rows t.tris t.work.now t.groups.now t.ways.now _ _ t.given.now _ c.first_unlike-a.ensures c.if-a-tris.true c.said.ensures.0 c.said.ensures.1
+pub refuse-requires : goal.refuse-requires
+refuse-requires c = finds-below _ _ _ _ (omega (arith, c.requires.0, c.requires.2)) c.first_unlike-elsewhere.ensures
 
-pub returns-then-b-tris : goal.returns-then-b-tris
-returns-then-b-tris c =
-    let t = c.args in
-    on-otherwise t.rows t.tris t.work.now t.groups.now t.ways.now _ _ t.given.now _ c.first_unlike-a.ensures c.if-a-tris.false _ c.first_unlike-b.ensures c.if-b-tris.true c.said-then-b-tris.ensures.0 c.said-then-b-tris.ensures.1
+pub returns-in_err-refuse : goal.returns-in_err-refuse
+returns-in_err-refuse c =
+    let p = err_from_is_err_and c.from_residual.result c.from_residual.ensures.1 in
+    rw (p.1, p.2) (on-elsewhere _ _ _ _ _ _ _ (says _ _ _ _ _ c.refuse.ensures c.first_unlike-elsewhere.ensures) _ c.in_err-refuse.was)
 
-pub returns-then-c-tris : goal.returns-then-c-tris
-returns-then-c-tris c =
-    let t = c.args in
-    on-parted t.rows t.tris t.work.now t.groups.now t.ways.now _ _ t.given.now _ c.first_unlike-a.ensures c.if-a-tris.false _ c.first_unlike-b.ensures c.if-b-tris.false _ c.first_parted-c.ensures c.if-c-tris.true c.said-then-c-tris.ensures.0 c.said-then-c-tris.ensures.1
+pub refuse-requires-2 : goal.refuse-requires-2
+refuse-requires-2 c = finds-below _ _ _ _ (omega (arith, c.requires.0, c.requires.2)) c.first_unlike-otherwise.ensures
+
+pub returns-in_err-refuse-2 : goal.returns-in_err-refuse-2
+returns-in_err-refuse-2 c =
+    let p = err_from_is_err_and c.from_residual-in_err-refuse-2.result c.from_residual-in_err-refuse-2.ensures.1 in
+    rw (p.1, p.2) (on-otherwise _ _ _ _ _ _ _ (says _ _ _ _ _ c.refuse.ensures c.first_unlike-elsewhere.ensures) _ c.in_ok-refuse.was _ (says _ _ _ _ _ c.refuse-2.ensures c.first_unlike-otherwise.ensures) _ c.in_err-refuse-2.was)
 
 pub returns : goal.returns
 returns c =
-    let t = c.args in
-    on-beside t.rows t.tris t.work.now t.groups.now t.ways.now _ _ t.given.now _ c.first_unlike-a.ensures c.if-a-tris.false _ c.first_unlike-b.ensures c.if-b-tris.false _ c.first_parted-c.ensures c.if-c-tris.false c.said-2.ensures.0 c.said-2.ensures.1
+    on-parted _ _ _ _ _ _ _ (says _ _ _ _ _ c.refuse.ensures c.first_unlike-elsewhere.ensures) _ c.in_ok-refuse.was _ (says _ _ _ _ _ c.refuse-2.ensures c.first_unlike-otherwise.ensures) _ c.in_ok-refuse-2.was _ c.refuse_parted.ensures

@@ -1,24 +1,18 @@
 -- `fellows::examine_words` meets its contract. Assumes nothing.
-use Rattle.fellows.proofs.Stages.{on-no-flag, on-turned, on-loose, on-words}
-use native.Mathlib.Omega.{arith}
+use Rattle.std.proofs.lemmas.Result.{err_from_is_err_and}
+use Rattle.fellows.proofs.Stages.{on-no-flag, on-turned, on-loose}
 use Rattle.fellows.proofs.examine_words.Goals as goal
 
-pub returns-then-a-tris : goal.returns-then-a-tris
-returns-then-a-tris c =
-    let t = c.args in
-    on-no-flag t.rows t.tris t.work.now t.groups.now t.ways.now c.said.result.number c.said.result.place _ c.first_no_flag-a.ensures c.if-a-tris.true (omega (arith, c.said.ensures.0)) c.said.ensures.1
+pub returns-in_err-refuse_no_flag : goal.returns-in_err-refuse_no_flag
+returns-in_err-refuse_no_flag c =
+    let p = err_from_is_err_and c.from_residual.result c.from_residual.ensures.1 in
+    rw (p.1, p.2) (on-no-flag _ _ _ _ _ _ c.refuse_no_flag.ensures _ c.in_err-refuse_no_flag.was)
 
-pub returns-then-b-tris : goal.returns-then-b-tris
-returns-then-b-tris c =
-    let t = c.args in
-    on-turned t.rows t.tris t.work.now t.groups.now t.ways.now c.said-then-b-tris.result.number c.said-then-b-tris.result.place _ c.first_no_flag-a.ensures c.if-a-tris.false _ c.first_turned-b.ensures c.if-b-tris.true (omega (arith, c.said-then-b-tris.ensures.0)) c.said-then-b-tris.ensures.1
-
-pub returns-then-c-tris : goal.returns-then-c-tris
-returns-then-c-tris c =
-    let t = c.args in
-    on-loose t.rows t.tris t.work.now t.groups.now t.ways.now _ _ _ c.first_no_flag-a.ensures c.if-a-tris.false _ c.first_turned-b.ensures c.if-b-tris.false _ c.first_loose-c.ensures c.if-c-tris.true c.said-then-c-tris.ensures.0 c.said-then-c-tris.ensures.1
+pub returns-in_err-refuse_turned : goal.returns-in_err-refuse_turned
+returns-in_err-refuse_turned c =
+    let p = err_from_is_err_and c.from_residual-in_err-refuse_turned.result c.from_residual-in_err-refuse_turned.ensures.1 in
+    rw (p.1, p.2) (on-turned _ _ _ _ _ _ c.refuse_no_flag.ensures _ c.in_ok-refuse_no_flag.was _ c.refuse_turned.ensures _ c.in_err-refuse_turned.was)
 
 pub returns : goal.returns
 returns c =
-    let t = c.args in
-    on-words t.rows t.tris t.work.now t.groups.now t.ways.now _ _ _ c.first_no_flag-a.ensures c.if-a-tris.false _ c.first_turned-b.ensures c.if-b-tris.false _ c.first_loose-c.ensures c.if-c-tris.false c.said-2.ensures.0 c.said-2.ensures.1
+    on-loose _ _ _ _ _ _ c.refuse_no_flag.ensures _ c.in_ok-refuse_no_flag.was _ c.refuse_turned.ensures _ c.in_ok-refuse_turned.was _ c.refuse_loose.ensures

@@ -2,7 +2,7 @@
 use Prim.Native.Nat.{ℕ, ◌-◌}
 use native.Mathlib.Omega.{arith}
 use mathlib.Core.Path.{sym, ap, ◌∙◌}
-use Rattle.asked.proofs.Rows.{told, told-not}
+use Rattle.asked.proofs.Rows.{told-not, tells-differ}
 use Rattle.fellows.specs.Fellows.{shared}
 use Rattle.fellows.proofs.unlike_at.Goals as goal
 
@@ -21,15 +21,12 @@ value_at-a-requires c =
     let r = p.5.right _ p.0 in
     (omega (arith, r.is, r.low, p.0, c.first_at-f.ensures), p.1, p.2, p.4)
 
-pub returns-then-a-b : goal.returns-then-a-b
-returns-then-a-b c =
-    let a = c.args in
-    told (record {
-      some = λ z. c.if-word_at-eq0.false (c.word_at.ensures ∙ z);
-      differs = λ e. c.if-a-b.true (c.value_at-a.ensures ∙ (ap (λ (x : ℕ). shared a.rows a.work.now a.ways.now a.corner (x - 1)) c.first_at-f.ensures ∙ (e ∙ sym c.value_at-b.ensures)));
-    })
-
 pub returns : goal.returns
 returns c =
     let a = c.args in
-    told-not (λ u. u.differs (ap (λ (x : ℕ). shared a.rows a.work.now a.ways.now a.corner (x - 1)) (sym c.first_at-f.ensures) ∙ (sym c.value_at-a.ensures ∙ (c.if-a-b.false ∙ c.value_at-b.ensures))))
+    tells-differ _ _
+    (λ h. record {
+      some = λ z. c.if-word_at-eq0.false (c.word_at.ensures ∙ z);
+      differs = λ e. h (c.value_at-a.ensures ∙ (ap (λ (x : ℕ). shared a.rows a.work.now a.ways.now a.shared (x - 1)) c.first_at-f.ensures ∙ (e ∙ sym c.value_at-b.ensures)));
+    })
+    (λ h u. u.differs (ap (λ (x : ℕ). shared a.rows a.work.now a.ways.now a.shared (x - 1)) (sym c.first_at-f.ensures) ∙ (sym c.value_at-a.ensures ∙ (h ∙ c.value_at-b.ensures))))

@@ -2,6 +2,7 @@
 use Prim.Native.Nat.{ℕ, ◌+◌, ◌<◌}
 use native.Mathlib.Omega.{arith}
 use mathlib.Core.Path.{ap, subst}
+use Rattle.std.proofs.Common.{unwrap_or}
 use Rattle.table.specs.Columns.{head_column}
 use Rattle.table.specs.Table.{put}
 use Rattle.firsts.specs.Firsts.{Runs}
@@ -31,4 +32,4 @@ pub returns : goal.returns
 returns c =
     let o = c.order_at-r.ensures in
     let a = c.args in
-    record { runs = subst (λ (x : ℕ). Runs a.n a.groups.now a.first x c.run_first-f.result) o c.run_first-f.ensures; puts = ap (λ (x : ℕ). put a.rows head_column x (c.run_first-f.result + 1) a.work.now) o }
+    record { runs = subst (λ (x : ℕ). Runs a.n a.groups.now (unwrap_or a.first a.n) x c.run_first-f.result) o c.run_first-f.ensures; puts = ap (λ (x : ℕ). put a.rows head_column x (c.run_first-f.result + 1) a.work.now) o }

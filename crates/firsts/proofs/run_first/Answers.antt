@@ -4,15 +4,11 @@ use mathlib.Core.Path.{sym, ◌∙◌}
 use Rattle.firsts.specs.Firsts.{begins, goes_on}
 use Rattle.firsts.proofs.run_first.Goals as goal
 
-pub returns-then-first-n : goal.returns-then-first-n
-returns-then-first-n c = begins (λ l al. omega (arith, l, c.if-first-n.true))
+pub returns-in-Some : goal.returns-in-Some
+returns-in-Some c = rw c.in-Some.is (goes_on (rw c.in-Some.is at c.requires.1) (sym c.word_at.ensures ∙ (c.if-word_at-word.true ∙ c.word_at-word.ensures)))
 
-pub word_at-requires : goal.word_at-requires
-word_at-requires c = omega (arith, c.if-first-n.false, c.requires.1, c.requires.2)
+pub returns-in_default : goal.returns-in_default
+returns-in_default c = rw c.in-Some.is (begins (λ l al. c.if-word_at-word.false (c.word_at.ensures ∙ (al ∙ sym c.word_at-word.ensures))))
 
-pub returns-then-word_at : goal.returns-then-word_at
-returns-then-word_at c = begins (λ l al. c.if-word_at.true (c.word_at.ensures ∙ (al ∙ sym c.word_at-2.ensures)))
-
-pub returns : goal.returns
-returns c =
-    goes_on (omega (arith, c.if-first-n.false, c.requires.1)) (sym c.word_at.ensures ∙ (c.if-word_at.false ∙ c.word_at-2.ensures))
+pub returns-in_default-2 : goal.returns-in_default-2
+returns-in_default-2 c = rw c.in_default.is (begins (λ l al. omega (arith, l)))

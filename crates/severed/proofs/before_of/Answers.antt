@@ -6,5 +6,5 @@ use Rattle.severed.proofs.before_of.Goals as goal
 pub returns-then-r-eq0 : goal.returns-then-r-eq0
 returns-then-r-eq0 c = end_back _ _ (λ e. refl) (λ ne. absurd (ne c.if-r-eq0.true))
 
-pub returns : goal.returns
-returns c = end_back _ _ (λ e. absurd (c.if-r-eq0.false e)) (λ ne. refl)
+pub returns-else-r-eq0 : goal.returns-else-r-eq0
+returns-else-r-eq0 c = end_back _ _ (λ e. absurd (c.if-r-eq0.false e)) (λ ne. refl)

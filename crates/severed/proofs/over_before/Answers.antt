@@ -1,6 +1,7 @@
 -- `severed::over_before` meets its contract. Assumes nothing.
 use Prim.Native.Nat.{◌*◌, ◌<◌, ◌≤◌}
 use native.Mathlib.Omega.{arith}
+use mathlib.Core.Bool.{true}
 use mathlib.Core.Path.{refl, sym, subst}
 use lib.ListN.{get_or}
 use Rattle.asked.proofs.Rows.{not-lt}
@@ -14,11 +15,11 @@ word_at-word-requires c =
     omega (arith, b, c.requires.2)
 
 pub returns-then-word-eq0 : goal.returns-then-word-eq0
-returns-then-word-eq0 c = way-before-none _ _ _ _ _ _ refl c.before_of.ensures c.word_at-word.ensures c.if-word-eq0.true
+returns-then-word-eq0 c = way-before-none c.args.tris c.args.given.now true c.args.x _ _ refl c.before_of.ensures c.word_at-word.ensures c.if-word-eq0.true
 
 pub returns : goal.returns
 returns c =
     let a = c.args in
     let l = end_below c.before_of.result a.tris (subst (λ z. z < 3 * a.tris) (sym c.before_of.ensures) c.requires.0) in
     let w : get_or a.given.now c.before_of.result 0 ≤ 3 * a.tris = not-lt _ _ (c.requires.3 c.before_of.result l) in
-    way-before-to _ _ _ _ _ _ refl c.before_of.ensures c.word_at-word.ensures c.if-word-eq0.false (omega (arith, w, c.word_at-word.ensures))
+    way-before-to a.tris a.given.now true a.x _ _ refl c.before_of.ensures c.word_at-word.ensures c.if-word-eq0.false (omega (arith, w, c.word_at-word.ensures))

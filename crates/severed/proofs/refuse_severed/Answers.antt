@@ -1,9 +1,9 @@
--- `severed::first_severed` meets its contract. Assumes nothing.
+-- `severed::refuse_severed` meets its contract. Assumes nothing.
 use native.Mathlib.Omega.{arith}
-use mathlib.Core.Path.{◌∙◌}
+use mathlib.Core.Path.{refl, ◌∙◌}
 use Rattle.view.proofs.Frame.{only_none, only-trans}
 use Rattle.severed.proofs.Steps.{only-cleared, walks-none, walks-all, walks-connected, firsts-kept}
-use Rattle.severed.proofs.first_severed.Goals as goal
+use Rattle.severed.proofs.refuse_severed.Goals as goal
 
 pub clear-requires : goal.clear-requires
 clear-requires c = (omega arith, c.requires.2)
@@ -38,7 +38,11 @@ returns-then-severed_at c =
     let a = c.args in
     let o = only-cleared a.rows a.tris a.given.now a.groups.now a.work.now _ c.clear.ensures in
     let z = only-trans _ _ _ _ _ o (only-trans _ _ _ _ _ l.invariant.2 c.severed_at.ensures.only) in
-    record { lowest = (λ vertex F. c.severed_at.ensures.turn.objects c.if-severed_at.true l.invariant.1 vertex F); connected = (λ h. absurd (omega (arith, h, c.loop-r-test.true))); only = z }
+    record {
+      says = λ vertex F. let L = c.severed_at.ensures.turn.objects c.if-severed_at.true l.invariant.1 vertex F in (refl, c.loop-r-test.true, L.here c.loop-r-test.true, L.none);
+      connected = tt;
+      only = z;
+    }
 
 pub overflow_step-r : goal.overflow_step-r
 overflow_step-r c = omega (arith, c.loop-r-test.true)
@@ -50,9 +54,6 @@ pub loop-r-preserved : goal.loop-r-preserved
 loop-r-preserved c =
     let l = c.loop-r in
     (omega (arith, c.loop-r-test.true), c.severed_at.ensures.turn.goes_on c.if-severed_at.false l.invariant.1, only-trans _ _ _ _ _ l.invariant.2 c.severed_at.ensures.only)
-
-pub overflow_mul-result : goal.overflow_mul-result
-overflow_mul-result c = omega (arith, c.requires.0, c.requires.1)
 
 pub shape_of-work : goal.shape_of-work
 shape_of-work c =
@@ -68,4 +69,8 @@ returns c =
     let a = c.args in
     let o = only-cleared a.rows a.tris a.given.now a.groups.now a.work.now _ c.clear.ensures in
     let z = only-trans _ _ _ _ _ o l.invariant.2 in
-    record { lowest = (λ vertex F. walks-all _ _ _ _ _ _ l.invariant.0 c.loop-r-test.false l.invariant.1 vertex F); connected = (λ _ vertex F. walks-connected _ _ _ _ _ _ c.loop-r-test.false l.invariant.1 vertex F); only = z }
+    record {
+      says = λ vertex F. (walks-all _ _ _ _ _ _ l.invariant.0 c.loop-r-test.false l.invariant.1 vertex F).none;
+      connected = λ vertex F. walks-connected _ _ _ _ _ _ c.loop-r-test.false l.invariant.1 vertex F;
+      only = z;
+    }
