@@ -28,8 +28,8 @@ group_mesh-counts-requires c =
     let F = fine (shown (given a.mesh.now) a.threshold (length a.answer.now) (length a.work.now)) c.requires in
     (F.few, omega (arith, F.work-fits))
 
-pub overflow_mul-2 : goal.overflow_mul-2
-overflow_mul-2 c =
+pub overflow_mul-faces : goal.overflow_mul-faces
+overflow_mul-faces c =
     let a = c.args in
     let F = fine (shown (given a.mesh.now) a.threshold (length a.answer.now) (length a.work.now)) c.requires in
     omega (arith, F.few)
@@ -43,8 +43,8 @@ finish_frames-requires c =
     let R = counts-fit m _ a.work.now _ L in
     (omega arith, refl, R.0, R.1, L.few, L.small, omega (arith, F.work-fits, L.only.size), all-ranged m _ a.work.now _ L F.good (omega (arith, F.work-fits)))
 
-pub overflow_mul-faces : goal.overflow_mul-faces
-overflow_mul-faces c =
+pub overflow_mul-faces-2 : goal.overflow_mul-faces-2
+overflow_mul-faces-2 c =
     let a = c.args in
     let F = fine (shown (given a.mesh.now) a.threshold (length a.answer.now) (length a.work.now)) c.requires in
     omega (arith, F.few)
