@@ -1,7 +1,8 @@
 -- What is read in the columns: the row at a place, a row's corner and position, and which of that stands where a column is altered. Assumes nothing.
-use Rattle.std.proofs.Common.{◌≡◌, ℕ, suc, ◌+◌, ◌*◌, ◌<◌, ◌≤◌, min, true, List, length, get_or, take, sym, refl, ap, ◌∙◌, arith, drop_of_length-le, length-take, length-take-le, get_or-take}
+use Rattle.std.proofs.Common.{◌≡◌, ℕ, suc, ◌+◌, ◌-◌, ◌*◌, ◌<◌, ◌≤◌, min, true, List, length, get_or, take, drop, sym, refl, ap, ◌∙◌, arith, drop_of_length-le, length-take, length-take-le, get_or-take}
 use lib.ListN.{get_or-eq_default}
-use lib.Seq.{slice, slice-cons}
+use lib.Seq.{slice, slice-cons, take-take, drop-drop}
+use Rattle.std.proofs.lemmas.List.{drop-take}
 use lib.Ieee.{Float}
 use Rattle.math.specs.declared.Vec3.{Vec3}
 use Rattle.lists.specs.Lists.{run}
@@ -30,6 +31,18 @@ module _ (rows n : ℕ) (w : List ℕ) where
 
   pub order-long : n ≤ rows → columns * rows ≤ length w → length (order rows n w) ≡ n
   order-long h k = let z = length-column rows w order_column (omega arith) in length-take-le n (column rows order_column w) (omega (arith, z))
+
+-- the rows at some places, as they stand in the work list
+pub rows-are : (rows from to n : ℕ) (w : List ℕ) → from ≤ to → to ≤ rows → to ≤ n → take (order_column * rows + to - (order_column * rows + from)) (drop (order_column * rows + from) w) ≡ slice from to (order rows n w)
+unfolding column
+rows-are rows from to n w h k m =
+    let D : List ℕ = drop (order_column * rows) w in
+    ap (λ (j : ℕ). take j (drop (order_column * rows + from) w)) (let e : order_column * rows + to - (order_column * rows + from) ≡ to - from = omega arith in e)
+    ∙ ap (take (to - from)) (sym (drop-drop from (order_column * rows) w))
+    ∙ sym (drop-take from (to - from) D)
+    ∙ ap (λ (j : ℕ). drop from (take j D)) (let e : from + (to - from) ≡ to = omega arith in e)
+    ∙ ap (drop from) (sym (take-take to rows D k))
+    ∙ ap (drop from) (sym (take-take to n (take rows D) m))
 
 -- the position of a row's corner
 pub place_is : (ps ns ts : List Float) (rows : ℕ) (w : List ℕ) → ◌≡◌ {A = ℕ → Vec3} (λ r. (corner_of_row ps ns ts rows w r).place) (place_of_row ps rows w)
