@@ -5,8 +5,12 @@ use native.Mathlib.Numerals.{add-one}
 use native.Mathlib.Omega.{arith}
 use mathlib.Core.Path.{◌≡◌, refl, sym, ap, ◌∙◌}
 use mathlib.Core.List.{List, [], ◌∷◌, ◌++◌}
+use Rattle.std.proofs.Common.{append_assoc}
 use lib.ListN.{length, get_or, set, take, drop}
 use lib.Seq.{sets, sets-eq, take-suc, length-take-le}
+use borrow.Rule.Slice.PartMut.{put_mid}
+use Rattle.std.proofs.lemmas.Slice.{put_mid-paste}
+use Rattle.std.proofs.lemmas.List.Edits.{paste_all}
 use Rattle.table.proofs.Laws.{sets-snoc}
 use Rattle.lists.specs.Parts.{joined}
 use Rattle.lists.proofs.Parts.{joined-more}
@@ -24,18 +28,10 @@ sets-front l xs n e h =
     from_zero : 0 + length xs ≡ n
     from_zero = omega arith
 
--- four stores as one run
-pub four-stores : (l : List ℕ) (p a b c d : ℕ) → set (set (set (set l p a) (p + 1) b) (p + 2) c) (p + 3) d ≡ sets l p (a ∷ b ∷ c ∷ d ∷ [])
-four-stores l p a b c d = λ z. set (set (set (set l p a) (one z) b) (two z) c) (three z) d
-  where
-    one : p + 1 ≡ suc p
-    one = omega arith
-
-    two : p + 2 ≡ suc (suc p)
-    two = omega arith
-
-    three : p + 3 ≡ suc (suc (suc p))
-    three = omega arith
+-- a part that is written whole, as a run
+pub part-written : (l ys xs : List ℕ) (p k : ℕ) → ys ≡ xs → length xs ≡ k → p + k ≤ length l → put_mid p k l ys ≡ sets l p xs
+part-written l ys xs p k e n h =
+    put_mid-paste p k l ys xs k e refl (sym n) ∙ (paste_all l p xs k (sym n) ∙ sym (sets-eq xs l p (omega arith) ∙ (append_assoc (take p l) xs (drop (p + length xs) l) ∙ ap (λ (i : ℕ). take p l ++ (xs ++ drop (p + i) l)) n)))
 
 -- one store more of a run
 pub sets_more : (a u ws : List ℕ) (p i : ℕ) → i < length ws → u ≡ sets a p (take i ws) → set u (p + i) (get_or ws i 0) ≡ sets a p (take (i + 1) ws)
