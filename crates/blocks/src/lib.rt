@@ -145,13 +145,7 @@ fn headed(card: &[u8], p: usize, h: [u32; HEADER_WORDS]) -> bool
     requires { 4 * (p + format.header_words) ≤ length card.now }
     ensures { result ≡ every_below format.header_words (λ i. eqb (word_at card.now (p + i)) (get_or h i 0)) }
 {
-    (words::word_at(card, p) == h[0])
-        & (words::word_at(card, p + 1) == h[1])
-        & (words::word_at(card, p + 2) == h[2])
-        & (words::word_at(card, p + 3) == h[3])
-        & (words::word_at(card, p + 4) == h[4])
-        & (words::word_at(card, p + 5) == h[5])
-        & (words::word_at(card, p + 6) == h[6])
+    (0..HEADER_WORDS).all(|i| words::word_at(card, p + i) == h[i])
 }
 
 // Whether each of `count` records of `wide` words from word p on has 0 or 1 in its word 0.
@@ -159,12 +153,7 @@ fn records_marked(card: &[u8], p: usize, wide: usize, count: usize) -> bool
     requires { (4 * (p + wide * count) ≤ length card.now) × (0 < wide) }
     ensures { result ≡ every_below count (λ r. leb (word_at card.now (p + wide * r)) 1) }
 {
-    for r in 0..count {
-        if 1 < words::word_at(card, p + wide * r) {
-            return false;
-        }
-    }
-    true
+    (0..count).all(|r| words::word_at(card, p + wide * r) <= 1)
 }
 
 // Whether each record of block b has 0 or 1 in its word 0; they stand from word p on.
@@ -180,12 +169,7 @@ fn emptied(card: &[u8], p: usize, count: usize) -> bool
     requires { 4 * (p + count) ≤ length card.now }
     ensures { result ≡ every_below count (λ i. eqb (word_at card.now (p + i)) 0) }
 {
-    for i in 0..count {
-        if words::word_at(card, p + i) != 0 {
-            return false;
-        }
-    }
-    true
+    (0..count).all(|i| words::word_at(card, p + i) == 0)
 }
 
 // Whether the last word of the block from word p on is the complement of the sum of the others.
@@ -223,9 +207,7 @@ fn clear(answer: &mut [u32], p: usize, count: usize)
     requires { p + count ≤ length answer.old }
     ensures { answer.new ≡ sets answer.old p (replicate count 0) }
 {
-    for i in 0..count {
-        answer[p + i] = 0;
-    }
+    answer[p..p + count].fill(0);
 }
 
 // One record of `wide` words made lost, from word p on.
