@@ -1,8 +1,8 @@
--- `blocks::record_words` meets its contract. Assumes nothing.
+-- `blocks::Kind::record_words` meets its contract. Assumes nothing.
 use native.Mathlib.Omega.{arith}
 use mathlib.Core.Path.{sym, ap}
 use Rattle.blocks.specs.Format.{record_words}
-use Rattle.blocks.proofs.record_words.Goals as goal
+use Rattle.blocks.proofs.Kind.record_words.Goals as goal
 
 pub returns-in-Ten : goal.returns-in-Ten
 unfolding record_words

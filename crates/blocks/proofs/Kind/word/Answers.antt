@@ -1,7 +1,7 @@
--- `blocks::kind_word` meets its contract. Assumes nothing.
+-- `blocks::Kind::word` meets its contract. Assumes nothing.
 use mathlib.Core.Path.{sym, ap}
 use Rattle.blocks.specs.Format.{kind_word}
-use Rattle.blocks.proofs.kind_word.Goals as goal
+use Rattle.blocks.proofs.Kind.word.Goals as goal
 
 pub returns-in-Ten : goal.returns-in-Ten
 unfolding kind_word

@@ -1,8 +1,8 @@
--- `blocks::records_held` meets its contract. Assumes nothing.
+-- `blocks::Kind::records_held` meets its contract. Assumes nothing.
 use native.Mathlib.Omega.{arith}
 use mathlib.Core.Path.{sym, ap}
 use Rattle.blocks.specs.Format.{records_held}
-use Rattle.blocks.proofs.records_held.Goals as goal
+use Rattle.blocks.proofs.Kind.records_held.Goals as goal
 
 pub returns-in-Ten : goal.returns-in-Ten
 unfolding records_held
