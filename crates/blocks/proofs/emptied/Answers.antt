@@ -15,4 +15,4 @@ pub returns : goal.returns
 returns c =
     let a = c.args in
     let zero_at = λ (i : ℕ). eqb (word_at a.card.now (a.p + i)) 0 in
-    range_every zero_at a.count _ (cases_from_all _ _ _ (λ i. zero_at i ≡ true) (λ i. zero_at i ≡ false) c.all.ensures.ran (YieldsList-from_range 0 a.count a.count refl (omega arith)) (λ x q k. search (rules, tests)) (λ x q k. search (rules, tests)))
+    range_every zero_at a.count _ (cases_from_all _ _ _ (λ i. zero_at i ≡ true) (λ i. zero_at i ≡ false) c.all.ensures.ran (YieldsList-from_range 0 a.count a.count refl (omega arith)) (λ x q k. (search rules, search (rules, tests))) (λ x q k. search (rules, tests)))

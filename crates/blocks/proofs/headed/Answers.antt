@@ -16,4 +16,4 @@ pub returns : goal.returns
 returns c =
     let a = c.args in
     let same = λ (i : ℕ). eqb (word_at a.card.now (a.p + i)) (get_or a.h i 0) in
-    range_every same 7 _ (cases_from_all _ _ _ (λ i. same i ≡ true) (λ i. same i ≡ false) c.all.ensures.ran (YieldsList-from_range 0 7 7 refl (omega arith)) (λ x q k. search (rules, tests)) (λ x q k. search (rules, tests)))
+    range_every same 7 _ (cases_from_all _ _ _ (λ i. same i ≡ true) (λ i. same i ≡ false) c.all.ensures.ran (YieldsList-from_range 0 7 7 refl (omega arith)) (λ x q k. (search rules, search (rules, tests))) (λ x q k. search (rules, tests)))

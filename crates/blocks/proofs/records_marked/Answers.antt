@@ -15,4 +15,4 @@ pub returns : goal.returns
 returns c =
     let a = c.args in
     let marked = λ (i : ℕ). leb (word_at a.card.now (a.p + a.wide * i)) 1 in
-    range_every marked a.count _ (cases_from_all _ _ _ (λ i. marked i ≡ true) (λ i. marked i ≡ false) c.all.ensures.ran (YieldsList-from_range 0 a.count a.count refl (omega arith)) (λ x q k. search (rules, tests)) (λ x q k. search (rules, tests)))
+    range_every marked a.count _ (cases_from_all _ _ _ (λ i. marked i ≡ true) (λ i. marked i ≡ false) c.all.ensures.ran (YieldsList-from_range 0 a.count a.count refl (omega arith)) (λ x q k. (search rules, search (rules, tests))) (λ x q k. search (rules, tests)))

@@ -1,4 +1,4 @@
--- `cards::write_as` meets its contract. Assumes nothing.
+-- `cards::try_write` meets its contract. Assumes nothing.
 use native.Mathlib.Omega.{arith}
 use Prim.Native.Nat.{ℕ, ◌*◌, ◌≤◌, ◌<◌}
 use mathlib.Core.Path.{◌≡◌, sym, ap, ◌∙◌, subst}
@@ -11,10 +11,10 @@ use Rattle.blocks.proofs.Counts.{words-in}
 use Rattle.cards.specs.Writer.{records_of, writable, card_bytes, blocks_of, not_written, card_of, card_written}
 use Rattle.cards.specs.Contract.{after_write}
 use Rattle.cards.proofs.Outcomes.{few-records, wrote-0, wrote-1, wrote-2}
-use Rattle.cards.proofs.write_as.Goals as goal
-use Rattle.cards.proofs.write_as.Tie as tie
-use Rattle.cards.proofs.write_as.Lts as lts
-use Rattle.cards.proofs.write_as.Reads as reads
+use Rattle.cards.proofs.try_write.Goals as goal
+use Rattle.cards.proofs.try_write.Tie as tie
+use Rattle.cards.proofs.try_write.Lts as lts
+use Rattle.cards.proofs.try_write.Reads as reads
 
 abbrev At-Else-not-writable : Type 0
 At-Else-not-writable = lts.Else1 tie.the-claims reads.Pre reads.Post

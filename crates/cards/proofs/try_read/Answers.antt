@@ -1,4 +1,4 @@
--- `cards::read_as` meets its contract. Assumes nothing.
+-- `cards::try_read` meets its contract. Assumes nothing.
 use native.Mathlib.Omega.{arith}
 use Prim.Native.Nat.{◌*◌, ◌≤◌}
 use mathlib.Core.Path.{sym, ◌∙◌}
@@ -8,10 +8,10 @@ use Rattle.blocks.proofs.Counts.{words-in, words-out}
 use Rattle.cards.specs.Writer.{records_of}
 use Rattle.cards.specs.Contract.{after_read}
 use Rattle.cards.proofs.Outcomes.{got-0, got-2}
-use Rattle.cards.proofs.read_as.Goals as goal
-use Rattle.cards.proofs.read_as.Tie as tie
-use Rattle.cards.proofs.read_as.Lts as lts
-use Rattle.cards.proofs.read_as.Reads as reads
+use Rattle.cards.proofs.try_read.Goals as goal
+use Rattle.cards.proofs.try_read.Tie as tie
+use Rattle.cards.proofs.try_read.Lts as lts
+use Rattle.cards.proofs.try_read.Reads as reads
 
 abbrev At-Else-records_of-total : Type 0
 At-Else-records_of-total = lts.Else1 tie.the-claims reads.Pre reads.Post
