@@ -1,4 +1,4 @@
--- `appends::append_as` meets its contract. Assumes nothing.
+-- `appends::try_append` meets its contract. Assumes nothing.
 use native.Mathlib.Omega.{arith}
 use Prim.Native.Nat.{ℕ, ◌*◌, ◌/◌, ◌≤◌, ◌<◌}
 use mathlib.Core.Path.{◌≡◌, sym, ◌∙◌, ap}
@@ -13,13 +13,12 @@ use Rattle.cards.proofs.Outcomes.{few-records}
 use Rattle.appends.specs.Next.{overfull, first_torn, place_of}
 use Rattle.appends.specs.Append.{are_next, not_added, now_added}
 use Rattle.appends.specs.Contract.{after_append}
-use Rattle.appends.specs.declared.Appended.{Appended}
 use Rattle.appends.proofs.Counts.{torn-among}
 use Rattle.appends.proofs.Outcomes.{added-1, added-2, added-3, added-by}
-use Rattle.appends.proofs.append_as.Goals as goal
-use Rattle.appends.proofs.append_as.Tie as tie
-use Rattle.appends.proofs.append_as.Lts as lts
-use Rattle.appends.proofs.append_as.Reads as reads
+use Rattle.appends.proofs.try_append.Goals as goal
+use Rattle.appends.proofs.try_append.Tie as tie
+use Rattle.appends.proofs.try_append.Lts as lts
+use Rattle.appends.proofs.try_append.Reads as reads
 
 abbrev At-Else-not-writable : Type 0
 At-Else-not-writable = lts.Else1 tie.the-claims reads.Pre reads.Post
@@ -73,8 +72,7 @@ pub returns-then-not-writable : goal.returns-then-not-writable
 unfolding after_append not_added
 returns-then-not-writable c =
     let a = c.args in
-    ap (λ (r : Appended). after_append r a.lent.now) c.refused.ensures
-    ∙ sym (added-1 a.kind a.total a.long a.records.now a.lent.now (sym c.writable.ensures ∙ c.if-not-writable.true))
+    sym (added-1 a.kind a.total a.long a.records.now a.lent.now (sym c.writable.ensures ∙ c.if-not-writable.true))
 
 pub overflow_cast-count : goal.overflow_cast-count
 overflow_cast-count c = omega (arith, few c.before)
@@ -86,15 +84,13 @@ pub returns-then-lent-made : goal.returns-then-lent-made
 unfolding after_append not_added card_bytes
 returns-then-lent-made c =
     let a = c.args in
-    ap (λ (r : Appended). after_append r a.lent.now) c.refused-then-lent-made.ensures
-    ∙ sym (added-2 a.kind a.total a.long a.records.now a.lent.now (can c.before.before.before.before.before) (omega (arith, c.if-lent-made.true, made-is c.before.before.before)))
+    sym (added-2 a.kind a.total a.long a.records.now a.lent.now (can c.before.before.before.before) (omega (arith, c.if-lent-made.true, made-is c.before.before)))
 
 pub returns-then-overfull : goal.returns-then-overfull
 unfolding after_append not_added
 returns-then-overfull c =
     let a = c.args in
-    ap (λ (r : Appended). after_append r a.lent.now) c.refused-then-overfull.ensures
-    ∙ sym (added-3 a.kind a.total a.long a.records.now a.lent.now (can c.before.before.before.before.before.before.before) (room c.before.before.before.before) (sym c.overfull.ensures ∙ c.if-overfull.true))
+    sym (added-3 a.kind a.total a.long a.records.now a.lent.now (can c.before.before.before.before.before.before) (room c.before.before.before) (sym c.overfull.ensures ∙ c.if-overfull.true))
 
 -- the torn block's number is small
 first_fits : (c : At-Else-overfull) → let a = c.args in a.long / block_bytes ≤ word_values
@@ -109,11 +105,8 @@ are_next-requires c = first_fits c.before
 pub returns-then-not-are_next : goal.returns-then-not-are_next
 unfolding after_append not_added
 returns-then-not-are_next c =
-    let r = c in
-    let i = r in
-    let a = i.args in
-    ap (λ (r : Appended). after_append r a.lent.now) c.refused-then-not-are_next.ensures
-    ∙ sym (added-by a.kind a.total a.long a.records.now a.lent.now (can i.before.before.before.before.before.before.before.before.before) (room r.before.before.before.before.before.before) (within c.before.before.before.before) false (sym (told c.before.before.before) ∙ c.if-not-are_next.true))
+    let a = c.args in
+    sym (added-by a.kind a.total a.long a.records.now a.lent.now (can c.before.before.before.before.before.before.before.before) (room c.before.before.before.before.before) (within c.before.before.before) false (sym (told c.before.before) ∙ c.if-not-are_next.true))
 
 pub put_blocks-requires : goal.put_blocks-requires
 unfolding first_torn

@@ -1,11 +1,11 @@
--- `appends::next_block_as` meets its contract. Assumes nothing.
+-- `appends::try_next` meets its contract. Assumes nothing.
 use native.Mathlib.Omega.{arith}
 use mathlib.Core.Path.{sym, ◌∙◌}
 use mathlib.Core.Bool.{true, false}
 use Rattle.appends.specs.Next.{first_torn, place_of}
 use Rattle.appends.specs.Contract.{after_next}
 use Rattle.appends.proofs.Outcomes.{next-is, following-by}
-use Rattle.appends.proofs.next_block_as.Goals as goal
+use Rattle.appends.proofs.try_next.Goals as goal
 
 pub returns-then-overfull : goal.returns-then-overfull
 unfolding after_next
