@@ -1,11 +1,11 @@
--- `packed::pack` meets its contract. Assumes nothing.
+-- `packed::try_pack` meets its contract. Assumes nothing.
 use Prim.Native.Nat.{◌*◌}
 use native.Mathlib.Omega.{arith}
 use mathlib.Core.Path.{◌∙◌}
 use Rattle.packed.specs.Packer.{packed_words, slots_in, all_packed, not_packed}
 use Rattle.packed.specs.Contract.{after_pack}
 use Rattle.packed.proofs.Outcomes.{pack-broken, pack-short, pack-done}
-use Rattle.packed.proofs.pack.Goals as goal
+use Rattle.packed.proofs.try_pack.Goals as goal
 
 pub returns-then-answer-ne0 : goal.returns-then-answer-ne0
 unfolding after_pack not_packed
