@@ -1,6 +1,6 @@
 -- Which outcome it is, by the tests. Assumes nothing.
-use Prim.Native.Nat.{ℕ, ◌≤◌, ◌<◌}
-use mathlib.Core.Path.{◌≡◌, ap, ◌∙◌}
+use Prim.Native.Nat.{ℕ, ◌+◌, ◌≤◌, ◌<◌}
+use mathlib.Core.Path.{◌≡◌, refl, ap, ◌∙◌}
 use mathlib.Core.Bool.{Bool, true, false, cond}
 use mathlib.Core.List.{List}
 use lib.ListN.{length}
@@ -8,8 +8,20 @@ use borrow.Author.Tests.{le-leb, lt-leb}
 use Rattle.blocks.specs.declared.Kind.{Kind}
 use Rattle.blocks.specs.Format.{records_used}
 use Rattle.cards.specs.Writer.{records_of, writable, card_bytes}
+use denote.Enum.Declared.{tag_of}
+use Rattle.appends.specs.contracts.Refusal.{the_type}
+use Rattle.appends.specs.declared.Refusal.{Refusal}
+use Rattle.appends.specs.declared.Refusal.TheVariants.{Unwritable, TooShort, Overfull, NotNext}
+use Rattle.appends.specs.Contract.{number_of}
 use Rattle.appends.specs.Next.{overfull, first_torn, place_of, Following, following}
 use Rattle.appends.specs.Append.{are_next, not_added, now_added, append_left}
+
+-- the number that a refusal is declared with
+pub number-is : (r : Refusal) → tag_of the_type r + 1 ≡ number_of r
+number-is Unwritable = refl
+number-is TooShort = refl
+number-is Overfull = refl
+number-is NotNext = refl
 
 module _ (kind : Kind) (n long : ℕ) where
   abbrev pub none-next : Following

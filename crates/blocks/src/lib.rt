@@ -9,7 +9,7 @@ ghost use Rattle.blocks.specs.Format as format;
 ghost use Rattle.blocks.specs.Judged as spec;
 
 // The kinds of cards: E1's, whose records have ten words, and E7's, whose records have twelve.
-#[derive(Clone, Copy)]
+#[derive(Clone, Copy, PartialEq, Eq, Debug)]
 pub enum Kind {
     Ten,
     Twelve,
@@ -35,33 +35,35 @@ pub const TWELVE_WORDS: usize = 12;
 
 pub const TWELVES_HELD: usize = 10;
 
-// The words of a record.
-pub fn record_words(kind: Kind) -> usize
-    ensures { (result ≡ format.record_words kind) × (0 < result) }
-{
-    match kind {
-        Kind::Ten => TEN_WORDS,
-        Kind::Twelve => TWELVE_WORDS,
+impl Kind {
+    // The words of a record.
+    pub fn record_words(self) -> usize
+        ensures { (result ≡ format.record_words self) × (0 < result) }
+    {
+        match self {
+            Kind::Ten => TEN_WORDS,
+            Kind::Twelve => TWELVE_WORDS,
+        }
     }
-}
 
-// How many records a block holds.
-pub fn records_held(kind: Kind) -> usize
-    ensures { (result ≡ format.records_held kind) × (0 < result) × (result ≤ format.room_words) }
-{
-    match kind {
-        Kind::Ten => TENS_HELD,
-        Kind::Twelve => TWELVES_HELD,
+    // How many records a block holds.
+    pub fn records_held(self) -> usize
+        ensures { (result ≡ format.records_held self) × (0 < result) × (result ≤ format.room_words) }
+    {
+        match self {
+            Kind::Ten => TENS_HELD,
+            Kind::Twelve => TWELVES_HELD,
+        }
     }
-}
 
-// Word 3 of a block.
-fn kind_word(kind: Kind) -> u32
-    ensures { result ≡ format.kind_word kind }
-{
-    match kind {
-        Kind::Ten => 0,
-        Kind::Twelve => 2,
+    // Word 3 of a block.
+    fn word(self) -> u32
+        ensures { result ≡ format.kind_word self }
+    {
+        match self {
+            Kind::Ten => 0,
+            Kind::Twelve => 2,
+        }
     }
 }
 
@@ -69,7 +71,7 @@ fn kind_word(kind: Kind) -> u32
 pub fn blocks_for(kind: Kind, total: u32) -> usize
     ensures { (result ≡ format.blocks_for kind total) × (result ≤ total) }
 {
-    let held = records_held(kind);
+    let held = kind.records_held();
     (total as usize + (held - 1)) / held
 }
 
@@ -78,7 +80,7 @@ pub fn records_before(kind: Kind, b: usize) -> usize
     requires { b ≤ word_values }
     ensures { (result ≡ format.records_held kind * b) × (result ≤ format.room_words * b) }
 {
-    records_held(kind) * b
+    kind.records_held() * b
 }
 
 // How many of the records are in block b.
@@ -87,11 +89,7 @@ pub fn records_used(kind: Kind, total: u32, b: usize) -> usize
     ensures { (result ≡ format.records_used kind total b) × (result ≤ format.room_words) × (b < total) }
 {
     let left = total as usize - records_before(kind, b);
-    let held = records_held(kind);
-    if left < held {
-        return left;
-    }
-    held
+    left.min(kind.records_held())
 }
 
 // And how many words they are.
@@ -99,7 +97,7 @@ fn used_words(kind: Kind, total: u32, b: usize) -> usize
     requires { format.records_held kind * b < total }
     ensures { (result ≡ format.used_words kind total b) × (result ≤ format.room_words) × (b < total) }
 {
-    record_words(kind) * records_used(kind, total, b)
+    kind.record_words() * records_used(kind, total, b)
 }
 
 // The words of block b before its records.
@@ -108,7 +106,7 @@ fn header(kind: Kind, total: u32, b: usize) -> [u32; HEADER_WORDS]
     ensures { result ≡ format.header kind total b }
 {
     let used = records_used(kind, total, b) as u32;
-    [b as u32, used, total, kind_word(kind), 0, 0, 0]
+    [b as u32, used, total, kind.word(), 0, 0, 0]
 }
 
 // The last word of a block whose other words have this sum.
@@ -145,13 +143,7 @@ fn headed(card: &[u8], p: usize, h: [u32; HEADER_WORDS]) -> bool
     requires { 4 * (p + format.header_words) ≤ length card.now }
     ensures { result ≡ every_below format.header_words (λ i. eqb (word_at card.now (p + i)) (get_or h i 0)) }
 {
-    (words::word_at(card, p) == h[0])
-        & (words::word_at(card, p + 1) == h[1])
-        & (words::word_at(card, p + 2) == h[2])
-        & (words::word_at(card, p + 3) == h[3])
-        & (words::word_at(card, p + 4) == h[4])
-        & (words::word_at(card, p + 5) == h[5])
-        & (words::word_at(card, p + 6) == h[6])
+    (0..HEADER_WORDS).all(|i| words::word_at(card, p + i) == h[i])
 }
 
 // Whether each of `count` records of `wide` words from word p on has 0 or 1 in its word 0.
@@ -159,12 +151,7 @@ fn records_marked(card: &[u8], p: usize, wide: usize, count: usize) -> bool
     requires { (4 * (p + wide * count) ≤ length card.now) × (0 < wide) }
     ensures { result ≡ every_below count (λ r. leb (word_at card.now (p + wide * r)) 1) }
 {
-    for r in 0..count {
-        if 1 < words::word_at(card, p + wide * r) {
-            return false;
-        }
-    }
-    true
+    (0..count).all(|r| words::word_at(card, p + wide * r) <= 1)
 }
 
 // Whether each record of block b has 0 or 1 in its word 0; they stand from word p on.
@@ -172,7 +159,7 @@ fn block_marked(card: &[u8], p: usize, kind: Kind, total: u32, b: usize) -> bool
     requires { (4 * (p + format.room_words) ≤ length card.now) × (format.records_held kind * b < total) }
     ensures { result ≡ every_below (format.records_used kind total b) (λ r. leb (word_at card.now (p + format.record_words kind * r)) 1) }
 {
-    records_marked(card, p, record_words(kind), records_used(kind, total, b))
+    records_marked(card, p, kind.record_words(), records_used(kind, total, b))
 }
 
 // Whether `count` words from word p on are zero.
@@ -180,12 +167,7 @@ fn emptied(card: &[u8], p: usize, count: usize) -> bool
     requires { 4 * (p + count) ≤ length card.now }
     ensures { result ≡ every_below count (λ i. eqb (word_at card.now (p + i)) 0) }
 {
-    for i in 0..count {
-        if words::word_at(card, p + i) != 0 {
-            return false;
-        }
-    }
-    true
+    (0..count).all(|i| words::word_at(card, p + i) == 0)
 }
 
 // Whether the last word of the block from word p on is the complement of the sum of the others.
@@ -206,26 +188,10 @@ fn good(card: &[u8], kind: Kind, total: u32, b: usize) -> bool
     }
     let p = BLOCK_WORDS * b;
     let count = used_words(kind, total, b);
-    if !headed(card, p, header(kind, total, b)) {
-        return false;
-    }
-    if !block_marked(card, p + HEADER_WORDS, kind, total, b) {
-        return false;
-    }
-    if !emptied(card, p + HEADER_WORDS + count, ROOM_WORDS - count) {
-        return false;
-    }
-    checked(card, p)
-}
-
-// `count` words made zero, from word p on.
-fn clear(answer: &mut [u32], p: usize, count: usize)
-    requires { p + count ≤ length answer.old }
-    ensures { answer.new ≡ sets answer.old p (replicate count 0) }
-{
-    for i in 0..count {
-        answer[p + i] = 0;
-    }
+    headed(card, p, header(kind, total, b))
+        && block_marked(card, p + HEADER_WORDS, kind, total, b)
+        && emptied(card, p + HEADER_WORDS + count, ROOM_WORDS - count)
+        && checked(card, p)
 }
 
 // One record of `wide` words made lost, from word p on.
@@ -234,7 +200,7 @@ fn lose_one(answer: &mut [u32], p: usize, wide: usize)
     ensures { answer.new ≡ sets answer.old p (spec.lost_words wide) }
 {
     answer[p] = 2;
-    clear(answer, p + 1, wide - 1);
+    answer[p + 1..p + wide].fill(0);
 }
 
 // `count` records of `wide` words made lost, from word p on.
@@ -253,7 +219,7 @@ pub fn read_block(card: &[u8], kind: Kind, total: u32, b: usize, answer: &mut [u
     ensures { answer.new ≡ sets answer.old (format.room_words * b) (spec.records_read kind total b card.now) }
 {
     let count = records_used(kind, total, b);
-    let wide = record_words(kind);
+    let wide = kind.record_words();
     if good(card, kind, total, b) {
         words::get_words(
             card,

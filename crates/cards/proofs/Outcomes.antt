@@ -1,6 +1,6 @@
 -- Which outcome it is, by the tests. Assumes nothing.
-use Prim.Native.Nat.{ℕ, ◌*◌, ◌%◌, ◌≤◌, ◌<◌}
-use mathlib.Core.Path.{◌≡◌, sym, ap, ◌∙◌}
+use Prim.Native.Nat.{ℕ, ◌+◌, ◌*◌, ◌%◌, ◌≤◌, ◌<◌}
+use mathlib.Core.Path.{◌≡◌, refl, sym, ap, ◌∙◌}
 use mathlib.Core.Bool.{Bool, true, false, cond, ◌&&◌}
 use mathlib.Core.List.{List, ◌++◌}
 use lib.ListN.{length, get_or, drop}
@@ -12,8 +12,18 @@ use Rattle.blocks.specs.Format.{record_words}
 use Rattle.blocks.proofs.Counts.{whole_words}
 use Rattle.bits.proofs.Bools.{and_left, and_right}
 use Rattle.lists.specs.Parts.{every_below}
+use denote.Enum.Declared.{tag_of}
+use Rattle.cards.specs.contracts.Refusal.{the_type}
+use Rattle.cards.specs.declared.Refusal.{Refusal}
+use Rattle.cards.specs.declared.Refusal.TheVariants.{Unwritable, TooShort}
+use Rattle.cards.specs.Contract.{number_of}
 use Rattle.cards.specs.Writer.{records_of, writable, card_bytes, not_written, card_written, write_left}
 use Rattle.cards.specs.Reader.{bytes_past, readings, ReadLeft, read_left}
+
+-- the number that a refusal is declared with
+pub number-is : (r : Refusal) → tag_of the_type r + 1 ≡ number_of r
+number-is Unwritable = refl
+number-is TooShort = refl
 
 module _ (kind : Kind) (l : List ℕ) where
   -- what a list that can be written is: whole records, fewer than 2^32, each with 0 or 1 in its word 0

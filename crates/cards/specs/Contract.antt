@@ -1,10 +1,26 @@
 -- What the writer and the reader promise: result and lent list are the definition's, for every input, of either kind. Definitions only.
-use Rattle.std.specs.Prelude.{ℕ, ◌≡◌, List}
+use Rattle.std.specs.Prelude.{ℕ, ◌≡◌, List, Result, Ok, Err}
 use Rattle.blocks.specs.declared.Kind.{Kind}
 use Rattle.cards.specs.Writer.{WriteLeft, write_left}
 use Rattle.cards.specs.Reader.{ReadLeft, read_left}
+use Rattle.cards.specs.declared.Refusal.{Refusal}
+use Rattle.cards.specs.declared.Refusal.TheVariants.{Unwritable, TooShort}
 use Rattle.cards.specs.declared.Written.{Written}
 use Rattle.cards.specs.declared.CardFound.{CardFound}
+
+-- the number of a refusal
+abbrev pub number_of : Refusal → ℕ
+number_of Unwritable = 1
+number_of TooShort = 2
+
+-- what the writer and the reader return, as C reads it
+abbrev pub written : Result ℕ Refusal → Written
+written (Ok n) = record { number = 0; bytes = n }
+written (Err r) = record { number = number_of r; bytes = 0 }
+
+abbrev pub found : Result ℕ Refusal → CardFound
+found (Ok n) = record { number = 0; past = n }
+found (Err r) = record { number = number_of r; past = 0 }
 
 -- all that a call of the writer leaves behind: what it returned, and the lent list
 unfoldable pub after_write : Written → List ℕ → WriteLeft

@@ -7,9 +7,18 @@ ghost use Rattle.blocks.specs.declared.Kind.TheVariants.{Twelve};
 ghost use Rattle.blocks.specs.Format.{record_words, blocks_for};
 ghost use Rattle.cards.specs.Writer as writer;
 ghost use Rattle.cards.specs.Reader as reader;
-ghost use Rattle.cards.specs.Contract.{Writes, Reads};
+ghost use Rattle.cards.specs.Contract.{written, found, Writes, Reads};
 
 use blocks::Kind;
+
+// Why a call is refused, by the number that C reads.
+#[derive(Clone, Copy, PartialEq, Eq, Debug)]
+pub enum Refusal {
+    // The list is not whole records, fewer than 2^32, with 0 or 1 in word 0.
+    Unwritable = 1,
+    // The list that is lent is too short.
+    TooShort = 2,
+}
 
 // What the writer returns: 0 and how many bytes it wrote, or a refusal and 0.
 #[repr(C)]
@@ -17,6 +26,20 @@ use blocks::Kind;
 pub struct Written {
     pub number: u32,
     pub bytes: usize,
+}
+
+impl From<Result<usize, Refusal>> for Written {
+    ghost from_gives = { λ r w. w ≡ written r };
+
+    fn from(r: Result<usize, Refusal>) -> Written {
+        match r {
+            Ok(bytes) => Written { number: 0, bytes },
+            Err(refusal) => Written {
+                number: refusal as u32,
+                bytes: 0,
+            },
+        }
+    }
 }
 
 // What the reader returns: 0 and how many bytes stand past the last whole block that the total calls for, or a refusal and 0.
@@ -27,39 +50,45 @@ pub struct CardFound {
     pub past: usize,
 }
 
+impl From<Result<usize, Refusal>> for CardFound {
+    ghost from_gives = { λ r f. f ≡ found r };
+
+    fn from(r: Result<usize, Refusal>) -> CardFound {
+        match r {
+            Ok(past) => CardFound { number: 0, past },
+            Err(refusal) => CardFound {
+                number: refusal as u32,
+                past: 0,
+            },
+        }
+    }
+}
+
 // Whether each of `count` records of `wide` words has 0 or 1 in its word 0.
 fn all_marked(answer: &[u32], wide: usize, count: usize) -> bool
     requires { (wide * count ≤ length answer.now) × (0 < wide) }
     ensures { result ≡ every_below count (λ r. leb (get_or answer.now (wide * r) 0) 1) }
 {
-    for r in 0..count {
-        if 1 < answer[wide * r] {
-            return false;
-        }
-    }
-    true
+    (0..count).all(|r| answer[wide * r] <= 1)
 }
 
 // How many records a list has.
 pub fn records_of(kind: Kind, answer: &[u32]) -> usize
     ensures { result ≡ writer.records_of kind answer.now }
 {
-    answer.len() / blocks::record_words(kind)
+    answer.len() / kind.record_words()
 }
 
 // Whether a list can be written to a card.
 pub fn writable(kind: Kind, answer: &[u32]) -> bool
     ensures { result ≡ writer.writable kind answer.now }
 {
-    let wide = blocks::record_words(kind);
+    let wide = kind.record_words();
     if answer.len() % wide != 0 {
         return false;
     }
     let count = records_of(kind, answer);
-    if 4294967296 <= count {
-        return false;
-    }
-    all_marked(answer, wide, count)
+    count < 4294967296 && all_marked(answer, wide, count)
 }
 
 // All blocks of a card.
@@ -72,29 +101,27 @@ fn write_blocks(kind: Kind, answer: &[u32], total: u32, card: &mut [u8])
     }
 }
 
-// Answer words to a card of a kind: refused with 1 where they are not whole records, fewer than 2^32, with 0 or 1 in word 0, with 2, checked second, where the card is too short.
-pub fn write_as(kind: Kind, answer: &[u32], card: &mut [u8]) -> Written
-    ensures { Writes kind answer.now card.old result card.new }
+// Answer words to a card of a kind, and how many bytes they are.
+fn try_write(kind: Kind, answer: &[u32], card: &mut [u8]) -> Result<usize, Refusal>
+    ensures { Writes kind answer.now card.old (written result) card.new }
 {
     if !writable(kind, answer) {
-        return Written {
-            number: 1,
-            bytes: 0,
-        };
+        return Err(Refusal::Unwritable);
     }
     let total = records_of(kind, answer) as u32;
     let bytes = blocks::BLOCK_BYTES * blocks::blocks_for(kind, total);
     if card.len() < bytes {
-        return Written {
-            number: 2,
-            bytes: 0,
-        };
+        return Err(Refusal::TooShort);
     }
     write_blocks(kind, answer, total, card);
-    Written {
-        number: 0,
-        bytes: bytes,
-    }
+    Ok(bytes)
+}
+
+// Answer words to a card of a kind: refused with 1 where they are not whole records, fewer than 2^32, with 0 or 1 in word 0, with 2, checked second, where the card is too short.
+pub fn write_as(kind: Kind, answer: &[u32], card: &mut [u8]) -> Written
+    ensures { Writes kind answer.now card.old result card.new }
+{
+    Written::from(try_write(kind, answer, card))
 }
 
 // Slots to a card, of the kind that holds them whole.
@@ -120,24 +147,25 @@ fn bytes_past(kind: Kind, card: &[u8], total: u32) -> usize
 {
     let there = card.len() / blocks::BLOCK_BYTES;
     let called = blocks::blocks_for(kind, total);
-    if there < called {
-        return card.len() - blocks::BLOCK_BYTES * there;
+    card.len() - blocks::BLOCK_BYTES * there.min(called)
+}
+
+// The records of a card of a kind, and how many bytes stand past them.
+fn try_read(kind: Kind, card: &[u8], total: u32, answer: &mut [u32]) -> Result<usize, Refusal>
+    ensures { Reads kind card.now total answer.old (found result) answer.new }
+{
+    if records_of(kind, answer) < total as usize {
+        return Err(Refusal::TooShort);
     }
-    card.len() - blocks::BLOCK_BYTES * called
+    read_blocks(kind, card, total, answer);
+    Ok(bytes_past(kind, card, total))
 }
 
 // The records of a card of a kind, lost ones told apart: refused with 2 where the answer list is too short.
 pub fn read_as(kind: Kind, card: &[u8], total: u32, answer: &mut [u32]) -> CardFound
     ensures { Reads kind card.now total answer.old result answer.new }
 {
-    if records_of(kind, answer) < total as usize {
-        return CardFound { number: 2, past: 0 };
-    }
-    read_blocks(kind, card, total, answer);
-    CardFound {
-        number: 0,
-        past: bytes_past(kind, card, total),
-    }
+    CardFound::from(try_read(kind, card, total, answer))
 }
 
 // The slots of a card.

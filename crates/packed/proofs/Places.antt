@@ -2,8 +2,9 @@
 use Prim.Native.Nat.{ℕ, zero, suc, ◌+◌, ◌-◌, ◌<◌}
 use native.Mathlib.Omega.{arith}
 use mathlib.Core.Path.{◌≡◌, refl, sym, ap, ◌∙◌}
-use mathlib.Core.Bool.{Bool, true, false}
+use mathlib.Core.Bool.{Bool, true, false, cond}
 use mathlib.Core.List.{List, [], ◌∷◌, ◌++◌}
+use mir.Val.{bool_byte}
 use lib.ListN.{get_or, get_or-append, get_or-replicate}
 use Rattle.lists.specs.Loops.{list_of}
 use Rattle.lists.proofs.Loops.{length-list_of, get_or-list_of}
@@ -64,3 +65,8 @@ module _ (absent : Bool) (ns : List ℕ) (i : ℕ) where
     where
       next : i ≡ 1 + (i - 1)
       next = omega arith
+
+-- a test as a number
+pub bit-is : (b : Bool) → bool_byte b ≡ cond b 1 0
+bit-is true = refl
+bit-is false = refl

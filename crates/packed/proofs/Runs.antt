@@ -1,22 +1,28 @@
 -- Slots that are written one after another, and the first of them that fails a test. Assumes nothing.
 use Prim.Native.Nat.{ℕ, zero, suc, ◌+◌, ◌-◌, ◌*◌, ◌≤◌, ◌<◌}
-use native.Mathlib.Nat.{le_antisymm, eq-or-lt_of_le, le_of_suc-le-suc, mul-le-mul_left}
+use native.Mathlib.Nat.{le_antisymm, eq-or-lt_of_le, zero-add, le_of_suc-le-suc, mul-le-mul_left}
 use native.Mathlib.Numerals.{add-one}
 use native.Mathlib.Omega.{arith}
 use mathlib.Core.Path.{◌≡◌, refl, sym, ap, ◌∙◌}
 use mathlib.Core.Bool.{Bool, true, false, cond, ◌&&◌}
 use mathlib.Core.Logic.{⊎_elim}
 use mathlib.Core.List.{List, ◌++◌}
-use lib.ListN.{length, take, drop, length-drop}
+use Rattle.std.specs.List.{range_with_len, AllWithin, HoldsAt}
+use Rattle.std.specs.Option.{MatchOption}
+use Rattle.std.proofs.Common.{Option, None, Some, subst}
+use Rattle.std.proofs.lemmas.List.FromFn.{length-range_with_len, get_or-range_with_len}
+use lib.ListN.{length, get_or, take, drop, length-drop}
 use lib.Dec.{eqb}
 use lib.Seq.{sets, take_all, drop_at, drop-append-le, take-append-le}
 use borrow.Author.Tests.{eq-eqb, ne_eqb, eqb-true, eqb-false}
 use Rattle.lists.specs.Loops.{list_of}
 use Rattle.lists.specs.Parts.{joined, part}
 use Rattle.lists.proofs.Parts.{length-joined, length_part}
-use Rattle.words.proofs.Stores.{joined-none, joined-stored, sets-front}
+use borrow.Rule.Slice.PartMut.{put_mid}
+use lib.Seq.{length-sets}
+use Rattle.words.proofs.Stores.{part-written, joined-none, joined-stored, sets-front}
 use Rattle.packed.specs.Packer.{packed_words, has_frame, frame, frame_packed, packed_slot}
-use Rattle.packed.specs.Reader.{read_words, all_nothing, frame_words, seven_read, read_seven, first_failing, FirstFailing}
+use Rattle.packed.specs.Reader.{read_words, all_nothing, frame_words, seven_read, read_seven, first_failing, found_failing, FirstFailing}
 
 -- a packed slot is seven numbers
 pub length-packed : (slot : List ℕ) → length (packed_slot slot) ≡ packed_words
@@ -50,6 +56,13 @@ module _ (k n : ℕ) (f : ℕ → List ℕ) (each : (i : ℕ) → length (f i) �
   pub run_more : (u v : List ℕ) (i : ℕ) → i < n → Run k n f l u i → v ≡ sets u (k * i) (f i) → length v ≡ length u → Run k n f l v (i + 1)
   run_more u v i h R e s =
       record { some = omega arith; is = e ∙ joined-stored l u 0 (k * i) f i (omega (arith, length-joined i k f (λ j _. each j))) R.is; long = s ∙ R.long }
+
+  -- one more, which is written over a part of the list
+  pub stored_more : (u ys : List ℕ) (i m : ℕ) → i < n → Run k n f l u i → ys ≡ f i → k ≡ m → k * i + k ≤ length u → Run k n f l (put_mid (k * i) m u ys) (i + 1)
+  stored_more u ys i m h R e s w = run_more u (put_mid (k * i) m u ys) i h R put (ap length put ∙ length-sets u (k * i) (f i))
+    where
+      put : put_mid (k * i) m u ys ≡ sets u (k * i) (f i)
+      put = part-written u ys (f i) (k * i) m e (each i ∙ s) (omega (arith, s, w))
 
   pub run-all : (u : List ℕ) (i : ℕ) → n ≤ i → k * n ≤ length l → Run k n f l u i → u ≡ joined n f ++ drop (k * n) l
   run-all u i g h R =
@@ -120,6 +133,40 @@ failing-first (suc n) p = go (eqb k n) (p n) refl refl (failing-first n p)
         }
     go true false e h F = record { at_most = omega (arith, F.at_most); before = F.before; here = λ l. ap p (eqb-true k n e) ∙ h }
     go false u e h F = record { at_most = omega (arith, F.at_most); before = F.before; here = λ l. F.here (omega (arith, F.at_most, eqb-false k n e)) }
+
+-- the numbers below n
+number : (n i : ℕ) → i < n → get_or (range_with_len 0 n) i 0 ≡ i
+number n i h = get_or-range_with_len 0 n i 0 h ∙ zero-add i
+
+-- what a search for the first that fails answers
+pub found-is : (n : ℕ) (p : ℕ → Bool) (r : Option ℕ) → MatchOption r (AllWithin (λ i. p i ≡ true) (range_with_len 0 n) 0 (length (range_with_len 0 n))) (λ i. (i < length (range_with_len 0 n)) × HoldsAt (λ k. p k ≡ false) (range_with_len 0 n) i × AllWithin (λ k. p k ≡ true) (range_with_len 0 n) 0 i) → r ≡ found_failing n p
+unfolding found_failing
+found-is n p None h = sym (ap (λ (b : Bool). cond b None (Some (first_failing n p))) (eq-eqb (first_failing n p) n (failing-all n p (λ i l. subst (λ (k : ℕ). p k ≡ true) (number n i l) (h i 0 (omega arith) (omega (arith, length-range_with_len 0 n)))))))
+found-is n p (Some i) (l, here, before) =
+    sym (ap (λ (b : Bool). cond b None (Some (first_failing n p))) (ne_eqb (first_failing n p) n (λ q. omega (arith, e, q, j))) ∙ ap (λ (k : ℕ). Some k) e)
+  where
+    j : i < n
+    j = omega (arith, l, length-range_with_len 0 n)
+
+    e : first_failing n p ≡ i
+    e = failing-here n i p j (failing-all i p (λ k m. subst (λ (x : ℕ). p x ≡ true) (number n k (omega (arith, m, j))) (before k 0 (omega arith) m))) (subst (λ (x : ℕ). p x ≡ false) (number n i j) (here 0))
+
+-- and what it says of the first that fails
+pub found-some : (n : ℕ) (p : ℕ → Bool) (k : ℕ) → Some k ≡ found_failing n p → (k ≡ first_failing n p) × (first_failing n p ≡ n → ⊥)
+unfolding found_failing
+found-some n p k e = go (eqb (first_failing n p) n) refl e
+  where
+    go : (b : Bool) → eqb (first_failing n p) n ≡ b → Some k ≡ cond b None (Some (first_failing n p)) → (k ≡ first_failing n p) × (first_failing n p ≡ n → ⊥)
+    go true h d = cc
+    go false h d = ((cc), eqb-false (first_failing n p) n h)
+
+pub found-none : (n : ℕ) (p : ℕ → Bool) → None ≡ found_failing n p → first_failing n p ≡ n
+unfolding found_failing
+found-none n p e = go (eqb (first_failing n p) n) refl e
+  where
+    go : (b : Bool) → eqb (first_failing n p) n ≡ b → None ≡ cond b None (Some (first_failing n p)) → first_failing n p ≡ n
+    go true h d = eqb-true (first_failing n p) n h
+    go false h d = cc
 
 -- one of the lists that stand one after another
 pub part-joined : (n k : ℕ) (f : ℕ → List ℕ) → ((i : ℕ) → length (f i) ≡ k) → (i : ℕ) → i < n → part (k * i) k (joined n f) ≡ f i

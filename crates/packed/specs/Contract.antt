@@ -1,9 +1,31 @@
 -- What the packer and its reader promise: result and lent list are the definition's, for every input. Definitions only.
-use Rattle.std.specs.Prelude.{◌≡◌, ℕ, List}
+use Rattle.std.specs.Prelude.{◌≡◌, ℕ, List, Result, Ok, Err}
 use Rattle.packed.specs.Packer.{PackLeft, pack_left}
 use Rattle.packed.specs.Reader.{UnpackLeft, unpack_left}
+use Rattle.packed.specs.declared.Refusal.{Refusal}
+use Rattle.packed.specs.declared.Refusal.TheVariants.{Broken, TooShort, NotPacked}
 use Rattle.packed.specs.declared.Packed.{Packed}
 use Rattle.packed.specs.declared.Unpacked.{Unpacked}
+
+-- the number of a refusal, and the slot that it is about
+abbrev pub number_of : Refusal → ℕ
+number_of Broken = 1
+number_of TooShort = 2
+number_of (NotPacked s) = 3
+
+abbrev pub place_of : Refusal → ℕ
+place_of Broken = 0
+place_of TooShort = 0
+place_of (NotPacked s) = s
+
+-- what the packer and the reader return, as C reads it
+abbrev pub packed_of : Result ℕ Refusal → Packed
+packed_of (Ok n) = record { number = 0; count = n }
+packed_of (Err r) = record { number = number_of r; count = 0 }
+
+abbrev pub unpacked_of : Result (Unit {0}) Refusal → Unpacked
+unpacked_of (Ok u) = record { number = 0; place = 0 }
+unpacked_of (Err r) = record { number = number_of r; place = place_of r }
 
 -- all that a call of the packer leaves behind: what it returned, and the lent list
 unfoldable pub after_pack : Packed → List ℕ → PackLeft

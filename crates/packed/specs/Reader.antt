@@ -1,5 +1,5 @@
 -- What the reader of packed frames answers, from request E5. Definitions only.
-use Rattle.std.specs.Prelude.{ℕ, zero, suc, ◌+◌, ◌*◌, ◌/◌, ◌%◌, ◌≤◌, ◌<◌, ◌≡◌, Bool, true, false, cond, not, ◌&&◌, ◌||◌, List, [], ◌∷◌, ◌++◌, length, get_or, drop, replicate, eqb, leb, ltb}
+use Rattle.std.specs.Prelude.{ℕ, zero, suc, ◌+◌, ◌*◌, ◌/◌, ◌%◌, ◌≤◌, ◌<◌, ◌≡◌, Bool, true, false, cond, not, ◌&&◌, ◌||◌, List, [], ◌∷◌, ◌++◌, length, get_or, drop, replicate, eqb, leb, ltb, Option, None, Some}
 use Rattle.lists.specs.Loops.{list_of}
 use Rattle.lists.specs.Parts.{every_below, joined, part}
 use Rattle.packed.specs.Packer.{packed_words}
@@ -65,6 +65,10 @@ sevens_in l = length l / packed_words
 unfoldable pub first_failing : ℕ → (ℕ → Bool) → ℕ
 first_failing zero p = 0
 first_failing (suc n) p = cond (eqb (first_failing n p) n && p n) (suc n) (first_failing n p)
+
+-- the first of 0, 1, .. n - 1 that does not pass, if there is one
+unfoldable pub found_failing : ℕ → (ℕ → Bool) → Option ℕ
+found_failing n p = cond (eqb (first_failing n p) n) None (Some (first_failing n p))
 
 -- k is the first of 0, 1, .. n - 1 that does not pass, or n
 pub record FirstFailing (n : ℕ) (p : ℕ → Bool) (k : ℕ) : Type 0 where

@@ -9,7 +9,7 @@ ghost use Rattle.packed.specs.Rounding as rounding;
 ghost use Rattle.packed.specs.Component as spec;
 ghost use Rattle.packed.specs.Packer as packer;
 ghost use Rattle.packed.specs.Reader as reader;
-ghost use Rattle.packed.specs.Contract.{Packs, Unpacks};
+ghost use Rattle.packed.specs.Contract.{number_of, place_of, packed_of, unpacked_of, Packs, Unpacks};
 
 // The numbers of specs/: those of a packed slot, and the words that are read of it.
 const PACKED_NUMBERS: usize = 7;
@@ -41,6 +41,40 @@ const EXTENDED: u32 = 0xffff0000;
 
 const WIDE: u32 = 0xffff8000;
 
+// Why a call is refused.
+#[derive(Clone, Copy, PartialEq, Eq, Debug)]
+pub enum Refusal {
+    // The list is not in whole slots, or not in whole sevens.
+    Broken,
+    // The list that is lent is too short.
+    TooShort,
+    // The packer can't write the seven numbers of this slot.
+    NotPacked(usize),
+}
+
+impl Refusal {
+    // The number that C reads.
+    fn number(self) -> u32
+        ensures { result ≡ number_of self }
+    {
+        match self {
+            Refusal::Broken => 1,
+            Refusal::TooShort => 2,
+            Refusal::NotPacked(_) => 3,
+        }
+    }
+
+    // The slot that it is about, 0 where it is about none.
+    fn place(self) -> usize
+        ensures { result ≡ place_of self }
+    {
+        match self {
+            Refusal::NotPacked(slot) => slot,
+            _ => 0,
+        }
+    }
+}
+
 // What the packer returns: 0 and how many numbers it wrote, or a refusal and 0.
 #[repr(C)]
 #[derive(Clone, Copy)]
@@ -49,12 +83,43 @@ pub struct Packed {
     pub count: usize,
 }
 
+impl From<Result<usize, Refusal>> for Packed {
+    ghost from_gives = { λ r p. p ≡ packed_of r };
+
+    fn from(r: Result<usize, Refusal>) -> Packed {
+        match r {
+            Ok(count) => Packed { number: 0, count },
+            Err(refusal) => Packed {
+                number: refusal.number(),
+                count: 0,
+            },
+        }
+    }
+}
+
 // What the reader returns: 0 and 0, or a refusal and the slot that it is about, 0 where it is about none.
 #[repr(C)]
 #[derive(Clone, Copy)]
 pub struct Unpacked {
     pub number: u32,
     pub place: usize,
+}
+
+impl From<Result<(), Refusal>> for Unpacked {
+    ghost from_gives = { λ r u. u ≡ unpacked_of r };
+
+    fn from(r: Result<(), Refusal>) -> Unpacked {
+        match r {
+            Ok(()) => Unpacked {
+                number: 0,
+                place: 0,
+            },
+            Err(refusal) => Unpacked {
+                number: refusal.number(),
+                place: refusal.place(),
+            },
+        }
+    }
 }
 
 // The whole number nearest to n / 2 ^ k, ties to even.
@@ -83,19 +148,14 @@ fn units(m: u32) -> u32
         return 0;
     }
     let digits = LEADING + m % LEADING;
-    nearest(FULL_SCALE * (digits as u64), 150 - m / LEADING) as u32
+    nearest(FULL_SCALE * u64::from(digits), 150 - m / LEADING) as u32
 }
 
 // The bits of |c|, cut to 1.
 fn cut(w: u32) -> u32
     ensures { (result ≡ spec.cut w) × (result ≤ spec.one_bits) }
 {
-    let m = w % SIGN;
-    let inside = m < ONE;
-    if inside {
-        return m;
-    }
-    ONE
+    (w % SIGN).min(ONE)
 }
 
 // A component as it is packed.
@@ -121,12 +181,7 @@ fn has_frame(slot: &[u32]) -> bool
     requires { length slot.now ≡ slot_words }
     ensures { result ≡ packer.has_frame slot.now }
 {
-    let six = within(slot[1])
-        & within(slot[2])
-        & within(slot[3])
-        & within(slot[4])
-        & within(slot[5])
-        & within(slot[6]);
+    let six = slot[1..7].iter().all(|w| within(*w));
     (slot[0] == 1) & (slot[9] <= 1) & six
 }
 
@@ -134,10 +189,7 @@ fn has_frame(slot: &[u32]) -> bool
 fn packed_facing(o: u32) -> u16
     ensures { result ≡ packer.packed_facing o }
 {
-    if o == 1 {
-        return 1;
-    }
-    MINUS_ONE
+    if o == 1 { 1 } else { MINUS_ONE }
 }
 
 // A slot packed.
@@ -159,17 +211,6 @@ fn pack_slot(slot: &[u32]) -> [u16; PACKED_NUMBERS]
     ]
 }
 
-// Seven numbers stored in a list, from place p on.
-fn put_seven(l: &mut [u16], p: usize, seven: [u16; PACKED_NUMBERS])
-    requires { p + packer.packed_words ≤ length l.old }
-    ensures { l.new ≡ sets l.old p seven }
-{
-    let end = p + PACKED_NUMBERS;
-    for k in p..end {
-        l[k] = seven[k - p];
-    }
-}
-
 // `count` slots packed.
 fn pack_slots(answer: &[u32], packed: &mut [u16], count: usize)
     requires { (slot_words * count ≤ length answer.now) × (packer.packed_words * count ≤ length packed.old) }
@@ -178,32 +219,31 @@ fn pack_slots(answer: &[u32], packed: &mut [u16], count: usize)
     for s in 0..count {
         let from = tangent::SLOT_WORDS * s;
         let end = from + tangent::SLOT_WORDS;
-        put_seven(packed, PACKED_NUMBERS * s, pack_slot(&answer[from..end]));
+        let to = PACKED_NUMBERS * s;
+        packed[to..to + PACKED_NUMBERS].copy_from_slice(&pack_slot(&answer[from..end]));
     }
+}
+
+// An answer list packed, and how many numbers it is.
+fn try_pack(answer: &[u32], packed: &mut [u16]) -> Result<usize, Refusal>
+    ensures { Packs answer.now packed.old (packed_of result) packed.new }
+{
+    if answer.len() % tangent::SLOT_WORDS != 0 {
+        return Err(Refusal::Broken);
+    }
+    let count = answer.len() / tangent::SLOT_WORDS;
+    if packed.len() < PACKED_NUMBERS * count {
+        return Err(Refusal::TooShort);
+    }
+    pack_slots(answer, packed, count);
+    Ok(PACKED_NUMBERS * count)
 }
 
 // An answer list packed, seven numbers a slot: refused with 1 where it is not in whole slots, with 2 where the lent list is too short.
 pub fn pack(answer: &[u32], packed: &mut [u16]) -> Packed
     ensures { Packs answer.now packed.old result packed.new }
 {
-    if answer.len() % tangent::SLOT_WORDS != 0 {
-        return Packed {
-            number: 1,
-            count: 0,
-        };
-    }
-    let count = answer.len() / tangent::SLOT_WORDS;
-    if packed.len() < PACKED_NUMBERS * count {
-        return Packed {
-            number: 2,
-            count: 0,
-        };
-    }
-    pack_slots(answer, packed, count);
-    Packed {
-        number: 0,
-        count: PACKED_NUMBERS * count,
-    }
+    Packed::from(try_pack(answer, packed))
 }
 
 // Whether seven numbers are those of an absent slot.
@@ -211,13 +251,7 @@ fn all_nothing(s: &[u16]) -> bool
     requires { length s.now ≡ packer.packed_words }
     ensures { result ≡ reader.all_nothing s.now }
 {
-    (s[0] == NOTHING)
-        & (s[1] == NOTHING)
-        & (s[2] == NOTHING)
-        & (s[3] == NOTHING)
-        & (s[4] == NOTHING)
-        & (s[5] == NOTHING)
-        & (s[6] == NOTHING)
+    s.iter().all(|n| *n == NOTHING)
 }
 
 // Whether seven numbers are those of a frame.
@@ -225,36 +259,26 @@ fn framed(s: &[u16]) -> bool
     requires { length s.now ≡ packer.packed_words }
     ensures { result ≡ reader.framed s.now }
 {
-    let six = (s[0] != NOTHING)
-        & (s[1] != NOTHING)
-        & (s[2] != NOTHING)
-        & (s[3] != NOTHING)
-        & (s[4] != NOTHING)
-        & (s[5] != NOTHING);
+    let six = s[..6].iter().all(|n| *n != NOTHING);
     six & ((s[6] == 1) | (s[6] == MINUS_ONE))
 }
 
-// Whether the packer can write seven numbers.
-fn is_packed(s: &[u16]) -> bool
-    requires { length s.now ≡ packer.packed_words }
-    ensures { result ≡ reader.is_packed s.now }
+// Whether the packer can write the seven numbers of slot s.
+fn is_packed(packed: &[u16], s: usize) -> bool
+    requires { packer.packed_words * s + packer.packed_words ≤ length packed.now }
+    ensures { result ≡ reader.is_packed (reader.seven_at packed.now s) }
 {
-    all_nothing(s) | framed(s)
+    let from = PACKED_NUMBERS * s;
+    let seven = &packed[from..from + PACKED_NUMBERS];
+    all_nothing(seven) | framed(seven)
 }
 
-// The first of `count` slots of a packed list that the packer can't write, or `count`.
-fn first_refused(packed: &[u16], count: usize) -> usize
+// The first of `count` slots of a packed list that the packer can't write.
+fn first_refused(packed: &[u16], count: usize) -> Option<usize>
     requires { packer.packed_words * count ≤ length packed.now }
-    ensures { result ≡ reader.first_failing count (λ s. reader.is_packed (reader.seven_at packed.now s)) }
+    ensures { result ≡ reader.found_failing count (λ s. reader.is_packed (reader.seven_at packed.now s)) }
 {
-    for s in 0..count {
-        let from = PACKED_NUMBERS * s;
-        let end = from + PACKED_NUMBERS;
-        if !is_packed(&packed[from..end]) {
-            return s;
-        }
-    }
-    count
+    (0..count).position(|s| !is_packed(packed, s))
 }
 
 // A number of 16 bits as 32.
@@ -262,51 +286,37 @@ fn wide(n: u16) -> u32
     ensures { result ≡ reader.wide n }
 {
     if n < NOTHING {
-        return n as u32;
+        u32::from(n)
+    } else {
+        u32::from(n) + EXTENDED
     }
-    n as u32 + EXTENDED
 }
 
 // The orientation as it is read.
 fn oriented(n: u16) -> u32
     ensures { result ≡ reader.oriented n }
 {
-    if n == 1 {
-        return 1;
-    }
-    0
+    u32::from(n == 1)
 }
 
-// Word i of what is read of seven numbers; `absent` says whether they are those of an absent slot.
-fn read_at(s: &[u16], absent: bool, i: usize) -> u32
-    requires { (length s.now ≡ packer.packed_words) × (i < reader.read_words) }
-    ensures { result ≡ get_or (reader.seven_read absent s.now) i 0 }
+// Seven numbers read.
+fn read_seven(s: &[u16]) -> [u32; READ_WORDS]
+    requires { length s.now ≡ packer.packed_words }
+    ensures { result ≡ reader.read_seven s.now }
 {
-    if absent {
-        if i == 0 {
-            return 0;
-        }
-        return WIDE;
+    if all_nothing(s) {
+        return [0, WIDE, WIDE, WIDE, WIDE, WIDE, WIDE, WIDE];
     }
-    if i == 0 {
-        return 1;
-    }
-    if i == 7 {
-        return oriented(s[6]);
-    }
-    wide(s[i - 1])
-}
-
-// Seven numbers read, to a list from place p on.
-fn read_slot(s: &[u16], answer: &mut [u32], p: usize)
-    requires { (length s.now ≡ packer.packed_words) × (p + reader.read_words ≤ length answer.old) }
-    ensures { answer.new ≡ sets answer.old p (reader.read_seven s.now) }
-{
-    let absent = all_nothing(s);
-    let end = p + READ_WORDS;
-    for k in p..end {
-        answer[k] = read_at(s, absent, k - p);
-    }
+    [
+        1,
+        wide(s[0]),
+        wide(s[1]),
+        wide(s[2]),
+        wide(s[3]),
+        wide(s[4]),
+        wide(s[5]),
+        oriented(s[6]),
+    ]
 }
 
 // `count` slots read.
@@ -317,37 +327,32 @@ fn read_slots(packed: &[u16], answer: &mut [u32], count: usize)
     for s in 0..count {
         let from = PACKED_NUMBERS * s;
         let end = from + PACKED_NUMBERS;
-        read_slot(&packed[from..end], answer, READ_WORDS * s);
+        let to = READ_WORDS * s;
+        answer[to..to + READ_WORDS].copy_from_slice(&read_seven(&packed[from..end]));
     }
+}
+
+// A packed list read.
+fn try_unpack(packed: &[u16], answer: &mut [u32]) -> Result<(), Refusal>
+    ensures { Unpacks packed.now answer.old (unpacked_of result) answer.new }
+{
+    if packed.len() % PACKED_NUMBERS != 0 {
+        return Err(Refusal::Broken);
+    }
+    let count = packed.len() / PACKED_NUMBERS;
+    if answer.len() / READ_WORDS < count {
+        return Err(Refusal::TooShort);
+    }
+    if let Some(place) = first_refused(packed, count) {
+        return Err(Refusal::NotPacked(place));
+    }
+    read_slots(packed, answer, count);
+    Ok(())
 }
 
 // A packed list read, eight words a slot: refused with 1 where it is not in whole sevens, with 2 where the lent list is too short, with 3 and the slot where the packer can't write its seven numbers.
 pub fn unpack(packed: &[u16], answer: &mut [u32]) -> Unpacked
     ensures { Unpacks packed.now answer.old result answer.new }
 {
-    if packed.len() % PACKED_NUMBERS != 0 {
-        return Unpacked {
-            number: 1,
-            place: 0,
-        };
-    }
-    let count = packed.len() / PACKED_NUMBERS;
-    if answer.len() / READ_WORDS < count {
-        return Unpacked {
-            number: 2,
-            place: 0,
-        };
-    }
-    let place = first_refused(packed, count);
-    if place != count {
-        return Unpacked {
-            number: 3,
-            place: place,
-        };
-    }
-    read_slots(packed, answer, count);
-    Unpacked {
-        number: 0,
-        place: 0,
-    }
+    Unpacked::from(try_unpack(packed, answer))
 }

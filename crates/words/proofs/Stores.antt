@@ -5,11 +5,15 @@ use native.Mathlib.Numerals.{add-one}
 use native.Mathlib.Omega.{arith}
 use mathlib.Core.Path.{◌≡◌, refl, sym, ap, ◌∙◌}
 use mathlib.Core.List.{List, [], ◌∷◌, ◌++◌}
-use lib.ListN.{length, get_or, set, take, drop}
+use Rattle.std.proofs.Common.{append_assoc}
+use lib.ListN.{length, get_or, set, take, drop, replicate}
 use lib.Seq.{sets, sets-eq, take-suc, length-take-le}
+use borrow.Rule.Slice.PartMut.{put_mid}
+use Rattle.std.proofs.lemmas.Slice.{put_mid-paste}
+use Rattle.std.proofs.lemmas.List.Edits.{paste_all}
 use Rattle.table.proofs.Laws.{sets-snoc}
-use Rattle.lists.specs.Parts.{joined}
-use Rattle.lists.proofs.Parts.{joined-more}
+use Rattle.lists.specs.Parts.{joined, part}
+use Rattle.lists.proofs.Parts.{joined-more, length-zeros, length_part}
 
 -- a run that begins where another ends
 pub sets-join : (l : List ℕ) (p q : ℕ) (xs ys : List ℕ) → q ≡ p + length xs → sets (sets l p xs) q ys ≡ sets l p (xs ++ ys)
@@ -24,18 +28,16 @@ sets-front l xs n e h =
     from_zero : 0 + length xs ≡ n
     from_zero = omega arith
 
--- four stores as one run
-pub four-stores : (l : List ℕ) (p a b c d : ℕ) → set (set (set (set l p a) (p + 1) b) (p + 2) c) (p + 3) d ≡ sets l p (a ∷ b ∷ c ∷ d ∷ [])
-four-stores l p a b c d = λ z. set (set (set (set l p a) (one z) b) (two z) c) (three z) d
-  where
-    one : p + 1 ≡ suc p
-    one = omega arith
+-- a part that is written whole, as a run
+pub part-written : (l ys xs : List ℕ) (p k : ℕ) → ys ≡ xs → length xs ≡ k → p + k ≤ length l → put_mid p k l ys ≡ sets l p xs
+part-written l ys xs p k e n h =
+    put_mid-paste p k l ys xs k e refl (sym n) ∙ (paste_all l p xs k (sym n) ∙ sym (sets-eq xs l p (omega arith) ∙ (append_assoc (take p l) xs (drop (p + length xs) l) ∙ ap (λ (i : ℕ). take p l ++ (xs ++ drop (p + i) l)) n)))
 
-    two : p + 2 ≡ suc (suc p)
-    two = omega arith
-
-    three : p + 3 ≡ suc (suc (suc p))
-    three = omega arith
+-- a part that is filled with zeros
+pub part-cleared : (l ys : List ℕ) (p k n : ℕ) → ys ≡ replicate (length (take k (drop p l))) 0 → k ≡ n → p + n ≤ length l → put_mid p k l ys ≡ sets l p (replicate n 0)
+unfolding part
+part-cleared l ys p k n e h w =
+    part-written l ys (replicate n 0) p k (e ∙ ap (λ (i : ℕ). replicate i 0) (length_part p k l (omega arith) ∙ h)) (length-zeros n ∙ sym h) (omega arith)
 
 -- one store more of a run
 pub sets_more : (a u ws : List ℕ) (p i : ℕ) → i < length ws → u ≡ sets a p (take i ws) → set u (p + i) (get_or ws i 0) ≡ sets a p (take (i + 1) ws)

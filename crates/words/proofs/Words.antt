@@ -1,23 +1,30 @@
 -- Words and their bytes. Assumes nothing.
-use Prim.Native.Nat.{ℕ, zero, suc, ◌+◌, ◌*◌, ◌/◌, ◌%◌, ◌≤◌, ◌<◌}
+use Prim.Native.Nat.{ℕ, zero, suc, ◌+◌, ◌-◌, ◌*◌, ◌/◌, ◌%◌, ◌≤◌, ◌<◌}
 use native.Mathlib.Nat.{add-zero, add_assoc, le_antisymm, le_of_suc-le-suc, mod-add-div, zero-lt-suc}
 use native.Mathlib.Numerals.{add-one}
 use native.Mathlib.Omega.{arith}
 use mathlib.Core.Path.{◌≡◌, refl, sym, ap, ◌∙◌, subst}
-use mathlib.Core.List.{List, [], ◌∷◌, ◌++◌, flat_map, append_assoc}
+use mathlib.Core.List.{List, [], ◌∷◌, ◌++◌, flat_map, append_assoc, map}
+use Rattle.std.proofs.lemmas.List.{take_more, take_more_set, take_all, take-take, length-take-le, replicate-append-replicate}
+use Rattle.std.specs.List.{sum, range_with_len}
+use Rattle.std.proofs.lemmas.List.FromFn.{sum_by-map-range_with_len_more}
 use lib.ListN.{length, get_or, set, take, drop, replicate, get_or-append}
 use lib.Seq.{sets, get_or-append-add, get_or-take, get_or-drop, ext_get_or}
 use Rattle.lists.specs.Loops.{list_of}
 use Rattle.lists.proofs.Loops.{length-list_of, get_or-list_of}
-use Rattle.table.proofs.Laws.{sets-snoc}
 use Rattle.lists.specs.Parts.{sum_of, part}
 use Rattle.words.specs.Words.{word_values, word_bytes, bytes_of, word_at, words_at, Fit}
-use Rattle.lists.proofs.Parts.{length-zeros, sum-snoc, part-more, length_part}
+use Rattle.lists.proofs.Parts.{sum-snoc, length_part}
 use Rattle.words.proofs.Stores.{sets-join}
 
 -- a word that was read, by its number
 pub word-by : (bs : List ℕ) (k m r : ℕ) → r ≡ word_at bs k → k ≡ m → r ≡ word_at bs m
 word-by bs k m r e h = e ∙ ap (word_at bs) h
+
+-- how great a word can be
+word-le : (bs : List ℕ) → ((i : ℕ) → get_or bs i 0 < 256) → (i : ℕ) → word_at bs i ≤ word_values - 1
+unfolding word_at
+word-le bs low i = omega (arith, low (4 * i), low (4 * i + 1), low (4 * i + 2), low (4 * i + 3))
 
 -- the bytes of two lists of words
 pub bytes-append : (l m : List ℕ) → bytes_of (l ++ m) ≡ bytes_of l ++ bytes_of m
@@ -43,33 +50,30 @@ store-more b u to i w xs e l =
     ∙ (sets-join b (4 * to) (4 * (to + i)) (bytes_of xs) (word_bytes w) (omega (arith, length-bytes xs))
     ∙ ap (sets b (4 * to)) (ap (λ (x : List ℕ). bytes_of xs ++ x) (sym (bytes_one w)) ∙ sym (bytes-append xs (w ∷ []))))
 
--- words of a list that are stored from word `to` on: none yet, and one more
-module _ (b l : List ℕ) (to from : ℕ) where
-  pub put-none : b ≡ sets b (4 * to) (bytes_of (part from 0 l))
-  unfolding part bytes_of flat_map
-  put-none = refl
+-- words of a list that are stored from word `to` on: one more
+pub put_more : (b u xs : List ℕ) (to i w : ℕ) → i < length xs → w ≡ get_or xs i 0 → u ≡ sets b (4 * to) (bytes_of (take i xs)) → sets u (4 * (to + i)) (word_bytes w) ≡ sets b (4 * to) (bytes_of (take (i + 1) xs))
+put_more b u xs to i w h r e =
+    store-more b u to i w (take i xs) e (length-take-le i xs (omega arith)) ∙ ap (λ (x : List ℕ). sets b (4 * to) (bytes_of x)) (ap (λ (k : ℕ). take i xs ++ (k ∷ [])) r ∙ sym (take_more xs i 0 h))
 
-  pub put-more : (u : List ℕ) (i : ℕ) → from + i < length l → u ≡ sets b (4 * to) (bytes_of (part from i l)) → sets u (4 * (to + i)) (word_bytes (get_or l (from + i) 0)) ≡ sets b (4 * to) (bytes_of (part from (i + 1) l))
-  put-more u i h e =
-      store-more b u to i (get_or l (from + i) 0) (part from i l) e (length_part from i l (omega arith)) ∙ ap (λ (x : List ℕ). sets b (4 * to) (bytes_of x)) (part-more from i l h)
+-- and their sum
+pub take-sum : (xs : List ℕ) (i s w : ℕ) → i < length xs → w ≡ get_or xs i 0 → s ≡ sum_of (take i xs) → s + w ≡ sum_of (take (i + 1) xs)
+take-sum xs i s w h r e = omega (arith, sum-snoc (take i xs) (get_or xs i 0), ap sum_of (take_more xs i 0 h))
 
--- zeros that are stored: none yet, and one more
-pub zeros-none : (b : List ℕ) (to : ℕ) → b ≡ sets b (4 * to) (bytes_of (replicate 0 0))
-unfolding bytes_of flat_map
-zeros-none b to = refl
+-- a part of a list that is taken whole
+pub part-taken : (p n m k : ℕ) (l : List ℕ) → n ≡ k → m ≡ k → take m (take n (drop p l)) ≡ part p k l
+unfolding part
+part-taken p n m k l e h = take-take m n (drop p l) (omega arith) ∙ ap (λ (i : ℕ). take i (drop p l)) h
 
-pub zeros-more : (b u : List ℕ) (to i : ℕ) → u ≡ sets b (4 * to) (bytes_of (replicate i 0)) → sets u (4 * (to + i)) (word_bytes 0) ≡ sets b (4 * to) (bytes_of (replicate (i + 1) 0))
-zeros-more b u to i e =
-    store-more b u to i 0 (replicate i 0) e (length-zeros i) ∙ ap (λ (x : List ℕ). sets b (4 * to) (bytes_of x)) (one-zero-more i)
+-- zeros, as bytes
+pub zeros_bytes : (n : ℕ) → bytes_of (replicate n 0) ≡ replicate (4 * n) 0
+unfolding bytes_of flat_map word_bytes
+zeros_bytes zero = refl
+zeros_bytes (suc n) =
+    ap (λ (x : List ℕ). 0 ∷ 0 ∷ 0 ∷ 0 ∷ x) (zeros_bytes n) ∙ (replicate-append-replicate 4 (4 * n) 0 ∙ ap (λ (k : ℕ). replicate k 0) four-more)
   where
-    counted : (n : ℕ) → suc (n + 1) ≡ suc n + 1
-    counted n = omega arith
+    four-more : 4 + 4 * n ≡ 4 * suc n
+    four-more = omega arith
 
-    one-zero-more : (n : ℕ) → ◌≡◌ {A = List ℕ} (replicate n 0 ++ (0 ∷ [])) (replicate (n + 1) 0)
-    one-zero-more zero = refl
-    one-zero-more (suc n) = ap (λ (x : List ℕ). 0 ∷ x) (one-zero-more n) ∙ ap (λ (k : ℕ). replicate k 0) (counted n)
-
--- words of a list of bytes: none, and one more
 module _ (bs : List ℕ) (from : ℕ) where
   pub words_more : (i : ℕ) → words_at bs from i ++ (word_at bs (from + i) ∷ []) ≡ words_at bs from (i + 1)
   unfolding words_at list_of
@@ -99,16 +103,12 @@ module _ (bs : List ℕ) (from : ℕ) where
   unfolding part
   words_take n m h = words-part 0 n m (omega arith) ∙ ap (λ (k : ℕ). words_at bs k n) (add-zero from)
 
-  pub get_none : (w : List ℕ) (to : ℕ) → w ≡ sets w to (words_at bs from 0)
-  unfolding words_at list_of
-  get_none w to = refl
+  -- words that are stored over those of a list, one more and all
+  pub get_more : (u : List ℕ) (i : ℕ) → i < length u → take i u ≡ words_at bs from i → take (i + 1) (set u i (word_at bs (from + i))) ≡ words_at bs from (i + 1)
+  get_more u i h e = take_more_set u i (word_at bs (from + i)) h ∙ (ap (λ (x : List ℕ). x ++ (word_at bs (from + i) ∷ [])) e ∙ words_more i)
 
-  pub get-more : (w u : List ℕ) (to i : ℕ) → u ≡ sets w to (words_at bs from i) → set u (to + i) (word_at bs (from + i)) ≡ sets w to (words_at bs from (i + 1))
-  get-more w u to i e =
-      (λ z. set (e z) (at z) (word_at bs (from + i))) ∙ (sets-snoc w to (words_at bs from i) (word_at bs (from + i)) ∙ ap (sets w to) (words_more i))
-    where
-      at : to + i ≡ to + length (words_at bs from i)
-      at = omega (arith, length-words i)
+  pub get_all : (u : List ℕ) (i n : ℕ) → length u ≤ i → i ≡ n → take i u ≡ words_at bs from i → u ≡ words_at bs from n
+  get_all u i n h e t = sym (take_all i u h) ∙ (t ∙ ap (words_at bs from) e)
 
   pub sums_none : 0 ≡ sum_of (words_at bs from 0)
   unfolding words_at list_of sum_of
@@ -116,6 +116,20 @@ module _ (bs : List ℕ) (from : ℕ) where
 
   pub sums-more : (s i : ℕ) → s ≡ sum_of (words_at bs from i) → s + word_at bs (from + i) ≡ sum_of (words_at bs from (i + 1))
   sums-more s i e = omega (arith, e, sum-snoc (words_at bs from i) (word_at bs (from + i)), ap sum_of (words_more i))
+
+  -- the sum of a chain over their numbers, and how great it can be
+  pub words_sum : (n : ℕ) → sum (map (λ i. word_at bs (from + i)) (range_with_len 0 n)) ≡ sum_of (words_at bs from n)
+  words_sum zero = sums_none
+  words_sum (suc n) =
+      ap (λ (k : ℕ). sum (map (λ i. word_at bs (from + i)) (range_with_len 0 k))) (sym (add-one n))
+      ∙ (sum_by-map-range_with_len_more (λ x. x) (λ i. word_at bs (from + i)) 0 n n (omega arith) ∙ (sums-more _ n (words_sum n) ∙ ap (λ (k : ℕ). sum_of (words_at bs from k)) (add-one n)))
+
+  pub sum-le : ((i : ℕ) → get_or bs i 0 < 256) → (n : ℕ) → sum_of (words_at bs from n) ≤ (word_values - 1) * n
+  sum-le low zero = omega (arith, sums_none)
+  sum-le low (suc n) = omega (arith, sum-le low n, sums-more _ n refl, ap (λ (k : ℕ). sum_of (words_at bs from k)) (add-one n), one)
+    where
+      one : word_at bs (from + n) ≤ word_values - 1
+      one = word-le bs low (from + n)
 
 -- the bytes of a word are four
 four : (w : ℕ) → length (word_bytes w) ≡ 4

@@ -6,24 +6,13 @@ ghost use Rattle.std.proofs.lemmas.List.Edits.{sets};
 ghost use Rattle.lists.specs.Parts.{sum_of, part};
 ghost use Rattle.words.specs.Words as spec;
 
-// A byte of a list.
-fn byte_at(bytes: &[u8], i: usize) -> u32
-    requires { i < length bytes.now }
-    ensures { (result ≡ get_or bytes.now i 0) × (result < 256) }
-{
-    bytes[i] as u32
-}
-
 // Word i of a list of bytes.
 pub fn word_at(bytes: &[u8], i: usize) -> u32
     requires { 4 * i + 4 ≤ length bytes.now }
     ensures { result ≡ spec.word_at bytes.now i }
 {
     let at = 4 * i;
-    byte_at(bytes, at)
-        + 256 * byte_at(bytes, at + 1)
-        + 65536 * byte_at(bytes, at + 2)
-        + 16777216 * byte_at(bytes, at + 3)
+    u32::from_le_bytes([bytes[at], bytes[at + 1], bytes[at + 2], bytes[at + 3]])
 }
 
 // Word i of a list of bytes, stored.
@@ -32,10 +21,7 @@ pub fn put_word(bytes: &mut [u8], i: usize, w: u32)
     ensures { bytes.new ≡ sets bytes.old (4 * i) (spec.word_bytes w) }
 {
     let at = 4 * i;
-    bytes[at] = (w % 256) as u8;
-    bytes[at + 1] = (w / 256 % 256) as u8;
-    bytes[at + 2] = (w / 65536 % 256) as u8;
-    bytes[at + 3] = (w / 16777216 % 256) as u8;
+    bytes[at..at + 4].copy_from_slice(&w.to_le_bytes());
 }
 
 // The words of a list from `from` on, `count` of them, stored as bytes from word `to` on; their sum.
@@ -44,10 +30,9 @@ pub fn put_words(bytes: &mut [u8], to: usize, words: &[u32], from: usize, count:
     ensures { (bytes.new ≡ sets bytes.old (4 * to) (spec.bytes_of (part from count words.now))) × (result ≡ sum_of (part from count words.now)) × (result ≤ (spec.word_values - 1) * count) }
 {
     let mut sum = 0;
-    for i in 0..count {
-        let w = words[from + i];
-        put_word(bytes, to + i, w);
-        sum = sum + w as u64;
+    for (i, w) in words[from..from + count].iter().enumerate() {
+        put_word(bytes, to + i, *w);
+        sum += u64::from(*w);
     }
     sum
 }
@@ -57,9 +42,7 @@ pub fn put_zeros(bytes: &mut [u8], to: usize, count: usize)
     requires { 4 * (to + count) ≤ length bytes.old }
     ensures { bytes.new ≡ sets bytes.old (4 * to) (spec.bytes_of (replicate count 0)) }
 {
-    for i in 0..count {
-        put_word(bytes, to + i, 0);
-    }
+    bytes[4 * to..4 * (to + count)].fill(0);
 }
 
 // `count` words of a list of bytes, from word `from` on, stored in a list of words from `to` on.
@@ -67,8 +50,8 @@ pub fn get_words(bytes: &[u8], from: usize, words: &mut [u32], to: usize, count:
     requires { (4 * (from + count) ≤ length bytes.now) × (to + count ≤ length words.old) }
     ensures { words.new ≡ sets words.old to (spec.words_at bytes.now from count) }
 {
-    for i in 0..count {
-        words[to + i] = word_at(bytes, from + i);
+    for (i, w) in words[to..to + count].iter_mut().enumerate() {
+        *w = word_at(bytes, from + i);
     }
 }
 
@@ -77,9 +60,7 @@ pub fn sum_at(bytes: &[u8], from: usize, count: usize) -> u64
     requires { (4 * (from + count) ≤ length bytes.now) × (count ≤ spec.word_values) }
     ensures { result ≡ sum_of (spec.words_at bytes.now from count) }
 {
-    let mut sum = 0;
-    for i in 0..count {
-        sum = sum + word_at(bytes, from + i) as u64;
-    }
-    sum
+    (0..count)
+        .map(|i| u64::from(word_at(bytes, from + i)))
+        .sum()
 }

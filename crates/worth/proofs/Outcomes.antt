@@ -11,9 +11,22 @@ use Rattle.tangent.specs.Slot.{slot_words}
 use Rattle.packed.specs.Packer.{slot_at}
 use Rattle.packed.specs.Reader.{first_failing}
 use Rattle.worth.specs.Worth.{good_slot, worth, count_below}
-use Rattle.worth.specs.Contract.{most_slots, whole, countable, roomy, refusal, good_at, verdicts_of, not_judged, all_judged, judge_left}
+use denote.Enum.Declared.{tag_of}
+use Rattle.worth.specs.contracts.Worth.{the_type}
+use Rattle.worth.specs.declared.Worth.{Worth}
+use Rattle.worth.specs.declared.Worth.TheVariants.{Absent, Good, Lost, Blank, Long, Short}
+use Rattle.worth.specs.Contract.{byte_of, most_slots, whole, countable, roomy, refusal, good_at, verdicts_of, not_judged, all_judged, judge_left}
 use Rattle.worth.proofs.Filling.{filled_at}
 use Rattle.worth.proofs.Counting.{count_same, failing-same}
+
+-- the byte that a verdict is declared with
+pub byte-is : (w : Worth) → tag_of the_type w ≡ byte_of w
+byte-is Absent = refl
+byte-is Good = refl
+byte-is Lost = refl
+byte-is Blank = refl
+byte-is Long = refl
+byte-is Short = refl
 
 -- the refusal: not whole slots; then too many; then too little room; then none
 module _ (words room : ℕ) where

@@ -4,7 +4,9 @@ use Rattle.lists.specs.Loops.{list_of}
 use Rattle.tangent.specs.Slot.{slot_words}
 use Rattle.packed.specs.Packer.{slot_at, slots_in}
 use Rattle.packed.specs.Reader.{first_failing}
-use Rattle.worth.specs.Worth.{good_slot, worth, count_below}
+use Rattle.worth.specs.Worth.{absent_slot, good_slot, lost_slot, blank_slot, long_slot, short_slot, worth, count_below}
+use Rattle.worth.specs.declared.Worth.{Worth}
+use Rattle.worth.specs.declared.Worth.TheVariants.{Absent, Good, Lost, Blank, Long, Short}
 use Rattle.worth.specs.declared.Judged.{Judged}
 
 -- the most slots whose number 32 bits hold
@@ -26,6 +28,15 @@ roomy words room = leb (words / slot_words) room
 -- the refusal of so many words with room for so many verdicts: 1 where they are not whole slots, or more than 32 bits count; 2 where there is too little room; 0 for none
 unfoldable pub refusal : ℕ → ℕ → ℕ
 refusal words room = cond (whole words) (cond (countable words) (cond (roomy words room) 0 2) 1) 1
+
+-- the byte of a verdict
+abbrev pub byte_of : Worth → ℕ
+byte_of Absent = absent_slot
+byte_of Good = good_slot
+byte_of Lost = lost_slot
+byte_of Blank = blank_slot
+byte_of Long = long_slot
+byte_of Short = short_slot
 
 -- whether slot s of an answer list is good
 unfoldable pub good_at : List ℕ → ℕ → Bool

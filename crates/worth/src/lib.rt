@@ -8,23 +8,35 @@ ghost use Rattle.packed.specs.Reader.{first_failing};
 ghost use Rattle.worth.specs.Worth as spec;
 ghost use Rattle.worth.specs.Contract as contract;
 
-// Word 0 is 0: there is no frame.
-pub const ABSENT: u8 = 0;
+// What a slot is worth, by the byte that C reads.
+#[derive(Clone, Copy, PartialEq, Eq, Debug)]
+pub enum Worth {
+    // Word 0 is 0: there is no frame.
+    Absent = 0,
+    // A frame of two directions that can be packed; that they differ is not said.
+    Good = 1,
+    // Word 0 is neither 0 nor 1: what stood there is lost.
+    Lost = 2,
+    // Word 0 is 1, but the orientation is not one, or the tangent or the bi-tangent is not a direction.
+    Blank = 3,
+    // Both are directions, but a component is beyond 3F800008: request E5 packs the slot as absent.
+    Long = 4,
+    // Both are directions, and none is beyond, but request E5 packs the tangent or the bi-tangent as three zeros.
+    Short = 5,
+}
 
-// A frame of two directions that can be packed; that they differ is not said.
-pub const GOOD: u8 = 1;
+// The bytes by name.
+pub const ABSENT: u8 = Worth::Absent as u8;
 
-// Word 0 is neither 0 nor 1: what stood there is lost.
-pub const LOST: u8 = 2;
+pub const GOOD: u8 = Worth::Good as u8;
 
-// Word 0 is 1, but the orientation is not one, or the tangent or the bi-tangent is not a direction.
-pub const BLANK: u8 = 3;
+pub const LOST: u8 = Worth::Lost as u8;
 
-// Both are directions, but a component is beyond 3F800008: request E5 packs the slot as absent.
-pub const LONG: u8 = 4;
+pub const BLANK: u8 = Worth::Blank as u8;
 
-// Both are directions, and none is beyond, but request E5 packs the tangent or the bi-tangent as three zeros.
-pub const SHORT: u8 = 5;
+pub const LONG: u8 = Worth::Long as u8;
+
+pub const SHORT: u8 = Worth::Short as u8;
 
 // Of a float's bits: the sign, infinity, 2 ^ -126, the greatest that is packed, and the greatest that is packed as 0.
 const SIGN: u32 = 0x80000000;
@@ -82,12 +94,7 @@ fn all_finite(slot: &[u32]) -> bool
     requires { length slot.now ≡ slot_words }
     ensures { result ≡ spec.in_all spec.finite slot.now }
 {
-    finite(slot[1])
-        & finite(slot[2])
-        & finite(slot[3])
-        & finite(slot[4])
-        & finite(slot[5])
-        & finite(slot[6])
+    slot[1..7].iter().all(|w| finite(*w))
 }
 
 // Whether all six components are near enough to be packed.
@@ -95,7 +102,7 @@ fn all_near(slot: &[u32]) -> bool
     requires { length slot.now ≡ slot_words }
     ensures { result ≡ spec.in_all within slot.now }
 {
-    near(slot[1]) & near(slot[2]) & near(slot[3]) & near(slot[4]) & near(slot[5]) & near(slot[6])
+    slot[1..7].iter().all(|w| near(*w))
 }
 
 // Whether a component of the tangent counts, and one of the bi-tangent.
@@ -125,34 +132,34 @@ fn directed(slot: &[u32]) -> bool
 }
 
 // What a slot is worth whose word 0 is 1.
-fn present_worth(slot: &[u32]) -> u8
+fn present_worth(slot: &[u32]) -> Worth
     requires { length slot.now ≡ slot_words }
-    ensures { result ≡ spec.present_worth slot.now }
+    ensures { contract.byte_of result ≡ spec.present_worth slot.now }
 {
     if !directed(slot) {
-        return BLANK;
+        return Worth::Blank;
     }
     if !all_near(slot) {
-        return LONG;
+        return Worth::Long;
     }
     if !both_shown(slot) {
-        return SHORT;
+        return Worth::Short;
     }
-    GOOD
+    Worth::Good
 }
 
 // What a slot is worth.
-fn slot_worth(slot: &[u32]) -> u8
+fn slot_worth(slot: &[u32]) -> Worth
     requires { length slot.now ≡ slot_words }
-    ensures { result ≡ spec.worth slot.now }
+    ensures { contract.byte_of result ≡ spec.worth slot.now }
 {
     if slot[0] == 0 {
-        return ABSENT;
+        return Worth::Absent;
     }
     if slot[0] == 1 {
         return present_worth(slot);
     }
-    LOST
+    Worth::Lost
 }
 
 // A verdict on each of `count` slots.
@@ -163,7 +170,7 @@ fn judge_slots(answer: &[u32], verdicts: &mut [u8], count: usize)
     for s in 0..count {
         let from = tangent::SLOT_WORDS * s;
         let end = from + tangent::SLOT_WORDS;
-        verdicts[s] = slot_worth(&answer[from..end]);
+        verdicts[s] = slot_worth(&answer[from..end]) as u8;
     }
 }
 

@@ -6,6 +6,7 @@ use mathlib.Core.List.{List}
 use lib.ListN.{set, replicate, length-set}
 use lib.Seq.{sets}
 use Rattle.blocks.specs.Judged.{lost_words}
+use Rattle.words.proofs.Stores.{part-cleared}
 use Rattle.blocks.proofs.lose_one.Goals as goal
 
 -- word 0, and the zeros after it
@@ -16,15 +17,7 @@ lost-is l u p wide h = h ∙ ap (λ (q : ℕ). sets (set l p 2) q (replicate (wi
     next : p + 1 ≡ suc p
     next = omega arith
 
-pub clear-requires : goal.clear-requires
-clear-requires c = simp length-set (omega arith)
-
-pub shape_of-answer : goal.shape_of-answer
-shape_of-answer c =
-    let a = c.args in
-    c.clear.auto.answer ∙ length-set a.answer.now a.p _
-
 pub returns : goal.returns
 returns c =
     let a = c.args in
-    lost-is a.answer.now _ a.p a.wide c.clear.ensures
+    lost-is a.answer.now _ a.p a.wide (part-cleared (set a.answer.now a.p 2) _ (a.p + 1) _ (a.wide - 1) (c.fill.ensures.after (λ y e. e)) (omega arith) (simp length-set (omega arith)))

@@ -7,12 +7,6 @@ use Rattle.blocks.proofs.records_used.Goals as goal
 pub records_before-requires : goal.records_before-requires
 records_before-requires c = omega (arith, block-below c.args.kind c.args.total c.args.b c.requires)
 
-pub returns-then-left-held : goal.returns-then-left-held
-unfolding records_used
-returns-then-left-held c =
-    (omega (arith, c.if-left-held.true, c.records_held-held.ensures, c.records_before.ensures), omega (arith, c.if-left-held.true, c.records_held-held.ensures), block-below c.args.kind c.args.total c.args.b c.requires)
-
 pub returns : goal.returns
 unfolding records_used
-returns c =
-    (omega (arith, c.if-left-held.false, c.records_held-held.ensures, c.records_before.ensures), omega (arith, c.records_held-held.ensures), block-below c.args.kind c.args.total c.args.b c.requires)
+returns c = (omega (arith, c.min.ensures, c.records_held.ensures, c.records_before.ensures), omega (arith, c.min.ensures), block-below c.args.kind c.args.total c.args.b c.requires)

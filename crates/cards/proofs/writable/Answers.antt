@@ -4,6 +4,7 @@ use native.Mathlib.Omega.{arith}
 use mathlib.Core.Path.{◌≡◌, sym, ◌∙◌, ap}
 use lib.Dec.{leb}
 use lib.ListN.{length, get_or}
+use borrow.Author.Tests.{le-ltb}
 use Rattle.lists.specs.Parts.{every_below}
 use Rattle.blocks.specs.Format.{record_words}
 use Rattle.blocks.proofs.Counts.{words-in}
@@ -33,11 +34,6 @@ returns-then-answer-wide-ne0 c =
 whole : (c : At-Else-answer-wide-ne0) → let a = c.args in length a.answer.now % record_words a.kind ≡ 0
 whole c = omega (arith, c.if-answer-wide-ne0.false, left c.before)
 
-pub returns-then-count-ge4294967296 : goal.returns-then-count-ge4294967296
-returns-then-count-ge4294967296 c =
-    let a = c.args in
-    cannot-many a.kind a.answer.now (whole c.before.before.before) (omega (arith, c.if-count-ge4294967296.true, c.records_of-count.ensures))
-
 pub all_marked-requires : goal.all_marked-requires
 unfolding records_of
 all_marked-requires c =
@@ -46,9 +42,14 @@ all_marked-requires c =
     let product : c.record_words-wide.result * c.records_of-count.result ≡ record_words a.kind * records_of a.kind a.answer.now = λ z. c.record_words-wide.ensures.0 z * c.records_of-count.ensures z in
     (omega (arith, product, inside), c.record_words-wide.ensures.1)
 
-pub returns : goal.returns
-returns c =
+pub returns-then-count-lt4294967296 : goal.returns-then-count-lt4294967296
+returns-then-count-lt4294967296 c =
     let a = c.args in
     c.all_marked.ensures
     ∙ ((λ z. every_below (c.records_of-count.ensures z) (λ r. leb (get_or a.answer.now (c.record_words-wide.ensures.0 z * r) 0) 1))
-    ∙ sym (marked-decides a.kind a.answer.now (whole c.before.before.before.before) (omega (arith, c.if-count-ge4294967296.false, c.records_of-count.ensures))))
+    ∙ sym (marked-decides a.kind a.answer.now (whole c.before.before.before.before) (omega (arith, c.if-count-lt4294967296.true, c.records_of-count.ensures))))
+
+pub returns-else-count-lt4294967296 : goal.returns-else-count-lt4294967296
+returns-else-count-lt4294967296 c =
+    let a = c.args in
+    le-ltb _ _ (omega (arith, c.if-count-lt4294967296.false)) ∙ cannot-many a.kind a.answer.now (whole c.before.before.before) (omega (arith, c.if-count-lt4294967296.false, c.records_of-count.ensures))

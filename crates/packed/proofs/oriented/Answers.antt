@@ -1,12 +1,9 @@
 -- `packed::oriented` meets its contract. Assumes nothing.
-use borrow.Author.Tests.{eq-eqb, ne_eqb}
 use Rattle.packed.specs.Reader.{oriented}
+use mathlib.Core.Path.{◌∙◌}
+use Rattle.packed.proofs.Places.{bit-is}
 use Rattle.packed.proofs.oriented.Goals as goal
-
-pub returns-then-n-eq1 : goal.returns-then-n-eq1
-unfolding oriented
-returns-then-n-eq1 c = simp (eq-eqb _ _ c.if-n-eq1.true)
 
 pub returns : goal.returns
 unfolding oriented
-returns c = simp (ne_eqb _ _ c.if-n-eq1.false)
+returns c = c.from.ensures ∙ bit-is _

@@ -1,12 +1,11 @@
 -- `packed::pack_slots` meets its contract. Assumes nothing.
 use native.Mathlib.Omega.{arith}
-use Prim.Native.Nat.{ℕ, ◌*◌}
+use Prim.Native.Nat.{ℕ}
 use mathlib.Core.Path.{◌∙◌, ap}
 use mathlib.Core.List.{List}
-use lib.Seq.{sets}
 use Rattle.tangent.specs.Slot.{slot_words}
 use Rattle.packed.specs.Packer.{packed_words, packed_slot, slot_at, packed_slots}
-use Rattle.packed.proofs.Runs.{length-packed, run_none, run_more, run-all, cut-is, cut-long}
+use Rattle.packed.proofs.Runs.{length-packed, run_none, stored_more, run-all, cut-is, cut-long}
 use Rattle.packed.proofs.pack_slots.Goals as goal
 
 -- what is stored for slot s
@@ -22,17 +21,13 @@ pack_slot-requires c =
     let a = c.args in
     cut-long slot_words l.s a.answer.now (omega arith)
 
-pub put_seven-requires : goal.put_seven-requires
-put_seven-requires c = omega (arith, c.loop-s.invariant.long)
-
 pub loop-s-preserved : goal.loop-s-preserved
 unfolding slot_at
 loop-s-preserved c =
     let l = c.loop-s in
     let a = c.args in
-    let e = c.pack_slot.ensures ∙ ap packed_slot (cut-is slot_words l.s a.answer.now) in
-    run_more packed_words a.count (stored a.answer.now) (λ i. length-packed (slot_at a.answer.now i)) a.packed.now l.packed _ l.s (omega arith) l.invariant
-    (c.put_seven.ensures ∙ ap (sets l.packed (packed_words * l.s)) e) c.put_seven.auto.l
+    let e = c.copy_from_slice.ensures.after ∙ (c.pack_slot.ensures ∙ ap packed_slot (cut-is slot_words l.s a.answer.now)) in
+    stored_more packed_words a.count (stored a.answer.now) (λ i. length-packed (slot_at a.answer.now i)) a.packed.now l.packed _ l.s _ (omega arith) l.invariant e (omega arith) (omega (arith, l.invariant.long))
 
 pub returns : goal.returns
 unfolding packed_slots

@@ -7,6 +7,6 @@ pub returns-then-o-eq1 : goal.returns-then-o-eq1
 unfolding packed_facing
 returns-then-o-eq1 c = simp (eq-eqb _ _ c.if-o-eq1.true)
 
-pub returns : goal.returns
+pub returns-else-o-eq1 : goal.returns-else-o-eq1
 unfolding packed_facing
-returns c = simp (ne_eqb _ _ c.if-o-eq1.false)
+returns-else-o-eq1 c = simp (ne_eqb _ _ c.if-o-eq1.false)

@@ -1,7 +1,8 @@
 -- `packed::units` meets its contract. Assumes nothing.
 use native.Mathlib.Omega.{arith}
-use mathlib.Core.Path.{◌∙◌, subst, sym, ◌≡◌}
-use Prim.Native.Nat.{ℕ, ◌≤◌}
+use mathlib.Core.Path.{◌∙◌, ap, subst, sym, ◌≡◌}
+use Prim.Native.Nat.{ℕ, ◌-◌, ◌*◌, ◌/◌, ◌^◌, ◌≤◌}
+use Rattle.packed.specs.Rounding as rounding
 use Rattle.packed.specs.Component.{full_scale}
 use Rattle.packed.specs.Component as spec
 use Rattle.packed.proofs.Range.{units-none, units-le, units-high}
@@ -18,7 +19,8 @@ returns-then-m-lt-LEAST c = (units-none c.args.m c.if-m-lt-LEAST.true, omega ari
 
 -- what comes back from `nearest`
 nearest-is : (c : At-After-nearest) → c.nearest.result ≡ spec.units c.args.m
-nearest-is c = c.nearest.ensures ∙ units-high c.args.m (omega arith)
+nearest-is c =
+    c.nearest.ensures ∙ (ap (λ (d : ℕ). rounding.nearest (full_scale * d) (2 ^ (150 - c.args.m / spec.leading))) c.from.ensures ∙ units-high c.args.m (omega arith))
 
 nearest-le : (c : At-After-nearest) → c.nearest.result ≤ full_scale
 nearest-le c = subst (λ (q : ℕ). q ≤ full_scale) (sym (nearest-is c)) (units-le c.args.m c.requires)

@@ -20,5 +20,5 @@ high n r h e = e ∙ sym (ap (λ (b : Bool). cond b n (n + extended)) (le-ltb n 
 pub returns-then-n-lt-NOTHING : goal.returns-then-n-lt-NOTHING
 returns-then-n-lt-NOTHING c = low _ _ (omega (arith, c.if-n-lt-NOTHING.true)) (omega arith)
 
-pub returns : goal.returns
-returns c = high _ _ (omega (arith, c.if-n-lt-NOTHING.false)) (omega arith)
+pub returns-else-n-lt-NOTHING : goal.returns-else-n-lt-NOTHING
+returns-else-n-lt-NOTHING c = high _ _ (omega (arith, c.if-n-lt-NOTHING.false)) (omega arith)

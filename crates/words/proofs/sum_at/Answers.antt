@@ -1,26 +1,22 @@
 -- `words::sum_at` meets its contract. Assumes nothing.
 use native.Mathlib.Omega.{arith}
-use Prim.Native.Nat.{◌+◌}
-use native.Mathlib.Nat.{le_antisymm}
-use mathlib.Core.Path.{◌∙◌, ap}
-use Rattle.lists.specs.Parts.{sum_of}
-use Rattle.words.specs.Words.{words_at}
-use Rattle.words.proofs.Words.{word-by, sums_none, sums-more}
+use Prim.Native.Nat.{ℕ, ◌+◌}
+use mathlib.Core.Path.{◌∙◌}
+use Rattle.std.proofs.Common.{rules}
+use Rattle.std.proofs.lemmas.Iterator.{YieldsList-from_range, YieldsList-from_map}
+use Rattle.std.proofs.lemmas.Iterator.Consumers.{sum_from_yields_List, fits_from_yields_list}
+use Rattle.words.specs.Words.{word_at}
+use Rattle.words.proofs.Words.{words_sum, sum-le}
 use Rattle.words.proofs.sum_at.Goals as goal
 
-pub loop-i-init : goal.loop-i-init
-loop-i-init c =
+pub sum-requires-clause-fits : goal.sum-requires-clause-fits
+sum-requires-clause-fits c =
     let a = c.args in
-    (omega arith, sums_none a.bytes.now a.from, omega arith)
-
-pub loop-i-preserved : goal.loop-i-preserved
-loop-i-preserved c =
-    let l = c.loop-i in
-    let a = c.args in
-    (omega arith, ap (λ k. l.sum + k) (word-by _ _ (a.from + l.i) _ c.word_at.ensures (omega arith)) ∙ sums-more a.bytes.now a.from l.sum l.i l.invariant.1, omega arith)
+    fits_from_yields_list c.map.result _ (YieldsList-from_map _ (λ (i : ℕ). word_at a.bytes.now (a.from + i)) (YieldsList-from_range 0 a.count a.count c.map.ensures.source (omega arith)) c.map.ensures.closure (λ x r q k. search rules))
+    (omega (arith, words_sum a.bytes.now a.from a.count, sum-le a.bytes.now a.from (λ i. omega (arith, c.type_inv.bytes i)) a.count))
 
 pub returns : goal.returns
 returns c =
-    let l = c.loop-i in
     let a = c.args in
-    l.invariant.1 ∙ ap (λ k. sum_of (words_at a.bytes.now a.from k)) (le_antisymm l.invariant.0 c.loop-i-test.false)
+    sum_from_yields_List c.map.result _ c.sum.ensures.ran (YieldsList-from_map _ (λ (i : ℕ). word_at a.bytes.now (a.from + i)) (YieldsList-from_range 0 a.count a.count c.map.ensures.source (omega arith)) c.map.ensures.closure (λ x r q k. search rules))
+    ∙ words_sum a.bytes.now a.from a.count

@@ -8,6 +8,7 @@ use Rattle.packed.specs.Packer.{slot_at}
 use Rattle.packed.proofs.Runs.{cut-is, cut-long}
 use Rattle.worth.specs.Worth.{worth}
 use Rattle.worth.specs.Contract.{verdicts_of}
+use Rattle.worth.proofs.Outcomes.{byte-is}
 use Rattle.worth.proofs.Filling.{filled_none, filled_more, filled-all}
 use Rattle.worth.proofs.judge_slots.Goals as goal
 
@@ -33,7 +34,7 @@ loop-s-preserved c =
     let l = c.loop-s in
     let a = c.args in
     filled_more a.count (stored a.answer.now) a.verdicts.now l.verdicts l.s _ (omega arith)
-    (c.slot_worth.ensures ∙ ap worth (cut-is slot_words l.s a.answer.now)) l.invariant
+    (byte-is _ ∙ (c.slot_worth.ensures ∙ ap worth (cut-is slot_words l.s a.answer.now))) l.invariant
 
 pub returns : goal.returns
 unfolding verdicts_of

@@ -1,0 +1,11 @@
+-- `cards::WrittenFromResultUsizeRefusal::from` meets its contract. Assumes nothing.
+use mathlib.Core.Path.{sym, ap, ◌∙◌}
+use Rattle.cards.specs.Contract.{written}
+use Rattle.cards.proofs.Outcomes.{number-is}
+use Rattle.cards.proofs.WrittenFromResultUsizeRefusal.from.Goals as goal
+
+pub returns-in-Ok : goal.returns-in-Ok
+returns-in-Ok c = sym (ap written c.in-Ok.is)
+
+pub returns-in-Err : goal.returns-in-Err
+returns-in-Err c = (λ z. record { number = number-is c.in-Err.refusal z; bytes = 0 }) ∙ sym (ap written c.in-Err.is)
