@@ -28,30 +28,23 @@ pub struct Going {
 
 // ---- one place
 
-// A word as a number.
-fn wide(x: u32) -> usize
-    ensures { result ≡ x }
-{
-    x as usize
-}
-
 // Back to the place stored last, if there is one. The places are rows of sides, in the column that the sorts work in.
 fn back(work: &[u32], rows: usize, stored: usize, count: usize) -> Going
     requires { (stored ≤ rows) × (columns * rows ≤ length work.now) }
     ensures { result ≡ spec.back rows stored count work.now }
 {
     if stored == 0 {
-        return Going {
+        Going {
             side: 0,
             left: 0,
-            count: count,
-        };
-    }
-    let side = wide(work[table::SPARE * rows + (stored - 1)]);
-    Going {
-        side: side,
-        left: stored,
-        count: count,
+            count,
+        }
+    } else {
+        Going {
+            side: work[table::SPARE * rows + (stored - 1)] as usize,
+            left: stored,
+            count,
+        }
     }
 }
 
@@ -96,8 +89,7 @@ fn cross(
 {
     let stored = s.left - 1;
     let count = s.count;
-    let side = s.side;
-    let Some(u) = neighbors::link_at(work, rows, 3 * tris, side) else {
+    let Some(u) = neighbors::link_at(work, rows, 3 * tris, s.side) else {
         return back(work, rows, stored, count);
     };
     go_to(
@@ -146,8 +138,6 @@ fn start_at(work: &mut [u32], rows: usize, tris: usize, k: usize, s: GroupCounts
     ensures only { Only spec.flat_columns rows work.old work.new }
 {
     let t = k / 3;
-    let groups = s.groups;
-    let members = s.members;
     if work[table::ANY * rows + t] != 0 {
         return s;
     }
@@ -156,12 +146,10 @@ fn start_at(work: &mut [u32], rows: usize, tris: usize, k: usize, s: GroupCounts
     }
     let vertex = work[table::VERTEX * rows + k];
     let orient = work[table::ORIENTATION * rows + t];
-    work[table::BEGIN * rows + groups as usize] = members as u32;
-    let n = walk_from(work, rows, tris, t, groups + 1, vertex, orient, members);
-    GroupCounts {
-        groups: groups + 1,
-        members: n,
-    }
+    let groups = s.groups + 1;
+    work[table::BEGIN * rows + s.groups as usize] = s.members as u32;
+    let members = walk_from(work, rows, tris, t, groups, vertex, orient, s.members);
+    GroupCounts { groups, members }
 }
 
 // All groups, in triangle and corner order.

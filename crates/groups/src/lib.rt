@@ -3,7 +3,7 @@
 // The two call each other, up to 2F corners deep for F faces, and one call more that stops.
 #![tactic(auto)]
 
-ghost use Rattle.std.specs.Prelude.{◌≡◌, List, ℕ, ◌+◌, ◌*◌, ◌/◌, ◌<◌, ◌≤◌, length};
+ghost use Rattle.std.specs.Prelude.{◌≡◌, List, ℕ, ◌+◌, ◌*◌, ◌/◌, ◌<◌, ◌≤◌, length, SomeIff};
 ghost use Rattle.table.specs.Columns.{columns, link_column};
 ghost use Rattle.table.specs.Table.{cell};
 ghost use Rattle.lists.specs.Loops.{up_to};
@@ -25,21 +25,13 @@ pub struct GroupCounts {
 
 // ---- one triangle
 
-// The corner of triangle t that has the vertex; 3 where none has.
-fn corner_of(work: &[u32], rows: usize, t: usize, vertex: u32) -> usize
+// The corner of triangle t that has the vertex, if one has.
+fn corner_of(work: &[u32], rows: usize, t: usize, vertex: u32) -> Option<usize>
     requires { (3 * t + 3 ≤ rows) × (columns * rows ≤ length work.now) }
-    ensures { (result ≡ spec.corner_of rows t vertex work.now) × (result ≤ 3) }
+    ensures { SomeIff result (spec.corner_of rows t vertex work.now < 3) (spec.corner_of rows t vertex work.now) }
 {
-    if work[table::VERTEX * rows + 3 * t] == vertex {
-        return 0;
-    }
-    if work[table::VERTEX * rows + (3 * t + 1)] == vertex {
-        return 1;
-    }
-    if work[table::VERTEX * rows + (3 * t + 2)] == vertex {
-        return 2;
-    }
-    3
+    let first = table::VERTEX * rows + 3 * t;
+    work[first..first + 3].iter().position(|v| *v == vertex)
 }
 
 // A `group_with_any` triangle with no corner in a group takes the orientation.
@@ -47,19 +39,14 @@ fn adopt(work: &mut [u32], rows: usize, t: usize, orient: u32)
     requires { (3 * t + 3 ≤ rows) × (columns * rows ≤ length work.old) }
     ensures { work.new ≡ spec.adopted rows t orient work.old }
 {
-    if work[table::ANY * rows + t] == 0 {
-        return;
+    let any = work[table::ANY * rows + t] != 0;
+    if any
+        && work[table::GROUP * rows + 3 * t] == 0
+        && work[table::GROUP * rows + (3 * t + 1)] == 0
+        && work[table::GROUP * rows + (3 * t + 2)] == 0
+    {
+        work[table::ORIENTATION * rows + t] = orient;
     }
-    if work[table::GROUP * rows + 3 * t] != 0 {
-        return;
-    }
-    if work[table::GROUP * rows + (3 * t + 1)] != 0 {
-        return;
-    }
-    if work[table::GROUP * rows + (3 * t + 2)] != 0 {
-        return;
-    }
-    work[table::ORIENTATION * rows + t] = orient;
 }
 
 // Enters triangle t: its corner, which is marked and is member `count`; none where the walk stops there.
@@ -76,10 +63,7 @@ pub fn enter_at(
     ensures entry { result ≡ (spec.enter rows t group vertex orient count work.old).entry }
     ensures work { work.new ≡ (spec.enter rows t group vertex orient count work.old).work }
 {
-    let i = corner_of(work, rows, t, vertex);
-    if i == 3 {
-        return None;
-    }
+    let i = corner_of(work, rows, t, vertex)?;
     if work[table::GROUP * rows + (3 * t + i)] != 0 {
         return None;
     }
@@ -147,8 +131,6 @@ fn start_at(work: &mut [u32], rows: usize, tris: usize, k: usize, s: GroupCounts
     ensures { spec.Turned rows tris k (spec.state work.old s) (spec.state work.new result) }
 {
     let t = k / 3;
-    let groups = s.groups;
-    let members = s.members;
     if work[table::ANY * rows + t] != 0 {
         return s;
     }
@@ -157,12 +139,10 @@ fn start_at(work: &mut [u32], rows: usize, tris: usize, k: usize, s: GroupCounts
     }
     let vertex = work[table::VERTEX * rows + k];
     let orient = work[table::ORIENTATION * rows + t];
-    work[table::BEGIN * rows + groups as usize] = members as u32;
-    let n = corner_step(work, rows, tris, t, groups + 1, vertex, orient, members);
-    GroupCounts {
-        groups: groups + 1,
-        members: n,
-    }
+    let groups = s.groups + 1;
+    work[table::BEGIN * rows + s.groups as usize] = s.members as u32;
+    let members = corner_step(work, rows, tris, t, groups, vertex, orient, s.members);
+    GroupCounts { groups, members }
 }
 
 // All groups, in triangle and corner order.
