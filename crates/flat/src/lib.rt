@@ -16,7 +16,7 @@ ghost use Rattle.groups.specs.Marks.{Asked, Walked};
 ghost use Rattle.groups.specs.Walk as walks;
 ghost use Rattle.flat.specs.Places as spec;
 
-use groups::GroupCounts;
+use groups::{Group, GroupCounts};
 
 // How the walk stands: the side to cross, how many are left with it (the others are stored), and the number of members of all groups so far.
 #[derive(Clone, Copy)]
@@ -54,16 +54,14 @@ fn go_to(
     rows: usize,
     tris: usize,
     t: usize,
-    group: u32,
-    vertex: u32,
-    orient: u32,
+    g: Group,
     stored: usize,
     count: usize,
 ) -> Going
-    requires { (t < tris) × walks.Ready rows tris group count work.old × spec.Stored rows tris stored work.old }
-    ensures { spec.Goes rows tris group stored work.old work.new result (walks.corner rows group vertex orient) (λ n. spec.all rows (walks.corner rows group vertex orient n) (walks.corner rows group vertex orient n (walks.walk (spec.blank rows work.old) count) t) (spec.stack rows work.old stored)) }
+    requires { (t < tris) × walks.Ready rows tris g.number count work.old × spec.Stored rows tris stored work.old }
+    ensures { spec.Goes rows tris g.number stored work.old work.new result (walks.corner rows g.number g.vertex g.orientation) (λ n. spec.all rows (walks.corner rows g.number g.vertex g.orientation n) (walks.corner rows g.number g.vertex g.orientation n (walks.walk (spec.blank rows work.old) count) t) (spec.stack rows work.old stored)) }
 {
-    let Some(i) = groups::enter_at(work, rows, t, group, vertex, orient, count) else {
+    let Some(i) = groups::enter_at(work, rows, t, g, count) else {
         return back(work, rows, stored, count);
     };
     work[table::SPARE * rows + stored] = (3 * t + i) as u32;
@@ -75,56 +73,29 @@ fn go_to(
 }
 
 // Over the side to cross.
-fn cross(
-    work: &mut [u32],
-    rows: usize,
-    tris: usize,
-    group: u32,
-    vertex: u32,
-    orient: u32,
-    s: Going,
-) -> Going
-    requires { (0 < s.left) × (s.side < 3 * tris) × walks.Ready rows tris group s.count work.old × spec.Left rows tris s.left work.old }
-    ensures { spec.Goes rows tris group (s.left - 1) work.old work.new result (walks.corner rows group vertex orient) (λ n. spec.all rows (walks.corner rows group vertex orient n) (walks.walk (spec.blank rows work.old) s.count) (spec.places rows work.old s.side s.left)) }
+fn cross(work: &mut [u32], rows: usize, tris: usize, g: Group, s: Going) -> Going
+    requires { (0 < s.left) × (s.side < 3 * tris) × walks.Ready rows tris g.number s.count work.old × spec.Left rows tris s.left work.old }
+    ensures { spec.Goes rows tris g.number (s.left - 1) work.old work.new result (walks.corner rows g.number g.vertex g.orientation) (λ n. spec.all rows (walks.corner rows g.number g.vertex g.orientation n) (walks.walk (spec.blank rows work.old) s.count) (spec.places rows work.old s.side s.left)) }
 {
     let stored = s.left - 1;
     let count = s.count;
     let Some(u) = neighbors::link_at(work, rows, 3 * tris, s.side) else {
         return back(work, rows, stored, count);
     };
-    go_to(
-        work,
-        rows,
-        tris,
-        u / 3,
-        group,
-        vertex,
-        orient,
-        stored,
-        count,
-    )
+    go_to(work, rows, tris, u / 3, g, stored, count)
 }
 
 // ---- the walk
 
 // All places that are left, until none is. The result is the number of members of all groups so far.
-fn walk_from(
-    work: &mut [u32],
-    rows: usize,
-    tris: usize,
-    t: usize,
-    group: u32,
-    vertex: u32,
-    orient: u32,
-    count: usize,
-) -> usize
-    requires { (t < tris) × walks.Ready rows tris group count work.old }
-    ensures walked { walks.Steps rows (walks.walk (spec.blank rows work.old) count) (walks.walk (spec.blank rows work.new) result) (λ n. walks.corner rows group vertex orient n (walks.walk (spec.blank rows work.old) count) t) }
+fn walk_from(work: &mut [u32], rows: usize, tris: usize, t: usize, g: Group, count: usize) -> usize
+    requires { (t < tris) × walks.Ready rows tris g.number count work.old }
+    ensures walked { walks.Steps rows (walks.walk (spec.blank rows work.old) count) (walks.walk (spec.blank rows work.new) result) (λ n. walks.corner rows g.number g.vertex g.orientation n (walks.walk (spec.blank rows work.old) count) t) }
     ensures only { Only spec.flat_columns rows work.old work.new }
 {
-    let mut s = go_to(work, rows, tris, t, group, vertex, orient, 0, count);
+    let mut s = go_to(work, rows, tris, t, g, 0, count);
     while 0 < s.left {
-        s = cross(work, rows, tris, group, vertex, orient, s);
+        s = cross(work, rows, tris, g, s);
     }
     s.count
 }
@@ -144,12 +115,16 @@ fn start_at(work: &mut [u32], rows: usize, tris: usize, k: usize, s: GroupCounts
     if work[table::GROUP * rows + k] != 0 {
         return s;
     }
-    let vertex = work[table::VERTEX * rows + k];
-    let orient = work[table::ORIENTATION * rows + t];
-    let groups = s.groups + 1;
+    let g = Group {
+        number: s.groups + 1,
+        vertex: work[table::VERTEX * rows + k],
+        orientation: work[table::ORIENTATION * rows + t],
+    };
     work[table::BEGIN * rows + s.groups as usize] = s.members as u32;
-    let members = walk_from(work, rows, tris, t, groups, vertex, orient, s.members);
-    GroupCounts { groups, members }
+    GroupCounts {
+        groups: g.number,
+        members: walk_from(work, rows, tris, t, g, s.members),
+    }
 }
 
 // All groups, in triangle and corner order.

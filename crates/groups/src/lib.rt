@@ -23,6 +23,14 @@ pub struct GroupCounts {
     pub members: usize,
 }
 
+// The group of a walk: its number, and the vertex and the orientation that its corners have.
+#[derive(Clone, Copy)]
+pub struct Group {
+    pub number: u32,
+    pub vertex: u32,
+    pub orientation: u32,
+}
+
 // ---- one triangle
 
 // The corner of triangle t that has the vertex, if one has.
@@ -50,29 +58,21 @@ fn adopt(work: &mut [u32], rows: usize, t: usize, orient: u32)
 }
 
 // Enters triangle t: its corner, which is marked and is member `count`; none where the walk stops there.
-pub fn enter_at(
-    work: &mut [u32],
-    rows: usize,
-    t: usize,
-    group: u32,
-    vertex: u32,
-    orient: u32,
-    count: usize,
-) -> Option<usize>
+pub fn enter_at(work: &mut [u32], rows: usize, t: usize, g: Group, count: usize) -> Option<usize>
     requires { (3 * t + 3 ≤ rows) × (columns * rows ≤ length work.old) × (rows < 4294967295) × (count ≤ rows) }
-    ensures entry { result ≡ (spec.enter rows t group vertex orient count work.old).entry }
-    ensures work { work.new ≡ (spec.enter rows t group vertex orient count work.old).work }
+    ensures entry { result ≡ (spec.enter rows t g.number g.vertex g.orientation count work.old).entry }
+    ensures work { work.new ≡ (spec.enter rows t g.number g.vertex g.orientation count work.old).work }
 {
-    let i = corner_of(work, rows, t, vertex)?;
+    let i = corner_of(work, rows, t, g.vertex)?;
     if work[table::GROUP * rows + (3 * t + i)] != 0 {
         return None;
     }
-    adopt(work, rows, t, orient);
-    if work[table::ORIENTATION * rows + t] != orient {
+    adopt(work, rows, t, g.orientation);
+    if work[table::ORIENTATION * rows + t] != g.orientation {
         return None;
     }
     work[table::MET * rows + count] = (3 * t + i) as u32;
-    work[table::GROUP * rows + (3 * t + i)] = group;
+    work[table::GROUP * rows + (3 * t + i)] = g.number;
     Some(i)
 }
 
@@ -85,42 +85,31 @@ fn corner_step(
     rows: usize,
     tris: usize,
     t: usize,
-    group: u32,
-    vertex: u32,
-    orient: u32,
+    g: Group,
     count: usize,
 ) -> usize
-    requires { (t < tris) × spec.Ready rows tris group count work.old }
-    ensures { spec.Steps rows (spec.walk work.old count) (spec.walk work.new result) (λ n. spec.corner rows group vertex orient n (spec.walk work.old count) t) }
+    requires { (t < tris) × spec.Ready rows tris g.number count work.old }
+    ensures { spec.Steps rows (spec.walk work.old count) (spec.walk work.new result) (λ n. spec.corner rows g.number g.vertex g.orientation n (spec.walk work.old count) t) }
 {
-    let Some(i) = enter_at(work, rows, t, group, vertex, orient, count) else {
+    let Some(i) = enter_at(work, rows, t, g, count) else {
         return count;
     };
     let first = 3 * t + (i + 2) % 3;
     let second = 3 * t + i;
-    let n = side_step(work, rows, tris, first, group, vertex, orient, count + 1);
-    side_step(work, rows, tris, second, group, vertex, orient, n)
+    let n = side_step(work, rows, tris, first, g, count + 1);
+    side_step(work, rows, tris, second, g, n)
 }
 
 // Over a side to the corner beyond.
 #[cycle(corner_step_side_step)]
-fn side_step(
-    work: &mut [u32],
-    rows: usize,
-    tris: usize,
-    k: usize,
-    group: u32,
-    vertex: u32,
-    orient: u32,
-    count: usize,
-) -> usize
-    requires { (k < 3 * tris) × spec.Ready rows tris group count work.old }
-    ensures { spec.Steps rows (spec.walk work.old count) (spec.walk work.new result) (λ n. spec.side rows (spec.corner rows group vertex orient n) (spec.walk work.old count) k) }
+fn side_step(work: &mut [u32], rows: usize, tris: usize, k: usize, g: Group, count: usize) -> usize
+    requires { (k < 3 * tris) × spec.Ready rows tris g.number count work.old }
+    ensures { spec.Steps rows (spec.walk work.old count) (spec.walk work.new result) (λ n. spec.side rows (spec.corner rows g.number g.vertex g.orientation n) (spec.walk work.old count) k) }
 {
     let Some(u) = neighbors::link_at(work, rows, 3 * tris, k) else {
         return count;
     };
-    corner_step(work, rows, tris, u / 3, group, vertex, orient, count)
+    corner_step(work, rows, tris, u / 3, g, count)
 }
 
 // ---- the groups
@@ -137,12 +126,16 @@ fn start_at(work: &mut [u32], rows: usize, tris: usize, k: usize, s: GroupCounts
     if work[table::GROUP * rows + k] != 0 {
         return s;
     }
-    let vertex = work[table::VERTEX * rows + k];
-    let orient = work[table::ORIENTATION * rows + t];
-    let groups = s.groups + 1;
+    let g = Group {
+        number: s.groups + 1,
+        vertex: work[table::VERTEX * rows + k],
+        orientation: work[table::ORIENTATION * rows + t],
+    };
     work[table::BEGIN * rows + s.groups as usize] = s.members as u32;
-    let members = corner_step(work, rows, tris, t, groups, vertex, orient, s.members);
-    GroupCounts { groups, members }
+    GroupCounts {
+        groups: g.number,
+        members: corner_step(work, rows, tris, t, g, s.members),
+    }
 }
 
 // All groups, in triangle and corner order.

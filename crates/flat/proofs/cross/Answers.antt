@@ -19,7 +19,7 @@ pub go_to-requires : goal.go_to-requires
 go_to-requires c =
     let a = c.args in
     let below : c.in-Some.u < 3 * a.tris = subst (λ (o : Option ℕ). IfSome o (λ u. u < 3 * a.tris)) c.in-Some.is c.link_at.ensures.1 in
-    (omega arith, c.requires.2, stored-left a.rows a.tris a.group a.vertex a.orient a.s.side a.s.left a.s.count a.work.now c.requires.0 c.requires.2 c.requires.3)
+    (omega arith, c.requires.2, stored-left a.rows a.tris a.g.number a.g.vertex a.g.orientation a.s.side a.s.left a.s.count a.work.now c.requires.0 c.requires.2 c.requires.3)
 
 pub returns : goal.returns
 returns c =

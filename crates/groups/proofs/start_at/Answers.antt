@@ -21,21 +21,21 @@ returns-then-work-rows-ne0-2 c =
     let a = c.args in
     record { is = simp (eq-eqb _ _ c.if-work-rows-ne0.false, ne_eqb (cell a.rows group_column a.k a.work.now) 0 (λ z. omega (arith, z, c.if-work-rows-ne0-2.true))); few = omega arith; ready = c.requires.2; only = only_none _ _ _ }
 
-pub corner_step-members-requires : goal.corner_step-members-requires
-corner_step-members-requires c =
+pub corner_step-requires : goal.corner_step-requires
+corner_step-requires c =
     (omega arith, ready-begun _ _ _ _ _ _ _ (omega (arith, c.requires.2.fits)) c.requires.2)
 
 pub shape_of-work : goal.shape_of-work
 shape_of-work c =
     let a = c.args in
-    c.corner_step-members.auto.work ∙ length-set a.work.now (begin_column * a.rows + a.s.groups) a.s.members
+    c.corner_step.auto.work ∙ length-set a.work.now (begin_column * a.rows + a.s.groups) a.s.members
 
 pub returns : goal.returns
 unfolding turn
 returns c =
     let a = c.args in
     let R = c.requires.2 in
-    let step = c.corner_step-members in
+    let step = c.corner_step in
     let begun = begun-ungrouped a.rows a.s.members a.s.groups a.work.now (omega (arith, R.fits)) in
     record {
       is = simp (eq-eqb _ _ c.if-work-rows-ne0.false, eq-eqb (cell a.rows group_column a.k a.work.now) 0 (omega (arith, c.if-work-rows-ne0-2.false))) (ap (started (a.s.groups + 1)) (step.ensures.is (a.rows + 1) (omega (arith, R.room, begun))));
