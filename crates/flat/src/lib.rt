@@ -139,6 +139,7 @@ fn walk_all(work: &mut [u32], rows: usize, tris: usize) -> GroupCounts
         members: 0,
     };
     table::clear(work, rows, table::GROUP);
+    // a loop and no fold, since a closure that changes the list would tell the proof nothing of it
     for k in 0..3 * tris {
         s = start_at(work, rows, tris, k, s);
     }

@@ -53,6 +53,7 @@ fn sort_groups(work: &mut [u32], rows: usize, s: GroupCounts)
     requires { (s.groups ≤ rows) × (s.members ≤ rows) × (columns * rows ≤ length work.old) }
     ensures { spec.Sorting rows s.groups s.members work.old s.groups work.new }
 {
+    // by the number, since a group's members end where the next one's begin
     for q in 0..s.groups as usize {
         sort_group(work, rows, q, s);
     }
