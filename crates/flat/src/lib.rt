@@ -108,22 +108,12 @@ fn start_at(work: &mut [u32], rows: usize, tris: usize, k: usize, s: GroupCounts
     ensures turned { walks.Turned rows tris k (walks.state (spec.blank rows work.old) s) (walks.state (spec.blank rows work.new) result) }
     ensures only { Only spec.flat_columns rows work.old work.new }
 {
-    let t = k / 3;
-    if work[table::ANY * rows + t] != 0 {
+    let Some(g) = groups::open_at(work, rows, k, s) else {
         return s;
-    }
-    if work[table::GROUP * rows + k] != 0 {
-        return s;
-    }
-    let g = Group {
-        number: s.groups + 1,
-        vertex: work[table::VERTEX * rows + k],
-        orientation: work[table::ORIENTATION * rows + t],
     };
-    work[table::BEGIN * rows + s.groups as usize] = s.members as u32;
     GroupCounts {
         groups: g.number,
-        members: walk_from(work, rows, tris, t, g, s.members),
+        members: walk_from(work, rows, tris, k / 3, g, s.members),
     }
 }
 

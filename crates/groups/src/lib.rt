@@ -3,7 +3,7 @@
 // The two call each other, up to 2F corners deep for F faces, and one call more that stops.
 #![tactic(auto)]
 
-ghost use Rattle.std.specs.Prelude.{◌≡◌, List, ℕ, ◌+◌, ◌*◌, ◌/◌, ◌<◌, ◌≤◌, length, SomeIff};
+ghost use Rattle.std.specs.Prelude.{◌≡◌, List, ℕ, ◌+◌, ◌*◌, ◌/◌, ◌<◌, ◌≤◌, length, SomeIff, MatchOption};
 ghost use Rattle.table.specs.Columns.{columns, link_column};
 ghost use Rattle.table.specs.Table.{cell};
 ghost use Rattle.lists.specs.Loops.{up_to};
@@ -114,17 +114,17 @@ fn side_step(work: &mut [u32], rows: usize, tris: usize, k: usize, g: Group, cou
 
 // ---- the groups
 
-// The turn of corner k: a group starts there, unless its triangle is `group_with_any` or the corner is in a group.
-fn start_at(work: &mut [u32], rows: usize, tris: usize, k: usize, s: GroupCounts) -> GroupCounts
-    requires { (k < 3 * tris) × (s.groups ≤ k) × spec.Ready rows tris (s.groups + 1) s.members work.old }
-    ensures { spec.Turned rows tris k (spec.state work.old s) (spec.state work.new result) }
+// The group that starts at corner k, unless its triangle is `group_with_any` or the corner is in a group. Where its members begin is stored.
+pub fn open_at(work: &mut [u32], rows: usize, k: usize, s: GroupCounts) -> Option<Group>
+    requires { (k < rows) × (s.groups ≤ k) × (s.members ≤ rows) × (columns * rows ≤ length work.old) × (rows < 4294967295) }
+    ensures { MatchOption result (spec.Shut rows k work.old work.new) (λ g. spec.Opened rows k s g work.old work.new) }
 {
     let t = k / 3;
     if work[table::ANY * rows + t] != 0 {
-        return s;
+        return None;
     }
     if work[table::GROUP * rows + k] != 0 {
-        return s;
+        return None;
     }
     let g = Group {
         number: s.groups + 1,
@@ -132,9 +132,20 @@ fn start_at(work: &mut [u32], rows: usize, tris: usize, k: usize, s: GroupCounts
         orientation: work[table::ORIENTATION * rows + t],
     };
     work[table::BEGIN * rows + s.groups as usize] = s.members as u32;
+    Some(g)
+}
+
+// The turn of corner k: a group starts there, unless its triangle is `group_with_any` or the corner is in a group.
+fn start_at(work: &mut [u32], rows: usize, tris: usize, k: usize, s: GroupCounts) -> GroupCounts
+    requires { (k < 3 * tris) × (s.groups ≤ k) × spec.Ready rows tris (s.groups + 1) s.members work.old }
+    ensures { spec.Turned rows tris k (spec.state work.old s) (spec.state work.new result) }
+{
+    let Some(g) = open_at(work, rows, k, s) else {
+        return s;
+    };
     GroupCounts {
         groups: g.number,
-        members: corner_step(work, rows, tris, t, g, s.members),
+        members: corner_step(work, rows, tris, k / 3, g, s.members),
     }
 }
 
