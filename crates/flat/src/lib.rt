@@ -117,7 +117,7 @@ fn start_at(work: &mut [u32], rows: usize, tris: usize, k: usize, s: GroupCounts
     }
 }
 
-// All groups, in triangle and corner order.
+// All groups, in triangle and corner order. The twin of the one in `groups`: what it ensures is said of the list without the stored places.
 fn walk_all(work: &mut [u32], rows: usize, tris: usize) -> GroupCounts
     requires { (3 * tris ≤ rows) × (columns * rows ≤ length work.old) × (rows < 4294967295) × ((r : ℕ) → r < 3 * tris → cell rows link_column r work.old ≤ 3 * tris) }
     ensures is { walks.state (spec.blank rows work.new) result ≡ up_to (3 * tris) (walks.turn rows) (walks.state (spec.blank rows (walks.cleared rows work.old)) (record { groups = 0; members = 0 })) }
