@@ -18,11 +18,11 @@ ghost use Rattle.flat.specs.Places as spec;
 
 use groups::{Group, GroupCounts};
 
-// How the walk stands: the side to cross, how many are left with it (the others are stored), and the number of members of all groups so far.
+// How the walk stands: the side to cross next, if one is left, how many more are stored, and the number of members of all groups so far.
 #[derive(Clone, Copy)]
 pub struct Going {
-    pub side: usize,
-    pub left: usize,
+    pub next: Option<usize>,
+    pub stored: usize,
     pub count: usize,
 }
 
@@ -35,14 +35,14 @@ fn back(work: &[u32], rows: usize, stored: usize, count: usize) -> Going
 {
     if stored == 0 {
         Going {
-            side: 0,
-            left: 0,
+            next: None,
+            stored: 0,
             count,
         }
     } else {
         Going {
-            side: work[table::SPARE * rows + (stored - 1)] as usize,
-            left: stored,
+            next: Some(work[table::SPARE * rows + (stored - 1)] as usize),
+            stored: stored - 1,
             count,
         }
     }
@@ -66,20 +66,26 @@ fn go_to(
     };
     work[table::SPARE * rows + stored] = (3 * t + i) as u32;
     Going {
-        side: 3 * t + (i + 2) % 3,
-        left: stored + 2,
+        next: Some(3 * t + (i + 2) % 3),
+        stored: stored + 1,
         count: count + 1,
     }
 }
 
-// Over the side to cross.
-fn cross(work: &mut [u32], rows: usize, tris: usize, g: Group, s: Going) -> Going
-    requires { (0 < s.left) × (s.side < 3 * tris) × walks.Ready rows tris g.number s.count work.old × spec.Left rows tris s.left work.old }
-    ensures { spec.Goes rows tris g.number (s.left - 1) work.old work.new result (walks.corner rows g.number g.vertex g.orientation) (λ n. spec.all rows (walks.corner rows g.number g.vertex g.orientation n) (walks.walk (spec.blank rows work.old) s.count) (spec.places rows work.old s.side s.left)) }
+// Over a side, with so many others stored.
+fn cross(
+    work: &mut [u32],
+    rows: usize,
+    tris: usize,
+    g: Group,
+    side: usize,
+    stored: usize,
+    count: usize,
+) -> Going
+    requires { (side < 3 * tris) × walks.Ready rows tris g.number count work.old × spec.Stored rows tris stored work.old }
+    ensures { spec.Goes rows tris g.number stored work.old work.new result (walks.corner rows g.number g.vertex g.orientation) (λ n. spec.all rows (walks.corner rows g.number g.vertex g.orientation n) (walks.walk (spec.blank rows work.old) count) (spec.places rows work.old (Some side) stored)) }
 {
-    let stored = s.left - 1;
-    let count = s.count;
-    let Some(u) = neighbors::link_at(work, rows, 3 * tris, s.side) else {
+    let Some(u) = neighbors::link_at(work, rows, 3 * tris, side) else {
         return back(work, rows, stored, count);
     };
     go_to(work, rows, tris, u / 3, g, stored, count)
@@ -94,8 +100,8 @@ fn walk_from(work: &mut [u32], rows: usize, tris: usize, t: usize, g: Group, cou
     ensures only { Only spec.flat_columns rows work.old work.new }
 {
     let mut s = go_to(work, rows, tris, t, g, 0, count);
-    while 0 < s.left {
-        s = cross(work, rows, tris, g, s);
+    while let Some(side) = s.next {
+        s = cross(work, rows, tris, g, side, s.stored, s.count);
     }
     s.count
 }
