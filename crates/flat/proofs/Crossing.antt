@@ -2,7 +2,7 @@
 use Prim.Native.Nat.{ℕ, zero, suc, ◌+◌, ◌*◌, ◌-◌, ◌/◌, ◌%◌, ◌≤◌, ◌<◌}
 use native.Mathlib.Nat.{eq-or-lt_of_le}
 use native.Mathlib.Omega.{arith}
-use native.Mathlib.Numerals.{add-two}
+use native.Mathlib.Numerals.{add-one}
 use mathlib.Core.Path.{◌≡◌, refl, sym, ap, ◌∙◌, subst}
 use mathlib.Core.Bool.{Bool, false, cond}
 use mathlib.Core.List.{List, ◌∷◌}
@@ -14,7 +14,7 @@ use borrow.Author.Tests.{ne_eqb}
 use Rattle.table.specs.Table.{cell, put, column}
 use Rattle.table.specs.Columns.{columns, link_column}
 use Rattle.table.proofs.Laws.{get_or-column}
-use Rattle.std.specs.Prelude.{Option, Some, None}
+use Rattle.std.specs.Prelude.{Option, Some, None, IfSome}
 use Rattle.neighbors.specs.Links.{link_of}
 use Rattle.view.specs.Frame.{Only}
 use Rattle.view.proofs.Frame.{only_none, only-more, only-put}
@@ -22,7 +22,7 @@ use Rattle.groups.specs.Walk.{walk_columns, Entered, enter, Walk, walk, side, fo
 use Rattle.groups.proofs.Laws.{Grown, enter-grown}
 use Rattle.groups.proofs.Steps.{ready-moves, corner-stops}
 use Rattle.flat.specs.declared.Going.{Going}
-use Rattle.flat.specs.Places.{places_column, flat_columns, blank, stack, places, all, back, Stored, Left, Goes}
+use Rattle.flat.specs.Places.{places_column, flat_columns, blank, stack, places, left, all, back, Stored, Goes}
 use Rattle.flat.proofs.Blank.{blank-place, only-blank, blank-cell, blank-ungrouped, blank-ready, blanked, enter-blank}
 use Rattle.flat.proofs.Fuel.{enter-only, enough, entered-goes}
 
@@ -48,15 +48,9 @@ unfolding stack
 stack-more rows m v w h long = λ k. get_or-set_same w (places_column * rows + m) v 0 (omega arith) k ∷ stack-below rows m v w m (omega arith) k
 
 -- the sides left, once one is crossed and two more are found
-places-more : (rows k m v : ℕ) (w : List ℕ) → m < rows → columns * rows ≤ length w → places rows (put rows places_column m v w) k (m + 2) ≡ k ∷ (v ∷ stack rows w m)
+places-more : (rows k m v : ℕ) (w : List ℕ) → m < rows → columns * rows ≤ length w → places rows (put rows places_column m v w) (Some k) (m + 1) ≡ k ∷ (v ∷ stack rows w m)
 unfolding places
-places-more rows k m v w h long = ap (places rows (put rows places_column m v w) k) (add-two m) ∙ ap (λ (l : List ℕ). k ∷ l) (stack-more rows m v w h long)
-
--- the sides left: the first is the one to cross
-places-some : (rows k m : ℕ) (w : List ℕ) → 0 < m → places rows w k m ≡ k ∷ stack rows w (m - 1)
-unfolding places
-places-some rows k zero w h = absurd (omega arith)
-places-some rows k (suc m) w h = let e : m ≡ suc m - 1 = omega arith in ap (λ (x : ℕ). k ∷ stack rows w x) e
+places-more rows k m v w h long = ap (λ (l : List ℕ). k ∷ l) (ap (stack rows (put rows places_column m v w)) (add-one m) ∙ stack-more rows m v w h long)
 
 -- the sides stored are sides of the triangles, and so is one more
 more-inside : (rows tris m v : ℕ) (w : List ℕ) → m < rows → columns * rows ≤ length w → v < 3 * tris → ((j : ℕ) → j < m → cell rows places_column j w < 3 * tris) → (j : ℕ) → j ≤ m → cell rows places_column j (put rows places_column m v w) < 3 * tris
@@ -68,19 +62,20 @@ more-inside rows tris m v w h long b f j l = ⊎_elim
 -- ---- back to the last place
 
 record Backs (rows tris stored n : ℕ) (w : List ℕ) (b : Going) : Type 0 where
-  is : places rows w b.side b.left ≡ stack rows w stored
+  is : places rows w b.next b.stored ≡ stack rows w stored
   count : b.count ≡ n
-  left : b.left ≡ stored
-  next : 0 < b.left → b.side < 3 * tris
+  falls : left b.next b.stored ≤ stored
+  fewer : b.stored ≤ stored
+  next : IfSome b.next (λ k. k < 3 * tris)
 
 backs : (rows tris stored n : ℕ) (w : List ℕ) → ((j : ℕ) → j < stored → cell rows places_column j w < 3 * tris) → Backs rows tris stored n w (back rows stored n w)
 unfolding back places stack
-backs rows tris zero n w h = record { is = refl; count = refl; left = refl; next = λ l. absurd (omega arith) }
+backs rows tris zero n w h = record { is = refl; count = refl; falls = omega arith; fewer = omega arith; next = tt }
 backs rows tris (suc m) n w h =
     let z : eqb (suc m) 0 ≡ false = ne_eqb (suc m) 0 (λ e. omega arith) in
     let e : m ≡ suc m - 1 = omega arith in
-    let there : Backs rows tris (suc m) n w (record { side = cell rows places_column (suc m - 1) w; left = suc m; count = n }) = record { is = ap (λ (x : ℕ). cell rows places_column x w ∷ stack rows w m) (sym e); count = refl; left = refl; next = λ l. h (suc m - 1) (omega arith) } in
-    subst (λ (b : Bool). Backs rows tris (suc m) n w (cond b (record { side = 0; left = 0; count = n }) (record { side = cell rows places_column (suc m - 1) w; left = suc m; count = n }))) (sym z) there
+    let there : Backs rows tris (suc m) n w (record { next = Some (cell rows places_column (suc m - 1) w); stored = suc m - 1; count = n }) = record { is = ap (λ (x : ℕ). cell rows places_column x w ∷ stack rows w x) (sym e); count = refl; falls = omega arith; fewer = omega arith; next = h (suc m - 1) (omega arith) } in
+    subst (λ (b : Bool). Backs rows tris (suc m) n w (cond b (record { next = None; stored = 0; count = n }) (record { next = Some (cell rows places_column (suc m - 1) w); stored = suc m - 1; count = n }))) (sym z) there
 
 -- ---- to a triangle
 
@@ -125,14 +120,14 @@ module _ (rows tris g v o stored n t : ℕ) (w : List ℕ) (tri : t < tris) (R :
         is = λ m l. (λ k. all rows (step m) (walk (blank rows u) (B.count k)) ((B.is ∙ same-stack) k)) ∙ ap (λ (s : Walk). all rows (step m) s (stack rows w stored)) (S.is m (omega (arith, blank-ungrouped rows w)));
         ready = ready-moves rows tris g n b.count w u R only.size (omega (arith, R.room, G.0, B.count)) (only.others link_column refl);
         next = B.next;
-        left = record { inside = λ j h. stored-inside j (omega (arith, B.left)); room = omega (arith, P.room, G.0, B.left) };
-        falls = omega (arith, G.0, B.left);
+        kept = record { inside = λ j h. stored-inside j (omega (arith, B.fewer)); room = omega (arith, P.room, G.0, B.fewer) };
+        falls = omega (arith, G.0, B.falls);
         fewer = omega (arith, G.0);
         only = only-more walk_columns flat_columns rows w u refl only;
       }
 
   -- its corner is entered
-  goes_on : (i : ℕ) → r ≡ Some i → Goes rows tris g stored w (put rows places_column stored (3 * t + i) u) (record { side = 3 * t + (i + 2) % 3; left = stored + 2; count = n + 1 }) step said
+  goes_on : (i : ℕ) → r ≡ Some i → Goes rows tris g stored w (put rows places_column stored (3 * t + i) u) (record { next = Some (3 * t + (i + 2) % 3); stored = stored + 1; count = n + 1 }) step said
   unfolding all
   goes_on i e =
       let G : Grown rows w (Some i) u = rw e at grown in
@@ -149,8 +144,8 @@ module _ (rows tris g v o stored n t : ℕ) (w : List ℕ) (tri : t < tris) (R :
             ∙ ap (λ (l : List ℕ). all rows (step m) (side rows (step m) (side rows (step m) (walk l (n + 1)) (3 * t + (i + 2) % 3)) (3 * t + i)) (stack rows w stored)) same
             ∙ ap (λ (s : Walk). all rows (step m) s (stack rows w stored)) (S.is m (omega (arith, blank-ungrouped rows w)));
         ready = ready-moves rows tris g n (n + 1) w z R O.size (omega (arith, R.room, G.1, U)) (O.others link_column refl);
-        next = λ _. omega (arith, G.0);
-        left = record {
+        next = omega (arith, G.0);
+        kept = record {
           inside = λ j k. more-inside rows tris stored (3 * t + i) u h long (omega (arith, G.0)) stored-inside j (omega arith);
           room = omega (arith, P.room, G.1, U);
         };
@@ -160,51 +155,46 @@ module _ (rows tris g v o stored n t : ℕ) (w : List ℕ) (tri : t < tris) (R :
       }
 
   -- the same, with any numbers that are equal to those
-  pub goes_to : (i : ℕ) → r ≡ Some i → (x y m p : ℕ) → x ≡ 3 * t + (i + 2) % 3 → y ≡ stored + 2 → m ≡ n + 1 → p ≡ 3 * t + i → Goes rows tris g stored w (put rows places_column stored p u) (record { side = x; left = y; count = m }) step said
+  pub goes_to : (i : ℕ) → r ≡ Some i → (x y m p : ℕ) → x ≡ 3 * t + (i + 2) % 3 → y ≡ stored + 1 → m ≡ n + 1 → p ≡ 3 * t + i → Goes rows tris g stored w (put rows places_column stored p u) (record { next = Some x; stored = y; count = m }) step said
   goes_to i e x y m p a b c d =
-      subst (λ (q : ℕ). Goes rows tris g stored w (put rows places_column stored q u) (record { side = x; left = y; count = m }) step said) (sym d)
-      (subst (λ (s : Going). Goes rows tris g stored w (put rows places_column stored (3 * t + i) u) s step said) (λ j. record { side = sym a j; left = sym b j; count = sym c j }) (goes_on i e))
+      subst (λ (q : ℕ). Goes rows tris g stored w (put rows places_column stored q u) (record { next = Some x; stored = y; count = m }) step said) (sym d)
+      (subst (λ (s : Going). Goes rows tris g stored w (put rows places_column stored (3 * t + i) u) s step said) (λ j. record { next = Some (sym a j); stored = sym b j; count = sym c j }) (goes_on i e))
 
 -- ---- over a side
 
-module _ (rows tris g v o k left n : ℕ) (w : List ℕ) (some : 0 < left) (R : Ready rows tris g n w) (L : Left rows tris left w) where
+module _ (rows tris g v o k stored n : ℕ) (w : List ℕ) (R : Ready rows tris g n w) (P : Stored rows tris stored w) where
   abbrev steps : ℕ → Walk → ℕ → Walk
   steps = corner rows g v o
 
   abbrev todo : ℕ → Walk
-  todo m = all rows (steps m) (walk (blank rows w) n) (places rows w k left)
+  todo m = all rows (steps m) (walk (blank rows w) n) (places rows w (Some k) stored)
 
-  -- the other sides are stored
-  pub stored-left : Stored rows tris (left - 1) w
-  stored-left = record { inside = λ j h. L.inside j (omega arith); room = omega (arith, L.room) }
-
-  todo-is : k < rows → (m : ℕ) → todo m ≡ all rows (steps m) (follow (steps m) (walk (blank rows w) n) (link_of (cell rows link_column k w))) (stack rows w (left - 1))
-  unfolding all side
+  todo-is : k < rows → (m : ℕ) → todo m ≡ all rows (steps m) (follow (steps m) (walk (blank rows w) n) (link_of (cell rows link_column k w))) (stack rows w stored)
+  unfolding all side places
   todo-is h m =
-      ap (all rows (steps m) (walk (blank rows w) n)) (places-some rows k left w some)
-      ∙ ap (λ (x : ℕ). all rows (steps m) (follow (steps m) (walk (blank rows w) n) (link_of x)) (stack rows w (left - 1))) (blank-cell rows link_column k w refl h)
+      ap (λ (x : ℕ). all rows (steps m) (follow (steps m) (walk (blank rows w) n) (link_of x)) (stack rows w stored)) (blank-cell rows link_column k w refl h)
 
   -- a side that leads nowhere
-  pub crosses-none : (b : Going) → k < rows → None ≡ link_of (cell rows link_column k w) → b ≡ back rows (left - 1) n w → Goes rows tris g (left - 1) w w b steps todo
+  pub crosses-none : (b : Going) → k < rows → None ≡ link_of (cell rows link_column k w) → b ≡ back rows stored n w → Goes rows tris g stored w w b steps todo
   crosses-none b h e be =
-      let B = subst (Backs rows tris (left - 1) n w) (sym be) (backs rows tris (left - 1) n w stored-left.inside) in
+      let B = subst (Backs rows tris stored n w) (sym be) (backs rows tris stored n w P.inside) in
       record {
-        is = λ m l. (λ q. all rows (steps m) (walk (blank rows w) (B.count q)) (B.is q)) ∙ ap (λ x. all rows (steps m) (follow (steps m) (walk (blank rows w) n) x) (stack rows w (left - 1))) e ∙ sym (todo-is h m);
+        is = λ m l. (λ q. all rows (steps m) (walk (blank rows w) (B.count q)) (B.is q)) ∙ ap (λ x. all rows (steps m) (follow (steps m) (walk (blank rows w) n) x) (stack rows w stored)) e ∙ sym (todo-is h m);
         ready = ready-moves rows tris g n b.count w w R refl (omega (arith, R.room, B.count)) refl;
         next = B.next;
-        left = record { inside = λ j q. stored-left.inside j (omega (arith, B.left)); room = omega (arith, L.room, B.left) };
-        falls = omega (arith, B.left);
+        kept = record { inside = λ j q. P.inside j (omega (arith, B.fewer)); room = omega (arith, P.room, B.fewer) };
+        falls = omega (arith, B.falls);
         fewer = omega arith;
         only = only_none flat_columns rows w;
       }
 
   -- a side beyond which is the side of row x
-  pub crosses-to : (b : Going) (u : List ℕ) (x : ℕ) → k < rows → Some x ≡ link_of (cell rows link_column k w) → Goes rows tris g (left - 1) w u b steps (λ m. all rows (steps m) (steps m (walk (blank rows w) n) (x / 3)) (stack rows w (left - 1))) → Goes rows tris g (left - 1) w u b steps todo
+  pub crosses-to : (b : Going) (u : List ℕ) (x : ℕ) → k < rows → Some x ≡ link_of (cell rows link_column k w) → Goes rows tris g stored w u b steps (λ m. all rows (steps m) (steps m (walk (blank rows w) n) (x / 3)) (stack rows w stored)) → Goes rows tris g stored w u b steps todo
   crosses-to b u x h e G = record {
-    is = λ m l. G.is m l ∙ ap (λ y. all rows (steps m) (follow (steps m) (walk (blank rows w) n) y) (stack rows w (left - 1))) e ∙ sym (todo-is h m);
+    is = λ m l. G.is m l ∙ ap (λ y. all rows (steps m) (follow (steps m) (walk (blank rows w) n) y) (stack rows w stored)) e ∙ sym (todo-is h m);
     ready = G.ready;
     next = G.next;
-    left = G.left;
+    kept = G.kept;
     falls = G.falls;
     fewer = G.fewer;
     only = G.only;

@@ -24,12 +24,13 @@ use Rattle.view.specs.Rows.{row, spot_at}
 use Rattle.view.specs.Frame.{Only}
 use Rattle.view.specs.Weld.{Sharp}
 use Rattle.view.specs.Links.{LinkWord}
-use Rattle.view.proofs.Frame.{only_none, only-trans, only-more, only-run}
+use Rattle.view.proofs.Frame.{only_none, only-trans, only-more, only-run, only-put}
 use Rattle.view.proofs.Rows.{row_fits}
 use Rattle.view.proofs.Groups.{grouping-kept}
 use Rattle.groups.specs.declared.GroupCounts.{GroupCounts}
 use Rattle.groups.specs.Marks.{Asked, Walked}
-use Rattle.groups.specs.Walk.{walk_columns, walk, corner, State, state, started, begun, turn, Turned, Ready, Steps, cleared}
+use Rattle.groups.specs.Walk.{walk_columns, walk, corner, State, state, started, begun, turn, Turned, Ready, Steps, cleared, Shut, of_any, in_group, Opened}
+use Rattle.groups.specs.declared.Group.{Group}
 use Rattle.groups.proofs.Steps.{ready-steps, ready-next, ready-begun, only-begun}
 use Rattle.groups.proofs.Finished.{all-walked}
 use Rattle.flat.specs.Places.{places_column, flat_columns, blank}
@@ -96,6 +97,27 @@ module _ (rows tris k : ℕ) (w : List ℕ) (s : GroupCounts) (h : k < 3 * tris)
         ready = ready-next rows tris (s.groups + 1) n (blank rows u) (ready-steps rows tris (s.groups + 1) s.members n (blank rows b) (blank rows u) (λ m. corner rows (s.groups + 1) (cell rows vertex_column k w) (cell rows orientation_column (k / 3) w) m (walk (blank rows b) s.members) (k / 3)) (blank-ready rows tris (s.groups + 1) s.members b begun-ready) S S.only.size);
         only = only-trans walk_columns rows w₀ (blank rows b) (blank rows u) (subst (Only walk_columns rows w₀) begun-is (only-begun rows s.members s.groups w₀ (omega (arith, R.fits)))) S.only;
       }
+
+-- no group starts at the corner
+pub turn-shut : (rows tris k : ℕ) (w u : List ℕ) (s : GroupCounts) → k < 3 * tris → s.groups ≤ k → Ready rows tris (s.groups + 1) s.members w → Shut rows k w u → Turned rows tris k (state (blank rows w) s) (state (blank rows u) s)
+turn-shut rows tris k w u s h le R (of_any ne) = turned-any rows tris k w s h le R ne
+turn-shut rows tris k w u s h le R (in_group z ne) = turned-grouped rows tris k w s h le R z ne
+
+-- one starts there: the turn is its walk
+pub turn-opened : (rows tris k n : ℕ) (w u v : List ℕ) (s : GroupCounts) (g : Group) → k < 3 * tris → s.groups ≤ k → Ready rows tris (s.groups + 1) s.members w → Opened rows k s g w u
+    → Steps rows (walk (blank rows u) s.members) (walk (blank rows v) n) (λ m. corner rows g.number g.vertex g.orientation m (walk (blank rows u) s.members) (k / 3)) → Turned rows tris k (state (blank rows w) s) (state (blank rows v) (record { groups = g.number; members = n }))
+turn-opened rows tris k n w u v s g h le R O = subst (P g) (sym O.begun) (subst (λ (j : Group). P j (put rows begin_column s.groups s.members w)) (sym O.group) (turned-new rows tris k w s h le R O.any O.free v n))
+  where
+    P : Group → List ℕ → Type 0
+    P j x = Steps rows (walk (blank rows x) s.members) (walk (blank rows v) n) (λ m. corner rows j.number j.vertex j.orientation m (walk (blank rows x) s.members) (k / 3)) → Turned rows tris k (state (blank rows w) s) (state (blank rows v) (record { groups = j.number; members = n }))
+
+-- only the flat walk's columns are stored
+pub only-shut : (rows k : ℕ) (w u : List ℕ) → Shut rows k w u → Only flat_columns rows w u
+only-shut rows k w u (of_any ne) = only_none flat_columns rows w
+only-shut rows k w u (in_group z ne) = only_none flat_columns rows w
+
+pub only-opened : (rows k : ℕ) (w u : List ℕ) (s : GroupCounts) (g : Group) → s.groups < rows → Opened rows k s g w u → Only flat_columns rows w u
+only-opened rows k w u s g h O = subst (Only flat_columns rows w) (sym O.begun) (only-put flat_columns rows w w begin_column s.groups s.members refl (omega arith) h (only_none flat_columns rows w))
 
 -- ---- all turns
 

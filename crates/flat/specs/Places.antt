@@ -1,5 +1,5 @@
 -- The places to go of a flat walk, in a column of their own, and what a step of it ensures. Definitions only.
-use Rattle.std.specs.Prelude.{ℕ, zero, suc, ◌+◌, ◌*◌, ◌-◌, ◌≤◌, ◌<◌, ◌≡◌, cond, List, [], ◌∷◌, eqb}
+use Rattle.std.specs.Prelude.{ℕ, zero, suc, ◌+◌, ◌*◌, ◌-◌, ◌≤◌, ◌<◌, ◌≡◌, cond, List, [], ◌∷◌, eqb, Option, Some, None, IfSome}
 use Rattle.table.specs.Table.{cell, filled_to}
 use Rattle.table.specs.Columns.{spare_column}
 use Rattle.view.specs.Frame.{Only}
@@ -23,10 +23,15 @@ unfoldable pub stack : ℕ → List ℕ → ℕ → List ℕ
 stack rows w zero = []
 stack rows w (suc n) = cell rows places_column n w ∷ stack rows w n
 
--- the sides that are left, n of them: the one to cross, and those stored
-unfoldable pub places : ℕ → List ℕ → ℕ → ℕ → List ℕ
-places rows w k zero = []
-places rows w k (suc n) = k ∷ stack rows w n
+-- the sides that are left: the one to cross next, if there is one, and the n stored
+unfoldable pub places : ℕ → List ℕ → Option ℕ → ℕ → List ℕ
+places rows w None n = []
+places rows w (Some k) n = k ∷ stack rows w n
+
+-- how many these are, at most
+abbrev pub left : Option ℕ → ℕ → ℕ
+left None n = n
+left (Some k) n = n + 1
 
 -- the pending side steps, one after the other
 unfoldable pub all : ℕ → (Walk → ℕ → Walk) → Walk → List ℕ → Walk
@@ -35,24 +40,19 @@ all rows step s (k ∷ ks) = all rows step (side rows step s k) ks
 
 -- nothing is left, or the side stored last is the next to cross
 unfoldable pub back : ℕ → ℕ → ℕ → List ℕ → Going
-back rows stored count w = cond (eqb stored 0) (record { side = 0; left = 0; count = count }) (record { side = cell rows places_column (stored - 1) w; left = stored; count = count })
+back rows stored count w = cond (eqb stored 0) (record { next = None; stored = 0; count = count }) (record { next = Some (cell rows places_column (stored - 1) w); stored = stored - 1; count = count })
 
 -- so many sides are stored, each a side of the triangles, and there is a row for one more wherever a corner is ungrouped
 pub record Stored (rows tris stored : ℕ) (w : List ℕ) : Type 0 where
   pub inside : (j : ℕ) → j < stored → cell rows places_column j w < 3 * tris
   pub room : stored + ungrouped rows w ≤ rows
 
--- the same of the sides that are left, where the first of them is not stored
-pub record Left (rows tris left : ℕ) (w : List ℕ) : Type 0 where
-  pub inside : (j : ℕ) → suc j < left → cell rows places_column j w < 3 * tris
-  pub room : left + ungrouped rows w ≤ rows + 1
-
 -- what a step of the walk from w to u ensures: what is left to do is what `said` gives, at any depth above the number of ungrouped corners
 pub record Goes (rows tris g stored : ℕ) (w u : List ℕ) (r : Going) (step : ℕ → Walk → ℕ → Walk) (said : ℕ → Walk) : Type 0 where
-  pub is : (n : ℕ) → ungrouped rows w < n → all rows (step n) (walk (blank rows u) r.count) (places rows u r.side r.left) ≡ said n
+  pub is : (n : ℕ) → ungrouped rows w < n → all rows (step n) (walk (blank rows u) r.count) (places rows u r.next r.stored) ≡ said n
   pub ready : Ready rows tris g r.count u
-  pub next : 0 < r.left → r.side < 3 * tris
-  pub left : Left rows tris r.left u
-  pub falls : 2 * ungrouped rows u + r.left ≤ 2 * ungrouped rows w + stored
+  pub next : IfSome r.next (λ k. k < 3 * tris)
+  pub kept : Stored rows tris r.stored u
+  pub falls : 2 * ungrouped rows u + left r.next r.stored ≤ 2 * ungrouped rows w + stored
   pub fewer : ungrouped rows u ≤ ungrouped rows w
   pub only : Only flat_columns rows w u

@@ -16,24 +16,17 @@ ghost use Rattle.groups.specs.Marks.{Asked, Walked};
 ghost use Rattle.groups.specs.Walk as walks;
 ghost use Rattle.flat.specs.Places as spec;
 
-use groups::GroupCounts;
+use groups::{Group, GroupCounts};
 
-// How the walk stands: the side to cross, how many are left with it (the others are stored), and the number of members of all groups so far.
+// How the walk stands: the side to cross next, if one is left, how many more are stored, and the number of members of all groups so far.
 #[derive(Clone, Copy)]
 pub struct Going {
-    pub side: usize,
-    pub left: usize,
+    pub next: Option<usize>,
+    pub stored: usize,
     pub count: usize,
 }
 
 // ---- one place
-
-// A word as a number.
-fn wide(x: u32) -> usize
-    ensures { result ≡ x }
-{
-    x as usize
-}
 
 // Back to the place stored last, if there is one. The places are rows of sides, in the column that the sorts work in.
 fn back(work: &[u32], rows: usize, stored: usize, count: usize) -> Going
@@ -41,17 +34,17 @@ fn back(work: &[u32], rows: usize, stored: usize, count: usize) -> Going
     ensures { result ≡ spec.back rows stored count work.now }
 {
     if stored == 0 {
-        return Going {
-            side: 0,
-            left: 0,
-            count: count,
-        };
-    }
-    let side = wide(work[table::SPARE * rows + (stored - 1)]);
-    Going {
-        side: side,
-        left: stored,
-        count: count,
+        Going {
+            next: None,
+            stored: 0,
+            count,
+        }
+    } else {
+        Going {
+            next: Some(work[table::SPARE * rows + (stored - 1)] as usize),
+            stored: stored - 1,
+            count,
+        }
     }
 }
 
@@ -61,78 +54,54 @@ fn go_to(
     rows: usize,
     tris: usize,
     t: usize,
-    group: u32,
-    vertex: u32,
-    orient: u32,
+    g: Group,
     stored: usize,
     count: usize,
 ) -> Going
-    requires { (t < tris) × walks.Ready rows tris group count work.old × spec.Stored rows tris stored work.old }
-    ensures { spec.Goes rows tris group stored work.old work.new result (walks.corner rows group vertex orient) (λ n. spec.all rows (walks.corner rows group vertex orient n) (walks.corner rows group vertex orient n (walks.walk (spec.blank rows work.old) count) t) (spec.stack rows work.old stored)) }
+    requires { (t < tris) × walks.Ready rows tris g.number count work.old × spec.Stored rows tris stored work.old }
+    ensures { spec.Goes rows tris g.number stored work.old work.new result (walks.corner rows g.number g.vertex g.orientation) (λ n. spec.all rows (walks.corner rows g.number g.vertex g.orientation n) (walks.corner rows g.number g.vertex g.orientation n (walks.walk (spec.blank rows work.old) count) t) (spec.stack rows work.old stored)) }
 {
-    let Some(i) = groups::enter_at(work, rows, t, group, vertex, orient, count) else {
+    let Some(i) = groups::enter_at(work, rows, t, g, count) else {
         return back(work, rows, stored, count);
     };
     work[table::SPARE * rows + stored] = (3 * t + i) as u32;
     Going {
-        side: 3 * t + (i + 2) % 3,
-        left: stored + 2,
+        next: Some(3 * t + (i + 2) % 3),
+        stored: stored + 1,
         count: count + 1,
     }
 }
 
-// Over the side to cross.
+// Over a side, with so many others stored.
 fn cross(
     work: &mut [u32],
     rows: usize,
     tris: usize,
-    group: u32,
-    vertex: u32,
-    orient: u32,
-    s: Going,
+    g: Group,
+    side: usize,
+    stored: usize,
+    count: usize,
 ) -> Going
-    requires { (0 < s.left) × (s.side < 3 * tris) × walks.Ready rows tris group s.count work.old × spec.Left rows tris s.left work.old }
-    ensures { spec.Goes rows tris group (s.left - 1) work.old work.new result (walks.corner rows group vertex orient) (λ n. spec.all rows (walks.corner rows group vertex orient n) (walks.walk (spec.blank rows work.old) s.count) (spec.places rows work.old s.side s.left)) }
+    requires { (side < 3 * tris) × walks.Ready rows tris g.number count work.old × spec.Stored rows tris stored work.old }
+    ensures { spec.Goes rows tris g.number stored work.old work.new result (walks.corner rows g.number g.vertex g.orientation) (λ n. spec.all rows (walks.corner rows g.number g.vertex g.orientation n) (walks.walk (spec.blank rows work.old) count) (spec.places rows work.old (Some side) stored)) }
 {
-    let stored = s.left - 1;
-    let count = s.count;
-    let side = s.side;
     let Some(u) = neighbors::link_at(work, rows, 3 * tris, side) else {
         return back(work, rows, stored, count);
     };
-    go_to(
-        work,
-        rows,
-        tris,
-        u / 3,
-        group,
-        vertex,
-        orient,
-        stored,
-        count,
-    )
+    go_to(work, rows, tris, u / 3, g, stored, count)
 }
 
 // ---- the walk
 
 // All places that are left, until none is. The result is the number of members of all groups so far.
-fn walk_from(
-    work: &mut [u32],
-    rows: usize,
-    tris: usize,
-    t: usize,
-    group: u32,
-    vertex: u32,
-    orient: u32,
-    count: usize,
-) -> usize
-    requires { (t < tris) × walks.Ready rows tris group count work.old }
-    ensures walked { walks.Steps rows (walks.walk (spec.blank rows work.old) count) (walks.walk (spec.blank rows work.new) result) (λ n. walks.corner rows group vertex orient n (walks.walk (spec.blank rows work.old) count) t) }
+fn walk_from(work: &mut [u32], rows: usize, tris: usize, t: usize, g: Group, count: usize) -> usize
+    requires { (t < tris) × walks.Ready rows tris g.number count work.old }
+    ensures walked { walks.Steps rows (walks.walk (spec.blank rows work.old) count) (walks.walk (spec.blank rows work.new) result) (λ n. walks.corner rows g.number g.vertex g.orientation n (walks.walk (spec.blank rows work.old) count) t) }
     ensures only { Only spec.flat_columns rows work.old work.new }
 {
-    let mut s = go_to(work, rows, tris, t, group, vertex, orient, 0, count);
-    while 0 < s.left {
-        s = cross(work, rows, tris, group, vertex, orient, s);
+    let mut s = go_to(work, rows, tris, t, g, 0, count);
+    while let Some(side) = s.next {
+        s = cross(work, rows, tris, g, side, s.stored, s.count);
     }
     s.count
 }
@@ -145,26 +114,16 @@ fn start_at(work: &mut [u32], rows: usize, tris: usize, k: usize, s: GroupCounts
     ensures turned { walks.Turned rows tris k (walks.state (spec.blank rows work.old) s) (walks.state (spec.blank rows work.new) result) }
     ensures only { Only spec.flat_columns rows work.old work.new }
 {
-    let t = k / 3;
-    let groups = s.groups;
-    let members = s.members;
-    if work[table::ANY * rows + t] != 0 {
+    let Some(g) = groups::open_at(work, rows, k, s) else {
         return s;
-    }
-    if work[table::GROUP * rows + k] != 0 {
-        return s;
-    }
-    let vertex = work[table::VERTEX * rows + k];
-    let orient = work[table::ORIENTATION * rows + t];
-    work[table::BEGIN * rows + groups as usize] = members as u32;
-    let n = walk_from(work, rows, tris, t, groups + 1, vertex, orient, members);
+    };
     GroupCounts {
-        groups: groups + 1,
-        members: n,
+        groups: g.number,
+        members: walk_from(work, rows, tris, k / 3, g, s.members),
     }
 }
 
-// All groups, in triangle and corner order.
+// All groups, in triangle and corner order. The twin of the one in `groups`: what it ensures is said of the list without the stored places.
 fn walk_all(work: &mut [u32], rows: usize, tris: usize) -> GroupCounts
     requires { (3 * tris ≤ rows) × (columns * rows ≤ length work.old) × (rows < 4294967295) × ((r : ℕ) → r < 3 * tris → cell rows link_column r work.old ≤ 3 * tris) }
     ensures is { walks.state (spec.blank rows work.new) result ≡ up_to (3 * tris) (walks.turn rows) (walks.state (spec.blank rows (walks.cleared rows work.old)) (record { groups = 0; members = 0 })) }
@@ -176,6 +135,7 @@ fn walk_all(work: &mut [u32], rows: usize, tris: usize) -> GroupCounts
         members: 0,
     };
     table::clear(work, rows, table::GROUP);
+    // a loop and no fold, since a closure that changes the list would tell the proof nothing of it
     for k in 0..3 * tris {
         s = start_at(work, rows, tris, k, s);
     }

@@ -7,7 +7,7 @@ use native.Mathlib.Omega.{arith}
 use lib.ListN.{length, set}
 use lib.Arith.{lt_of_le-ne}
 use lib.Dec.{eqb}
-use borrow.Author.Tests.{eqb-true, eqb-false}
+use borrow.Author.Tests.{eqb-true, eqb-false, eq-eqb, ne_eqb}
 use Rattle.lists.specs.Zeros.{zeros}
 use Rattle.lists.proofs.Zeros.{zeros-set, zeros-le}
 use Rattle.table.specs.Table.{cell, put, column}
@@ -41,6 +41,14 @@ corner_of-le rows t v w =
     let two = eqb (cell rows vertex_column (3 * t + 2) w) v in
     let one = eqb (cell rows vertex_column (3 * t + 1) w) v in
     small (eqb (cell rows vertex_column (3 * t) w) v) 0 (cond one 1 (cond two 2 3)) (omega arith) (small one 1 (cond two 2 3) (omega arith) (small two 2 3 (omega arith) (omega arith)))
+
+-- where none is found it is 3
+pub no-corner : (rows t v : ℕ) (w : List ℕ) → (corner_of rows t v w < 3 → ⊥) → eqb (corner_of rows t v w) 3 ≡ true
+no-corner rows t v w h = eq-eqb (corner_of rows t v w) 3 (let le = corner_of-le rows t v w in omega (arith, le, h))
+
+-- one that is found is none such
+pub a-corner : (i k : ℕ) → k < 3 → i ≡ k → eqb i 3 ≡ false
+a-corner i k h e = ne_eqb i 3 (λ z. omega arith)
 
 -- taking an orientation leaves every other column
 pub adopted-column : (rows t o : ℕ) (w : List ℕ) → 3 * t + 3 ≤ rows → (k : ℕ) → eqb orientation_column k ≡ false → column rows k (adopted rows t o w) ≡ column rows k w

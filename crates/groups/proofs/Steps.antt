@@ -1,14 +1,15 @@
 -- How the steps of the walk go together: what the proofs of the code cite, with no word of the code. Assumes nothing.
-use mathlib.Core.Path.{◌≡◌, refl, sym, ap, ◌∙◌}
+use mathlib.Core.Path.{◌≡◌, refl, sym, ap, subst, ◌∙◌}
 use mathlib.Core.Bool.{Bool, false, cond}
 use mathlib.Core.List.{List, [], ◌∷◌}
 use Prim.Native.Nat.{ℕ, zero, suc, ◌+◌, ◌*◌, ◌/◌, ◌%◌, ◌≤◌, ◌<◌}
 use native.Mathlib.Nat.{le_refl}
 use native.Mathlib.Omega.{arith}
 use lib.Dec.{eqb}
+use borrow.Author.Tests.{eq-eqb, ne_eqb}
 use lib.ListN.{length, get_or, set, length-set}
 use Rattle.table.specs.Table.{cell, put, column}
-use Rattle.table.specs.Columns.{columns, link_column, group_column, begin_column}
+use Rattle.table.specs.Columns.{columns, link_column, any_column, group_column, begin_column}
 use Rattle.lists.specs.Loops.{list_of}
 use Rattle.lists.proofs.Loops.{length-list_of}
 use Rattle.table.proofs.Laws.{get_or-column, column-set, filled-column, length-fill}
@@ -17,7 +18,9 @@ use Rattle.neighbors.specs.Links.{link_of}
 use Rattle.view.specs.Frame.{Only}
 use Rattle.view.proofs.Frame.{only_none, only-trans, only-more, only-run, only-put}
 use Rattle.lists.specs.Zeros.{zeros}
-use Rattle.groups.specs.Walk.{walk_columns, enter, Walk, walk, side, follow, corner, ungrouped, cleared, Ready, Steps}
+use Rattle.groups.specs.Walk.{walk_columns, enter, Walk, walk, side, follow, corner, ungrouped, cleared, Ready, Steps, state, started, turn, Turned, Shut, of_any, in_group, Opened}
+use Rattle.groups.specs.declared.GroupCounts.{GroupCounts}
+use Rattle.groups.specs.declared.Group.{Group}
 use Rattle.groups.proofs.Laws.{Grown, enter-grown, ungrouped-le}
 
 -- where the column of links stands, its words are in range as they were
@@ -141,6 +144,38 @@ begun-ungrouped rows c b w h = ap zeros (begun-column rows c b w h group_column 
 pub ready-begun : (rows tris g n c b : ℕ) (w : List ℕ) → b < rows → Ready rows tris g n w → Ready rows tris g n (put rows begin_column b c w)
 ready-begun rows tris g n c b w h R =
     ready-moves rows tris g n n w (put rows begin_column b c w) R (length-set w (begin_column * rows + b) c) (omega (arith, R.room, begun-ungrouped rows c b w h)) (begun-column rows c b w h link_column refl)
+
+-- ---- the turn of a corner
+
+-- no group starts there
+pub turn-shut : (rows tris k : ℕ) (w u : List ℕ) (s : GroupCounts) → s.groups ≤ k → Ready rows tris (s.groups + 1) s.members w → Shut rows k w u → Turned rows tris k (state w s) (state u s)
+unfolding turn
+turn-shut rows tris k w u s le R (of_any ne) = record { is = simp (ne_eqb (cell rows any_column (k / 3) w) 0 ne); few = omega arith; ready = R; only = only_none _ _ _ }
+turn-shut rows tris k w u s le R (in_group z ne) = record { is = simp (eq-eqb (cell rows any_column (k / 3) w) 0 z, ne_eqb (cell rows group_column k w) 0 ne); few = omega arith; ready = R; only = only_none _ _ _ }
+
+-- the list is ready for the walk of one that does
+pub ready-opened : (rows tris k : ℕ) (w u : List ℕ) (s : GroupCounts) (g : Group) → k < 3 * tris → s.groups ≤ k → Ready rows tris (s.groups + 1) s.members w → Opened rows k s g w u → Ready rows tris g.number s.members u
+ready-opened rows tris k w u s g h le R O =
+    subst (λ (x : List ℕ). Ready rows tris g.number s.members x) (sym O.begun)
+    (subst (λ (j : Group). Ready rows tris j.number s.members (put rows begin_column s.groups s.members w)) (sym O.group) (ready-begun _ _ _ _ _ _ _ (omega (arith, R.fits)) R))
+
+-- the turn is that walk
+pub turn-opened : (rows tris k n : ℕ) (w u v : List ℕ) (s : GroupCounts) (g : Group) → k < 3 * tris → s.groups ≤ k → Ready rows tris (s.groups + 1) s.members w → Opened rows k s g w u → length v ≡ length u
+    → Steps rows (walk u s.members) (walk v n) (λ m. corner rows g.number g.vertex g.orientation m (walk u s.members) (k / 3)) → Turned rows tris k (state w s) (state v (record { groups = g.number; members = n }))
+unfolding turn
+turn-opened rows tris k n w u v s g h le R O = subst (P g) (sym O.begun) (subst (λ (j : Group). P j b) (sym O.group) λ e S.
+    record {
+      is = simp (eq-eqb (cell rows any_column (k / 3) w) 0 O.any, eq-eqb (cell rows group_column k w) 0 O.free) (ap (started (s.groups + 1)) (S.is (rows + 1) (omega (arith, R.room, begun-ungrouped rows s.members s.groups w (omega (arith, R.fits))))));
+      few = omega arith;
+      ready = ready-next _ _ _ _ _ (ready-steps _ _ _ _ _ _ _ _ (ready-begun _ _ _ _ _ _ _ (omega (arith, R.fits)) R) S e);
+      only = only-trans _ _ _ _ _ (only-begun rows s.members s.groups w (omega (arith, R.fits))) S.only;
+    })
+  where
+    b : List ℕ
+    b = put rows begin_column s.groups s.members w
+
+    P : Group → List ℕ → Type 0
+    P j x = length v ≡ length x → Steps rows (walk x s.members) (walk v n) (λ m. corner rows j.number j.vertex j.orientation m (walk x s.members) (k / 3)) → Turned rows tris k (state w s) (state v (record { groups = j.number; members = n }))
 
 -- with no corner in a group the list is ready for the first one
 pub ready-cleared : (rows tris : ℕ) (w : List ℕ) → 3 * tris ≤ rows → columns * rows ≤ length w → rows < 4294967295 → ((k : ℕ) → k < 3 * tris → cell rows link_column k w ≤ 3 * tris) → Ready rows tris 1 0 (cleared rows w)

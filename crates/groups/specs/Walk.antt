@@ -6,6 +6,7 @@ use Rattle.table.specs.Columns.{columns, vertex_column, link_column, orientation
 use Rattle.view.specs.Frame.{Only}
 use Rattle.neighbors.specs.Links.{link_of}
 use Rattle.groups.specs.declared.GroupCounts.{GroupCounts}
+use Rattle.groups.specs.declared.Group.{Group}
 
 -- the columns that the walks write
 abbrev pub walk_columns : List ℕ
@@ -118,6 +119,18 @@ started g s = record { work = s.work; groups = g; members = s.count }
 -- the list with the place at which the members of one more group begin
 abbrev pub begun : ℕ → State → List ℕ
 begun rows s = put rows begin_column s.groups s.members s.work
+
+-- no group starts at corner k: its triangle is `group_with_any`, or else the corner is in a group; nothing is stored
+pub data Shut (rows k : ℕ) (w : List ℕ) : List ℕ → Type 0 where
+  of_any : (cell rows any_column (k / 3) w ≡ 0 → ⊥) → Shut rows k w w
+  in_group : cell rows any_column (k / 3) w ≡ 0 → (cell rows group_column k w ≡ 0 → ⊥) → Shut rows k w w
+
+-- the group that starts there, with where its members begin stored in u
+pub record Opened (rows k : ℕ) (s : GroupCounts) (g : Group) (w u : List ℕ) : Type 0 where
+  pub any : cell rows any_column (k / 3) w ≡ 0
+  pub free : cell rows group_column k w ≡ 0
+  pub group : g ≡ record { number = s.groups + 1; vertex = cell rows vertex_column k w; orientation = cell rows orientation_column (k / 3) w }
+  pub begun : u ≡ put rows begin_column s.groups s.members w
 
 -- the turn of corner k
 unfoldable pub turn : ℕ → ℕ → State → State

@@ -3,7 +3,7 @@
 // The two call each other, up to 2F corners deep for F faces, and one call more that stops.
 #![tactic(auto)]
 
-ghost use Rattle.std.specs.Prelude.{◌≡◌, List, ℕ, ◌+◌, ◌*◌, ◌/◌, ◌<◌, ◌≤◌, length};
+ghost use Rattle.std.specs.Prelude.{◌≡◌, List, ℕ, ◌+◌, ◌*◌, ◌/◌, ◌<◌, ◌≤◌, length, SomeIff, MatchOption};
 ghost use Rattle.table.specs.Columns.{columns, link_column};
 ghost use Rattle.table.specs.Table.{cell};
 ghost use Rattle.lists.specs.Loops.{up_to};
@@ -23,23 +23,23 @@ pub struct GroupCounts {
     pub members: usize,
 }
 
+// The group of a walk: its number, and the vertex and the orientation that its corners have.
+#[derive(Clone, Copy)]
+pub struct Group {
+    pub number: u32,
+    pub vertex: u32,
+    pub orientation: u32,
+}
+
 // ---- one triangle
 
-// The corner of triangle t that has the vertex; 3 where none has.
-fn corner_of(work: &[u32], rows: usize, t: usize, vertex: u32) -> usize
+// The corner of triangle t that has the vertex, if one has.
+fn corner_of(work: &[u32], rows: usize, t: usize, vertex: u32) -> Option<usize>
     requires { (3 * t + 3 ≤ rows) × (columns * rows ≤ length work.now) }
-    ensures { (result ≡ spec.corner_of rows t vertex work.now) × (result ≤ 3) }
+    ensures { SomeIff result (spec.corner_of rows t vertex work.now < 3) (spec.corner_of rows t vertex work.now) }
 {
-    if work[table::VERTEX * rows + 3 * t] == vertex {
-        return 0;
-    }
-    if work[table::VERTEX * rows + (3 * t + 1)] == vertex {
-        return 1;
-    }
-    if work[table::VERTEX * rows + (3 * t + 2)] == vertex {
-        return 2;
-    }
-    3
+    let first = table::VERTEX * rows + 3 * t;
+    work[first..first + 3].iter().position(|v| *v == vertex)
 }
 
 // A `group_with_any` triangle with no corner in a group takes the orientation.
@@ -47,48 +47,32 @@ fn adopt(work: &mut [u32], rows: usize, t: usize, orient: u32)
     requires { (3 * t + 3 ≤ rows) × (columns * rows ≤ length work.old) }
     ensures { work.new ≡ spec.adopted rows t orient work.old }
 {
-    if work[table::ANY * rows + t] == 0 {
-        return;
+    let any = work[table::ANY * rows + t] != 0;
+    if any
+        && work[table::GROUP * rows + 3 * t] == 0
+        && work[table::GROUP * rows + (3 * t + 1)] == 0
+        && work[table::GROUP * rows + (3 * t + 2)] == 0
+    {
+        work[table::ORIENTATION * rows + t] = orient;
     }
-    if work[table::GROUP * rows + 3 * t] != 0 {
-        return;
-    }
-    if work[table::GROUP * rows + (3 * t + 1)] != 0 {
-        return;
-    }
-    if work[table::GROUP * rows + (3 * t + 2)] != 0 {
-        return;
-    }
-    work[table::ORIENTATION * rows + t] = orient;
 }
 
 // Enters triangle t: its corner, which is marked and is member `count`; none where the walk stops there.
-pub fn enter_at(
-    work: &mut [u32],
-    rows: usize,
-    t: usize,
-    group: u32,
-    vertex: u32,
-    orient: u32,
-    count: usize,
-) -> Option<usize>
+pub fn enter_at(work: &mut [u32], rows: usize, t: usize, g: Group, count: usize) -> Option<usize>
     requires { (3 * t + 3 ≤ rows) × (columns * rows ≤ length work.old) × (rows < 4294967295) × (count ≤ rows) }
-    ensures entry { result ≡ (spec.enter rows t group vertex orient count work.old).entry }
-    ensures work { work.new ≡ (spec.enter rows t group vertex orient count work.old).work }
+    ensures entry { result ≡ (spec.enter rows t g.number g.vertex g.orientation count work.old).entry }
+    ensures work { work.new ≡ (spec.enter rows t g.number g.vertex g.orientation count work.old).work }
 {
-    let i = corner_of(work, rows, t, vertex);
-    if i == 3 {
-        return None;
-    }
+    let i = corner_of(work, rows, t, g.vertex)?;
     if work[table::GROUP * rows + (3 * t + i)] != 0 {
         return None;
     }
-    adopt(work, rows, t, orient);
-    if work[table::ORIENTATION * rows + t] != orient {
+    adopt(work, rows, t, g.orientation);
+    if work[table::ORIENTATION * rows + t] != g.orientation {
         return None;
     }
     work[table::MET * rows + count] = (3 * t + i) as u32;
-    work[table::GROUP * rows + (3 * t + i)] = group;
+    work[table::GROUP * rows + (3 * t + i)] = g.number;
     Some(i)
 }
 
@@ -101,67 +85,67 @@ fn corner_step(
     rows: usize,
     tris: usize,
     t: usize,
-    group: u32,
-    vertex: u32,
-    orient: u32,
+    g: Group,
     count: usize,
 ) -> usize
-    requires { (t < tris) × spec.Ready rows tris group count work.old }
-    ensures { spec.Steps rows (spec.walk work.old count) (spec.walk work.new result) (λ n. spec.corner rows group vertex orient n (spec.walk work.old count) t) }
+    requires { (t < tris) × spec.Ready rows tris g.number count work.old }
+    ensures { spec.Steps rows (spec.walk work.old count) (spec.walk work.new result) (λ n. spec.corner rows g.number g.vertex g.orientation n (spec.walk work.old count) t) }
 {
-    let Some(i) = enter_at(work, rows, t, group, vertex, orient, count) else {
+    let Some(i) = enter_at(work, rows, t, g, count) else {
         return count;
     };
     let first = 3 * t + (i + 2) % 3;
     let second = 3 * t + i;
-    let n = side_step(work, rows, tris, first, group, vertex, orient, count + 1);
-    side_step(work, rows, tris, second, group, vertex, orient, n)
+    let n = side_step(work, rows, tris, first, g, count + 1);
+    side_step(work, rows, tris, second, g, n)
 }
 
 // Over a side to the corner beyond.
 #[cycle(corner_step_side_step)]
-fn side_step(
-    work: &mut [u32],
-    rows: usize,
-    tris: usize,
-    k: usize,
-    group: u32,
-    vertex: u32,
-    orient: u32,
-    count: usize,
-) -> usize
-    requires { (k < 3 * tris) × spec.Ready rows tris group count work.old }
-    ensures { spec.Steps rows (spec.walk work.old count) (spec.walk work.new result) (λ n. spec.side rows (spec.corner rows group vertex orient n) (spec.walk work.old count) k) }
+fn side_step(work: &mut [u32], rows: usize, tris: usize, k: usize, g: Group, count: usize) -> usize
+    requires { (k < 3 * tris) × spec.Ready rows tris g.number count work.old }
+    ensures { spec.Steps rows (spec.walk work.old count) (spec.walk work.new result) (λ n. spec.side rows (spec.corner rows g.number g.vertex g.orientation n) (spec.walk work.old count) k) }
 {
     let Some(u) = neighbors::link_at(work, rows, 3 * tris, k) else {
         return count;
     };
-    corner_step(work, rows, tris, u / 3, group, vertex, orient, count)
+    corner_step(work, rows, tris, u / 3, g, count)
 }
 
 // ---- the groups
+
+// The group that starts at corner k, unless its triangle is `group_with_any` or the corner is in a group. Where its members begin is stored.
+pub fn open_at(work: &mut [u32], rows: usize, k: usize, s: GroupCounts) -> Option<Group>
+    requires { (k < rows) × (s.groups ≤ k) × (s.members ≤ rows) × (columns * rows ≤ length work.old) × (rows < 4294967295) }
+    ensures { MatchOption result (spec.Shut rows k work.old work.new) (λ g. spec.Opened rows k s g work.old work.new) }
+{
+    let t = k / 3;
+    if work[table::ANY * rows + t] != 0 {
+        return None;
+    }
+    if work[table::GROUP * rows + k] != 0 {
+        return None;
+    }
+    let g = Group {
+        number: s.groups + 1,
+        vertex: work[table::VERTEX * rows + k],
+        orientation: work[table::ORIENTATION * rows + t],
+    };
+    work[table::BEGIN * rows + s.groups as usize] = s.members as u32;
+    Some(g)
+}
 
 // The turn of corner k: a group starts there, unless its triangle is `group_with_any` or the corner is in a group.
 fn start_at(work: &mut [u32], rows: usize, tris: usize, k: usize, s: GroupCounts) -> GroupCounts
     requires { (k < 3 * tris) × (s.groups ≤ k) × spec.Ready rows tris (s.groups + 1) s.members work.old }
     ensures { spec.Turned rows tris k (spec.state work.old s) (spec.state work.new result) }
 {
-    let t = k / 3;
-    let groups = s.groups;
-    let members = s.members;
-    if work[table::ANY * rows + t] != 0 {
+    let Some(g) = open_at(work, rows, k, s) else {
         return s;
-    }
-    if work[table::GROUP * rows + k] != 0 {
-        return s;
-    }
-    let vertex = work[table::VERTEX * rows + k];
-    let orient = work[table::ORIENTATION * rows + t];
-    work[table::BEGIN * rows + groups as usize] = members as u32;
-    let n = corner_step(work, rows, tris, t, groups + 1, vertex, orient, members);
+    };
     GroupCounts {
-        groups: groups + 1,
-        members: n,
+        groups: g.number,
+        members: corner_step(work, rows, tris, k / 3, g, s.members),
     }
 }
 
@@ -177,6 +161,7 @@ fn walk_all(work: &mut [u32], rows: usize, tris: usize) -> GroupCounts
         members: 0,
     };
     table::clear(work, rows, table::GROUP);
+    // a loop and no fold, since a closure that changes the list would tell the proof nothing of it
     for k in 0..3 * tris {
         s = start_at(work, rows, tris, k, s);
     }

@@ -1,7 +1,7 @@
 // The members of each group once more, in triangle order, which step 7 sums in.
 #![tactic(auto)]
 
-ghost use Rattle.std.specs.Prelude.{◌≡◌, List, [], ◌∷◌, ◌+◌, ◌*◌, ◌≤◌, ◌<◌, min, length, get_or};
+ghost use Rattle.std.specs.Prelude.{◌≡◌, List, [], ◌∷◌, ◌+◌, ◌*◌, ◌≤◌, ◌<◌, length, get_or};
 ghost use Rattle.definition.specs.declared.Triangle.{Triangle};
 ghost use Rattle.definition.specs.Step5Links.{Link};
 ghost use Rattle.laws.proofs.Closed.{Between};
@@ -15,21 +15,13 @@ ghost use Rattle.members.specs.Members as spec;
 
 use groups::GroupCounts;
 
-// The lesser of two numbers.
-fn least(a: usize, b: usize) -> usize
-    ensures { result ≡ min a b }
-{
-    if a <= b { a } else { b }
-}
-
 // The members as they were met, copied.
 fn copy_members(work: &mut [u32], rows: usize, count: usize)
     requires { (count ≤ rows) × (columns * rows ≤ length work.old) }
     ensures { work.new ≡ filled_to rows order_column (λ j. get_or (column rows met_column work.old) j 0) work.old count }
 {
-    for j in 0..count {
-        work[table::ORDER * rows + j] = work[table::MET * rows + j];
-    }
+    let met = table::MET * rows;
+    work.copy_within(met..met + count, table::ORDER * rows);
 }
 
 // Where the members of group number q + 1 begin; past the last group, where all end.
@@ -38,9 +30,10 @@ pub fn begin_at(work: &[u32], rows: usize, q: usize, s: GroupCounts) -> usize
     ensures { (result ≡ spec.begin_of rows s.groups s.members work.now q) × (result ≤ s.members) }
 {
     if q < s.groups as usize {
-        return least(work[table::BEGIN * rows + q] as usize, s.members);
+        (work[table::BEGIN * rows + q] as usize).min(s.members)
+    } else {
+        s.members
     }
-    s.members
 }
 
 // The members of group number q + 1 sorted by their rows.
@@ -50,10 +43,9 @@ fn sort_group(work: &mut [u32], rows: usize, q: usize, s: GroupCounts)
 {
     let from = begin_at(work, rows, q, s);
     let to = begin_at(work, rows, q + 1, s);
-    if to <= from {
-        return;
+    if from < to {
+        sort::sort(work, rows, from, to);
     }
-    sort::sort(work, rows, from, to);
 }
 
 // Those of every group.
@@ -61,6 +53,7 @@ fn sort_groups(work: &mut [u32], rows: usize, s: GroupCounts)
     requires { (s.groups ≤ rows) × (s.members ≤ rows) × (columns * rows ≤ length work.old) }
     ensures { spec.Sorting rows s.groups s.members work.old s.groups work.new }
 {
+    // by the number, since a group's members end where the next one's begin
     for q in 0..s.groups as usize {
         sort_group(work, rows, q, s);
     }

@@ -24,7 +24,7 @@ struct Cursors {
     far: usize,
 }
 
-// A word as an index.
+// A word as an index, for the crates that read words so.
 pub fn wide(x: u32) -> usize
     ensures { result ≡ x }
 {
@@ -69,6 +69,7 @@ pub fn put_sides(work: &mut [u32], rows: usize, column: usize, tris: usize)
     requires { (column < columns) × (3 * tris ≤ rows) × (columns * rows ≤ length work.old) × (rows < 4294967295) }
     ensures { work.new ≡ up_to (3 * tris) (sides.with_side rows column) work.old }
 {
+    // by the row's number, since a turn writes to four columns of the list, which no iterator lends together
     for r in 0..3 * tris {
         put_side(work, rows, column, tris, r);
     }

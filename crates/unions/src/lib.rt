@@ -42,6 +42,7 @@ pub fn settle(parents: &mut [u32], count: usize)
     requires { (count ≤ length parents.old) × spec.Downward count parents.old }
     ensures { spec.Settled count parents.old parents.new }
 {
+    // by the number, since a turn reads another place of the list that it writes
     for x in 0..count {
         parents[x] = parents[parents[x] as usize];
     }

@@ -1,34 +1,21 @@
 -- Proof that `start_at` meets its contract. Assumes nothing.
-use Prim.Native.Nat.{◌+◌, ◌*◌}
 use native.Mathlib.Omega.{arith}
-use mathlib.Core.Path.{refl, ◌∙◌}
-use lib.ListN.{length-set}
-use Rattle.table.specs.Columns.{begin_column}
-use Rattle.view.proofs.Frame.{only_none, only-trans, only-put}
-use Rattle.groups.proofs.Steps.{ready-begun}
-use Rattle.flat.specs.Places.{flat_columns}
-use Rattle.flat.proofs.Turns.{turned-any, turned-grouped, turned-new}
+use Rattle.view.proofs.Frame.{only-trans}
+use Rattle.groups.proofs.Steps.{ready-opened}
+use Rattle.flat.proofs.Turns.{turn-shut, turn-opened, only-shut, only-opened}
 use Rattle.flat.proofs.start_at.Goals as goal
 
-pub returns-then-work-rows-ne0 : goal.returns-then-work-rows-ne0
-returns-then-work-rows-ne0 c =
-    record { turned = turned-any _ _ _ _ _ c.requires.0 c.requires.1 c.requires.2 c.if-work-rows-ne0.true; only = only_none _ _ _ }
+pub open_at-requires : goal.open_at-requires
+open_at-requires c = let R = c.requires.2 in (omega (arith, c.requires.0, R.fits), c.requires.1, omega (arith, R.room), R.long, R.few)
 
-pub returns-then-work-rows-ne0-2 : goal.returns-then-work-rows-ne0-2
-returns-then-work-rows-ne0-2 c =
-    record { turned = turned-grouped _ _ _ _ _ c.requires.0 c.requires.1 c.requires.2 c.if-work-rows-ne0.false c.if-work-rows-ne0-2.true; only = only_none _ _ _ }
+pub returns-in_default : goal.returns-in_default
+returns-in_default c =
+    record { turned = turn-shut _ _ _ _ _ _ c.requires.0 c.requires.1 c.requires.2 c.in_default.ensures; only = only-shut _ _ _ _ c.in_default.ensures }
 
-pub walk_from-n-requires : goal.walk_from-n-requires
-walk_from-n-requires c =
-    (omega arith, ready-begun _ _ _ _ _ _ _ (omega (arith, c.requires.2.fits)) c.requires.2)
-
-pub shape_of-work : goal.shape_of-work
-shape_of-work c =
-    let a = c.args in
-    c.walk_from-n.auto.work ∙ length-set a.work.now (begin_column * a.rows + a.s.groups) a.s.members
+pub walk_from-requires : goal.walk_from-requires
+walk_from-requires c = (omega (arith, c.requires.0), ready-opened _ _ _ _ _ _ _ c.requires.0 c.requires.1 c.requires.2 c.in-Some.ensures)
 
 pub returns : goal.returns
 returns c =
-    let a = c.args in
-    let R = c.requires.2 in
-    let step = c.walk_from-n in record { turned = turned-new _ _ _ _ _ c.requires.0 c.requires.1 R c.if-work-rows-ne0.false c.if-work-rows-ne0-2.false _ _ step.ensures.walked; only = only-trans _ _ _ _ _ (only-put flat_columns a.rows a.work.now a.work.now begin_column a.s.groups a.s.members refl (omega arith) (omega (arith, R.fits)) (only_none flat_columns a.rows a.work.now)) step.ensures.only }
+    let O = c.in-Some.ensures in
+    record { turned = turn-opened _ _ _ _ _ _ _ _ _ c.requires.0 c.requires.1 c.requires.2 O c.walk_from.ensures.walked; only = only-trans _ _ _ _ _ (only-opened _ _ _ _ _ _ (omega (arith, c.requires.0, c.requires.1, c.requires.2.fits)) O) c.walk_from.ensures.only }
