@@ -141,13 +141,7 @@ fn contribute_triangle(
 }
 
 // The corners of the first tris triangles; their numbers stand in column k.
-pub fn contribute_all(
-    work: &mut [u32],
-    rows: usize,
-    k: usize,
-    tris: usize,
-    mesh: &Mesh,
-)
+pub fn contribute_all(work: &mut [u32], rows: usize, k: usize, tris: usize, mesh: &Mesh)
     requires { (k < columns) × (outside contribution_columns k ≡ true) × (3 * tris ≤ rows) × (columns * rows ≤ length work.old) }
     ensures brings { (ss : List Triangle) (d : Triangle) → length ss ≡ tris → ((t : ℕ) → t < length ss → Reads rows k mesh.now.positions mesh.now.normals work.old t (get_or ss t d)) → Contributed rows ss d work.new }
     ensures only { Only contribution_columns rows work.old work.new }

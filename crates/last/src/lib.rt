@@ -10,6 +10,7 @@ ghost use Rattle.last.specs.Last as spec;
 
 use grouped::MeshCounts;
 use groups::GroupCounts;
+use mesh::Mesh;
 
 // The answer list shows absent slots, and then the final readings. The numbers of the corners that step 7 reads stand in column k.
 pub fn finish_frames(
@@ -17,21 +18,25 @@ pub fn finish_frames(
     rows: usize,
     k: usize,
     counts: MeshCounts,
-    positions: &[f32],
-    normals: &[f32],
+    mesh: &Mesh,
     threshold: f32,
     answer: &mut [u32],
 )
     requires { (k < columns) × (outside contribution_columns k ≡ true) × (counts.sound ≤ counts.all) × (3 * counts.all ≤ rows) × (counts.groups ≤ rows) × (counts.members ≤ rows) × (columns * rows ≤ length work.old) × Ranged rows counts.members work.old }
-    ensures { spec.Finished rows k counts positions.now normals.now threshold work.old work.new answer.old answer.new }
+    ensures { spec.Finished rows k counts mesh.now.positions mesh.now.normals threshold work.old work.new answer.old answer.new }
 {
-    let sound = counts.sound;
-    let all = counts.all;
-    contributions::contribute_all(work, rows, k, sound, positions, normals);
+    contributions::contribute_all(work, rows, k, counts.sound, mesh);
     let met = GroupCounts {
         groups: counts.groups,
         members: counts.members,
     };
     spaces::generate_tangent_spaces(work, rows, threshold, answer, met);
-    copies::copy_frames(work, rows, sound, all, positions, answer);
+    copies::copy_frames(
+        work,
+        rows,
+        counts.sound,
+        counts.all,
+        mesh.positions,
+        answer,
+    );
 }
