@@ -25,14 +25,19 @@ pub fn finish_frames(
     requires { (k < columns) × (outside contribution_columns k ≡ true) × (counts.sound ≤ counts.all) × (3 * counts.all ≤ rows) × (counts.groups ≤ rows) × (counts.members ≤ rows) × (columns * rows ≤ length work.old) × Ranged rows counts.members work.old }
     ensures { spec.Finished rows k counts mesh.now.positions.now mesh.now.normals.now threshold work.old work.new answer.old answer.new }
 {
-    let sound = counts.sound;
-    let all = counts.all;
     mesh.single();
-    contributions::contribute_all(work, rows, k, sound, mesh);
+    contributions::contribute_all(work, rows, k, counts.sound, mesh);
     let met = GroupCounts {
         groups: counts.groups,
         members: counts.members,
     };
     spaces::generate_tangent_spaces(work, rows, threshold, answer, met);
-    copies::copy_frames(work, rows, sound, all, mesh.positions, answer);
+    copies::copy_frames(
+        work,
+        rows,
+        counts.sound,
+        counts.all,
+        mesh.positions,
+        answer,
+    );
 }

@@ -36,7 +36,11 @@ fn put_numbers(work: &mut [u32], at: usize, base: u32, x: Triangle)
     requires { (at + 3 ≤ length work.old) × spec.Small base x }
     ensures { work.new ≡ sets work.old at (numbers base x) }
 {
-    put_three(work, at, [base + x.a.which, base + x.b.which, base + x.c.which]);
+    put_three(
+        work,
+        at,
+        [base + x.a.which, base + x.b.which, base + x.c.which],
+    );
 }
 
 // Its face, whether it is the second of it, the corner it misses.
@@ -52,7 +56,11 @@ fn put_vec(work: &mut [u32], at: usize, v: Vec3)
     requires { at + 3 ≤ length work.old }
     ensures { (work.new ≡ sets work.old at (three_of v)) × HeldVec v }
 {
-    put_three(work, at, [bits::word(v.x), bits::word(v.y), bits::word(v.z)]);
+    put_three(
+        work,
+        at,
+        [bits::word(v.x), bits::word(v.y), bits::word(v.z)],
+    );
 }
 
 // The two magnitudes, and whether the quad is marked.

@@ -13,6 +13,7 @@ use groups::GroupCounts;
 use tangent::Evaluated;
 
 // The slot of the member at row r is reached by g.
+#[tactic(auto, unfolding(crate::specs::Spaces::reach_with))]
 fn reach_one(work: &[u32], rows: usize, answer: &mut [u32], r: usize, g: Evaluated)
     requires { (r < rows) × (columns * rows ≤ length work.now) }
     ensures { answer.new ≡ spec.reach_with rows work.now g r answer.old }
@@ -83,12 +84,11 @@ fn reach_group(
     requires { (from ≤ to) × (to ≤ rows) × (columns * rows ≤ length work.old) × Ranged rows to work.old }
     ensures { (answer.new ≡ spec.reach_group rows threshold from to work.old answer.old) × Only (joined_column ∷ []) rows work.old work.new }
 {
-    let whole = subgroups::whole(work, rows, threshold, from, to);
-    if whole {
+    if subgroups::whole(work, rows, threshold, from, to) {
         reach_whole(work, rows, answer, from, to);
-        return;
+    } else {
+        reach_each(work, rows, threshold, answer, from, to);
     }
-    reach_each(work, rows, threshold, answer, from, to);
 }
 
 // Group number q + 1.
@@ -105,10 +105,9 @@ fn reach_at(
 {
     let from = members::begin_at(work, rows, q, s);
     let to = members::begin_at(work, rows, q + 1, s);
-    if to <= from {
-        return;
+    if from < to {
+        reach_group(work, rows, threshold, answer, from, to);
     }
-    reach_group(work, rows, threshold, answer, from, to);
 }
 
 // All groups.
