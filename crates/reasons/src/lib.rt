@@ -62,14 +62,7 @@ fn try_copies(mesh: &Mesh, work: &mut [u32], answer: &mut [u32], slots: usize)
     fill(answer, slots);
     let rows = 6 * mesh.sizes.len();
     let counts = grouped::link_mesh(mesh, work);
-    copies::copy_frames(
-        work,
-        rows,
-        counts.sound,
-        counts.all,
-        mesh.positions,
-        answer,
-    );
+    copies::copy_frames(work, rows, counts.sound, counts.all, mesh.positions, answer);
 }
 
 // ---- bytes
