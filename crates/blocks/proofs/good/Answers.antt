@@ -1,7 +1,7 @@
 -- `blocks::good` meets its contract. Assumes nothing.
 use Prim.Native.Nat.{ℕ, ◌+◌, ◌-◌, ◌*◌, ◌/◌, ◌<◌}
 use native.Mathlib.Omega.{arith}
-use mathlib.Core.Path.{◌≡◌, refl, sym, ◌∙◌, ap}
+use mathlib.Core.Path.{◌≡◌, sym, ◌∙◌, ap}
 use mathlib.Core.Bool.{Bool}
 use mathlib.Core.List.{List}
 use lib.Dec.{eqb}
@@ -39,7 +39,7 @@ returns-else-emptied c =
     c.if-emptied.false
     ∙ elim c.if-block_marked.branch [
       | then-block_marked w ↦ elim c.if-headed.branch [
-        | then-headed u ↦ (bad-rest a.kind a.total a.b a.card.now there (sym h ∙ u.if-headed.true) (sym (u.block_marked.ensures ∙ marked-words a.kind a.total a.b a.card.now) ∙ (sym u.value-is ∙ w.if-block_marked.true)) (sym (rests a.kind a.total a.b _ _ a.card.now _ w.emptied.ensures c.used_words-count.ensures.0 refl) ∙ (sym w.value-is ∙ c.if-emptied.false)))
+        | then-headed u ↦ (bad-rest a.kind a.total a.b a.card.now there (sym h ∙ u.if-headed.true) (sym (u.block_marked.ensures ∙ marked-words a.kind a.total a.b a.card.now) ∙ (sym u.value-is ∙ w.if-block_marked.true)) (sym (rests a.kind a.total a.b _ _ a.card.now _ w.emptied.ensures c.used_words-count.ensures.0 (omega (arith, c.used_words-count.ensures.1))) ∙ (sym w.value-is ∙ c.if-emptied.false)))
         | else-headed u ↦ cc
       ]
       | else-block_marked w ↦ elim c.if-headed.branch [
@@ -57,7 +57,7 @@ returns-then-emptied c =
     c.checked.ensures
     ∙ elim c.if-block_marked.branch [
       | then-block_marked w ↦ elim c.if-headed.branch [
-        | then-headed u ↦ by-sum a.kind a.total a.b a.card.now there (sym h ∙ u.if-headed.true) (sym (u.block_marked.ensures ∙ marked-words a.kind a.total a.b a.card.now) ∙ (sym u.value-is ∙ w.if-block_marked.true)) (sym (rests a.kind a.total a.b _ _ a.card.now _ w.emptied.ensures c.used_words-count.ensures.0 refl) ∙ (sym w.value-is ∙ c.if-emptied.true))
+        | then-headed u ↦ by-sum a.kind a.total a.b a.card.now there (sym h ∙ u.if-headed.true) (sym (u.block_marked.ensures ∙ marked-words a.kind a.total a.b a.card.now) ∙ (sym u.value-is ∙ w.if-block_marked.true)) (sym (rests a.kind a.total a.b _ _ a.card.now _ w.emptied.ensures c.used_words-count.ensures.0 (omega (arith, c.used_words-count.ensures.1))) ∙ (sym w.value-is ∙ c.if-emptied.true))
         | else-headed u ↦ cc
       ]
       | else-block_marked w ↦ cc
