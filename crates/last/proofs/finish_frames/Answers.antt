@@ -1,5 +1,12 @@
 -- `last::finish_frames` meets its contract. Assumes nothing.
 use native.Mathlib.Omega.{arith}
+use Prim.Native.Nat.{ℕ}
+use mathlib.Core.Path.{subst}
+use lib.Dec.{T}
+use lib.Ieee.{binary32, fits, nan}
+use lib.ListN.{get_or}
+use Rattle.definition.specs.Handed.{Handed}
+use Rattle.copies.specs.Copies.{Copied}
 use Rattle.last.proofs.Last.{ranged-kept, finished}
 use Rattle.last.proofs.finish_frames.Goals as goal
 
@@ -11,5 +18,7 @@ generate_tangent_spaces-requires c =
 pub returns : goal.returns
 returns c =
     let a = c.args in
+    let fit = subst (λ (m : Handed). (i : ℕ) → T (fits binary32 (get_or m.normals i nan))) c.mesh.view_is c.held.ensures in
+    let copied = subst (λ (m : Handed). Copied a.rows a.counts.sound a.counts.all m.positions c.generate_tangent_spaces.new.work c.generate_tangent_spaces.new.answer c.copy_frames.new.answer) c.mesh.view_is c.copy_frames.ensures in
     finished a.rows a.k a.counts a.mesh.now.positions a.mesh.now.normals a.threshold a.work.now _ _ a.answer.now _ _ c.requires.2 c.requires.3 c.requires.4 c.requires.5 c.requires.6
-    (λ i. c.shared_slice_known-2-1.given i) c.contribute_all.ensures.brings c.contribute_all.ensures.only c.generate_tangent_spaces.ensures.0 c.generate_tangent_spaces.ensures.1 c.copy_frames.ensures
+    fit c.contribute_all.ensures.brings c.contribute_all.ensures.only c.generate_tangent_spaces.ensures.0 c.generate_tangent_spaces.ensures.1 copied
