@@ -42,7 +42,7 @@ fn reach_member(
     g
 }
 
-// Its members, one after the other, each with a subgroup of its own.
+// Its members, one after the other, each with a subgroup of its own. By their places, since the work list is lent to each member in turn.
 fn reach_each(
     work: &mut [u32],
     rows: usize,
