@@ -243,7 +243,8 @@ pub fn space_of(
     ensures { (result ≡ spec.value_of rows threshold r from (to - from) work.old) × (result ≡ spec.evaluated rows from (to - from) work.new) × Only (joined_column ∷ []) rows work.old work.new }
 {
     let m = peer_at(work, rows, r);
-    if mark_subgroup(work, rows, threshold, m, from, to) {
+    let same = mark_subgroup(work, rows, threshold, m, from, to);
+    if same {
         before
     } else {
         evaluate_tangent_space(work, rows, from, to)
