@@ -20,7 +20,8 @@ use Rattle.lists.specs.Parts.{joined, part}
 use Rattle.lists.proofs.Parts.{length-joined, length_part}
 use borrow.Rule.Slice.PartMut.{put_mid}
 use lib.Seq.{length-sets}
-use Rattle.words.proofs.Stores.{part-written, joined-none, joined-stored, sets-front}
+use Rattle.lists.proofs.Written.{part-written}
+use Rattle.words.proofs.Stores.{joined-none, joined-stored, sets-front}
 use Rattle.packed.specs.Packer.{packed_words, has_frame, frame, frame_packed, packed_slot}
 use Rattle.packed.specs.Reader.{read_words, all_nothing, frame_words, seven_read, read_seven, first_failing, found_failing, FirstFailing}
 

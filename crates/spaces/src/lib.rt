@@ -42,7 +42,7 @@ fn reach_member(
     g
 }
 
-// Its members, one after the other, each with a subgroup of its own.
+// Its members, one after the other, each with a subgroup of its own. By their places, since the work list is lent to each member in turn.
 fn reach_each(
     work: &mut [u32],
     rows: usize,
@@ -84,7 +84,8 @@ fn reach_group(
     requires { (from ≤ to) × (to ≤ rows) × (columns * rows ≤ length work.old) × Ranged rows to work.old }
     ensures { (answer.new ≡ spec.reach_group rows threshold from to work.old answer.old) × Only (joined_column ∷ []) rows work.old work.new }
 {
-    if subgroups::whole(work, rows, threshold, from, to) {
+    let whole = subgroups::whole(work, rows, threshold, from, to);
+    if whole {
         reach_whole(work, rows, answer, from, to);
     } else {
         reach_each(work, rows, threshold, answer, from, to);

@@ -139,7 +139,7 @@ fn add_taken(work: &[u32], rows: usize, all: bool, p: usize, z: Sum) -> Sum
     }
 }
 
-// The sum of all members, or of the marked ones, made a tangent space, and how many added to it.
+// The sum of all members, or of the marked ones, made a tangent space, and how many added to it. A place p, since its row and its mark stand in two columns.
 fn sum_taken(work: &[u32], rows: usize, all: bool, from: usize, to: usize) -> Evaluated
     requires { (from ≤ to) × (to ≤ rows) × (columns * rows ≤ length work.now) × spec.Ranged rows to work.now }
     ensures { result ≡ spec.taken_sum rows all from (to - from) work.now }
@@ -194,7 +194,7 @@ fn absorb_at(work: &[u32], rows: usize, p: usize, b: Span) -> Span
     absorb(work, rows, work[table::ORDER * rows + p] as usize, c)
 }
 
-// The hulls of the group whose members stand from one place to another.
+// The hulls of the group whose members stand from one place to another. A place p, since it is one of two columns.
 fn span_of(work: &[u32], rows: usize, from: usize, to: usize) -> Span
     requires { (from ≤ to) × (to ≤ rows) × (columns * rows ≤ length work.now) × spec.Ranged rows to work.now }
     ensures { result ≡ spans.span_of rows from (to - from) work.now }
@@ -243,7 +243,8 @@ pub fn space_of(
     ensures { (result ≡ spec.value_of rows threshold r from (to - from) work.old) × (result ≡ spec.evaluated rows from (to - from) work.new) × Only (joined_column ∷ []) rows work.old work.new }
 {
     let m = peer_at(work, rows, r);
-    if mark_subgroup(work, rows, threshold, m, from, to) {
+    let same = mark_subgroup(work, rows, threshold, m, from, to);
+    if same {
         before
     } else {
         evaluate_tangent_space(work, rows, from, to)

@@ -28,17 +28,6 @@ sets-front l xs n e h =
     from_zero : 0 + length xs ≡ n
     from_zero = omega arith
 
--- a part that is written whole, as a run
-pub part-written : (l ys xs : List ℕ) (p k : ℕ) → ys ≡ xs → length xs ≡ k → p + k ≤ length l → put_mid p k l ys ≡ sets l p xs
-part-written l ys xs p k e n h =
-    put_mid-paste p k l ys xs k e refl (sym n) ∙ (paste_all l p xs k (sym n) ∙ sym (sets-eq xs l p (omega arith) ∙ (append_assoc (take p l) xs (drop (p + length xs) l) ∙ ap (λ (i : ℕ). take p l ++ (xs ++ drop (p + i) l)) n)))
-
--- a part that is filled with zeros
-pub part-cleared : (l ys : List ℕ) (p k n : ℕ) → ys ≡ replicate (length (take k (drop p l))) 0 → k ≡ n → p + n ≤ length l → put_mid p k l ys ≡ sets l p (replicate n 0)
-unfolding part
-part-cleared l ys p k n e h w =
-    part-written l ys (replicate n 0) p k (e ∙ ap (λ (i : ℕ). replicate i 0) (length_part p k l (omega arith) ∙ h)) (length-zeros n ∙ sym h) (omega arith)
-
 -- one store more of a run
 pub sets_more : (a u ws : List ℕ) (p i : ℕ) → i < length ws → u ≡ sets a p (take i ws) → set u (p + i) (get_or ws i 0) ≡ sets a p (take (i + 1) ws)
 sets_more a u ws p i h e =

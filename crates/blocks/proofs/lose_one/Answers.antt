@@ -6,7 +6,7 @@ use mathlib.Core.List.{List}
 use lib.ListN.{set, replicate, length-set}
 use lib.Seq.{sets}
 use Rattle.blocks.specs.Judged.{lost_words}
-use Rattle.words.proofs.Stores.{part-cleared}
+use Rattle.lists.proofs.Written.{part-cleared}
 use Rattle.blocks.proofs.lose_one.Goals as goal
 
 -- word 0, and the zeros after it

@@ -7,7 +7,7 @@ use Rattle.lists.specs.Parts.{part}
 use Rattle.lists.specs.Loops.{list_of}
 use Rattle.lists.proofs.Parts.{length_part}
 use Rattle.words.specs.Words.{words_at}
-use Rattle.words.proofs.Stores.{part-written}
+use Rattle.lists.proofs.Written.{part-written}
 use Rattle.words.proofs.Words.{word-by, get_more, get_all, length-words}
 use Rattle.words.proofs.get_words.Goals as goal
 

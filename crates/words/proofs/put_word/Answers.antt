@@ -3,7 +3,7 @@ use native.Mathlib.Omega.{arith}
 use Prim.Native.Nat.{◌*◌}
 use mathlib.Core.Path.{◌∙◌}
 use Rattle.words.specs.Words.{word_bytes}
-use Rattle.words.proofs.Stores.{part-written}
+use Rattle.lists.proofs.Written.{part-written}
 use Rattle.words.proofs.put_word.Goals as goal
 
 pub returns : goal.returns

@@ -3,7 +3,7 @@ use native.Mathlib.Omega.{arith}
 use Prim.Native.Nat.{◌*◌}
 use mathlib.Core.Path.{sym, ap, ◌∙◌}
 use lib.Seq.{sets}
-use Rattle.words.proofs.Stores.{part-cleared}
+use Rattle.lists.proofs.Written.{part-cleared}
 use Rattle.words.proofs.Words.{zeros_bytes}
 use Rattle.words.proofs.put_zeros.Goals as goal
 
