@@ -32,12 +32,5 @@ pub fn finish_frames(
         members: counts.members,
     };
     spaces::generate_tangent_spaces(work, rows, threshold, answer, met);
-    copies::copy_frames(
-        work,
-        rows,
-        counts.sound,
-        counts.all,
-        mesh.positions,
-        answer,
-    );
+    copies::copy_frames(work, rows, counts.sound, counts.all, mesh.positions, answer);
 }

@@ -5,15 +5,11 @@ use native.Mathlib.Numerals.{add-one}
 use native.Mathlib.Omega.{arith}
 use mathlib.Core.Path.{◌≡◌, refl, sym, ap, ◌∙◌}
 use mathlib.Core.List.{List, [], ◌∷◌, ◌++◌}
-use Rattle.std.proofs.Common.{append_assoc}
-use lib.ListN.{length, get_or, set, take, drop, replicate}
+use lib.ListN.{length, get_or, set, take, drop}
 use lib.Seq.{sets, sets-eq, take-suc, length-take-le}
-use borrow.Rule.Slice.PartMut.{put_mid}
-use Rattle.std.proofs.lemmas.Slice.{put_mid-paste}
-use Rattle.std.proofs.lemmas.List.Edits.{paste_all}
 use Rattle.table.proofs.Laws.{sets-snoc}
-use Rattle.lists.specs.Parts.{joined, part}
-use Rattle.lists.proofs.Parts.{joined-more, length-zeros, length_part}
+use Rattle.lists.specs.Parts.{joined}
+use Rattle.lists.proofs.Parts.{joined-more}
 
 -- a run that begins where another ends
 pub sets-join : (l : List ℕ) (p q : ℕ) (xs ys : List ℕ) → q ≡ p + length xs → sets (sets l p xs) q ys ≡ sets l p (xs ++ ys)
