@@ -14,10 +14,7 @@ use listing::TriangleCounts;
 use mesh::Mesh;
 
 // Steps 1 to 5; the columns are spoken for where no corner is bad.
-pub fn link_old_mesh(
-    mesh: &Mesh,
-    work: &mut [u32],
-) -> TriangleCounts
+pub fn link_old_mesh(mesh: &Mesh, work: &mut [u32]) -> TriangleCounts
     requires { (length mesh.now.sizes.now ≤ face_limit) × (columns * rows_of (length mesh.now.sizes.now) ≤ length work.old) }
     ensures { LeftByOldFive (given mesh.now) result.sound result.all work.old work.new }
 {
@@ -33,10 +30,7 @@ pub fn link_old_mesh(
 }
 
 // Steps 1 to 6; the columns are spoken for where no corner is bad.
-pub fn group_old_mesh(
-    mesh: &Mesh,
-    work: &mut [u32],
-) -> MeshCounts
+pub fn group_old_mesh(mesh: &Mesh, work: &mut [u32]) -> MeshCounts
     requires { (length mesh.now.sizes.now ≤ face_limit) × (columns * rows_of (length mesh.now.sizes.now) ≤ length work.old) }
     ensures { LeftByOldSix (given mesh.now) result work.old work.new }
 {
