@@ -32,6 +32,10 @@ module _ (rows n : ℕ) (w : List ℕ) where
   pub order-long : n ≤ rows → columns * rows ≤ length w → length (order rows n w) ≡ n
   order-long h k = let z = length-column rows w order_column (omega arith) in length-take-le n (column rows order_column w) (omega (arith, z))
 
+  -- a place of the order
+  pub order-room : columns * rows ≤ length w → n ≤ rows → (e : ℕ) → e ≤ n → e ≤ length (order rows n w)
+  order-room k h e l = let z = order-long h k in omega (arith, z, l)
+
 -- the rows at some places, as they stand in the work list
 pub rows-are : (rows from to n : ℕ) (w : List ℕ) → from ≤ to → to ≤ rows → to ≤ n → take (order_column * rows + to - (order_column * rows + from)) (drop (order_column * rows + from) w) ≡ slice from to (order rows n w)
 unfolding column
