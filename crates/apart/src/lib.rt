@@ -22,7 +22,11 @@ ghost use Rattle.apart.specs.Scatter as scatter;
 ghost use Rattle.mesh.specs.Parts.{Fits};
 ghost use Rattle.apart.specs.Steps as step;
 ghost use Rattle.apart.specs.Call as spec;
+ghost use Rattle.mesh.specs.Parts.{given};
+ghost use Rattle.mikktspace.specs.Contract.{outcome_of};
 
+use desk::Refusal;
+use mesh::Mesh;
 use mikktspace::Outcome;
 
 // The numbers and the frames' words that are lent for each face: 8 numbers for each of four corners, a slot for each.
@@ -57,9 +61,7 @@ fn clear_numbers(xs: &mut [f32], count: usize)
     requires { count ≤ length xs.old }
     ensures { xs.new ≡ cleared zeroᶠ count xs.old }
 {
-    for i in 0..count {
-        xs[i] = 0.0;
-    }
+    xs[..count].fill(0.0);
 }
 
 // The first sizes of a list, zeros.
@@ -67,11 +69,7 @@ fn clear_sizes(xs: &mut [u8], count: usize)
     requires { count ≤ length xs.old }
     ensures { xs.new ≡ cleared 0 count xs.old }
 {
-    let mut k: usize = 0;
-    while k < count {
-        xs[k] = 0;
-        k += 1;
-    }
+    xs[..count].fill(0);
 }
 
 // ---- the order of the faces
@@ -95,9 +93,7 @@ fn link_faces(labels: &[u32], order: &mut [u32], count: usize)
     ensures { chain.Linked count (chain.label_at labels.now) 0 order.new × Past 0 (2 * count) order.old order.new }
 {
     table::clear_first(order, 2 * count);
-    let mut i = count;
-    while 0 < i {
-        i -= 1;
+    for i in (0..count).rev() {
         link_face(labels, order, count, i);
     }
 }
@@ -110,14 +106,11 @@ fn start_faces(sizes: &[u8], order: &mut [u32])
     let n = sizes.len();
     let mut corners: u32 = 0;
     let mut slots: u32 = 0;
-    let mut f: usize = 0;
-    while f < n {
-        let size = sizes[f];
+    for (f, &size) in sizes.iter().enumerate() {
         order[2 * n + f] = corners;
         order[3 * n + f] = slots;
         corners += size as u32;
         slots += mesh::slots_of(size) as u32;
-        f += 1;
     }
 }
 
@@ -155,31 +148,28 @@ pub struct Taken {
 
 // All faces of island t, in order.
 fn gather(
-    sizes: &[u8],
-    positions: &[f32],
-    normals: &[f32],
-    texture: &[f32],
+    mesh: &Mesh,
     order: &[u32],
     t: usize,
     own_sizes: &mut [u8],
     own_numbers: &mut [f32],
 ) -> Taken
-    requires { (t < length sizes.now) × step.Ready (handed sizes.now positions.now normals.now texture.now) order.now × (length sizes.now ≤ length own_sizes.old) × (spec.number_entries * length sizes.now ≤ length own_numbers.old) }
-    ensures { gather.Gathered (chain.among (island_of (mesh_of (handed sizes.now positions.now normals.now texture.now))) t) (handed sizes.now positions.now normals.now texture.now) (length sizes.now) result.faces result.corners own_sizes.new own_numbers.new × Past 0 (length sizes.now) own_sizes.old own_sizes.new × Past nan (spec.number_entries * length sizes.now) own_numbers.old own_numbers.new }
+    requires { (t < length mesh.now.sizes.now) × step.Ready (given mesh.now) order.now × (length mesh.now.sizes.now ≤ length own_sizes.old) × (spec.number_entries * length mesh.now.sizes.now ≤ length own_numbers.old) }
+    ensures { gather.Gathered (chain.among (island_of (mesh_of (given mesh.now))) t) (given mesh.now) (length mesh.now.sizes.now) result.faces result.corners own_sizes.new own_numbers.new × Past 0 (length mesh.now.sizes.now) own_sizes.old own_sizes.new × Past nan (spec.number_entries * length mesh.now.sizes.now) own_numbers.old own_numbers.new }
 {
-    let n = sizes.len();
+    let n = mesh.sizes.len();
     let mut next = order[n + t];
     let mut f: usize = 0;
     let mut k: usize = 0;
     let mut c: usize = 0;
     while next != 0 {
         f = next as usize;
-        let size = sizes[f - 1];
+        let size = mesh.sizes[f - 1];
         let base = order[2 * n + (f - 1)] as usize;
         gather_face(
-            positions,
-            normals,
-            texture,
+            mesh.positions,
+            mesh.normals,
+            mesh.texture,
             base,
             size,
             own_sizes,
@@ -260,37 +250,25 @@ fn one_island(
     threshold: f32,
     order: &[u32],
     t: usize,
-    sizes: &[u8],
-    positions: &[f32],
-    normals: &[f32],
-    texture: &[f32],
+    mesh: &Mesh,
     answer: &mut [u32],
     work: &mut [u32],
     own_sizes: &mut [u8],
     own_numbers: &mut [f32],
     own_frames: &mut [u32],
 )
-    requires { (t < length sizes.now) × step.Ready (handed sizes.now positions.now normals.now texture.now) order.now × step.Good (handed sizes.now positions.now normals.now texture.now) threshold × step.Room sizes.now answer.old work.old own_sizes.old own_numbers.old own_frames.old }
-    ensures { step.Done (handed sizes.now positions.now normals.now texture.now) threshold t answer.old answer.new × (work.new ≡ work.old) × step.Kept (length sizes.now) own_sizes.old own_sizes.new own_numbers.old own_numbers.new own_frames.old own_frames.new }
+    requires { (t < length mesh.now.sizes.now) × step.Ready (given mesh.now) order.now × step.Good (given mesh.now) threshold × step.Room mesh.now.sizes.now answer.old work.old own_sizes.old own_numbers.old own_frames.old }
+    ensures { step.Done (given mesh.now) threshold t answer.old answer.new × (work.new ≡ work.old) × step.Kept (length mesh.now.sizes.now) own_sizes.old own_sizes.new own_numbers.old own_numbers.new own_frames.old own_frames.new }
 {
-    let n = sizes.len();
+    let n = mesh.sizes.len();
     if order[n + t] == 0 {
         return;
     }
-    let taken = gather(
-        sizes,
-        positions,
-        normals,
-        texture,
-        order,
-        t,
-        own_sizes,
-        own_numbers,
-    );
+    let taken = gather(mesh, order, t, own_sizes, own_numbers);
     let k = taken.faces;
     let c = taken.corners;
     make(own_sizes, own_numbers, n, k, c, threshold, own_frames, work);
-    scatter(sizes, order, t, own_frames, answer);
+    scatter(mesh.sizes, order, t, own_frames, answer);
 }
 
 // Each of them.
@@ -301,24 +279,18 @@ fn all_islands(
     answer: &mut [u32],
     work: &mut [u32],
     order: &[u32],
-    sizes: &[u8],
-    positions: &[f32],
-    normals: &[f32],
-    texture: &[f32],
+    mesh: &Mesh,
     threshold: f32,
 )
-    requires { step.Ready (handed sizes.now positions.now normals.now texture.now) order.now × step.Good (handed sizes.now positions.now normals.now texture.now) threshold × step.Room sizes.now answer.old work.old own_sizes.old own_numbers.old own_frames.old }
-    ensures { step.DoneBelow (handed sizes.now positions.now normals.now texture.now) threshold (length sizes.now) answer.old answer.new × (work.new ≡ work.old) × step.Kept (length sizes.now) own_sizes.old own_sizes.new own_numbers.old own_numbers.new own_frames.old own_frames.new }
+    requires { step.Ready (given mesh.now) order.now × step.Good (given mesh.now) threshold × step.Room mesh.now.sizes.now answer.old work.old own_sizes.old own_numbers.old own_frames.old }
+    ensures { step.DoneBelow (given mesh.now) threshold (length mesh.now.sizes.now) answer.old answer.new × (work.new ≡ work.old) × step.Kept (length mesh.now.sizes.now) own_sizes.old own_sizes.new own_numbers.old own_numbers.new own_frames.old own_frames.new }
 {
-    for t in 0..sizes.len() {
+    for t in 0..mesh.sizes.len() {
         one_island(
             threshold,
             order,
             t,
-            sizes,
-            positions,
-            normals,
-            texture,
+            mesh,
             answer,
             work,
             own_sizes,
@@ -330,34 +302,15 @@ fn all_islands(
 
 // ---- the call
 
-// An outcome of this number, place and count of slots.
-fn said(number: u32, place: u32, slots: u32) -> Outcome
-    ensures { result ≡ record { number = number; place = place; slots = slots } }
-{
-    Outcome {
-        number,
-        place,
-        slots,
-    }
-}
-
 // Before the first island: the faces' numbers, a cleared work list and the order of the faces.
-fn prepare(
-    sizes: &[u8],
-    positions: &[f32],
-    normals: &[f32],
-    texture: &[f32],
-    labels: &mut [u32],
-    order: &mut [u32],
-    work: &mut [u32],
-)
-    requires { Fits (handed sizes.now positions.now normals.now texture.now) × (length sizes.now ≤ length labels.old) × (4 * length sizes.now ≤ length order.old) × (work_words * length sizes.now ≤ length work.old) }
-    ensures { (labels.new ≡ labelled (handed sizes.now positions.now normals.now texture.now) labels.old) × step.Ready (handed sizes.now positions.now normals.now texture.now) order.new × Past 0 (4 * length sizes.now) order.old order.new × (work.new ≡ cleared 0 (work_words * length sizes.now) work.old) }
+fn prepare(mesh: &Mesh, labels: &mut [u32], order: &mut [u32], work: &mut [u32])
+    requires { Fits (given mesh.now) × (length mesh.now.sizes.now ≤ length labels.old) × (4 * length mesh.now.sizes.now ≤ length order.old) × (work_words * length mesh.now.sizes.now ≤ length work.old) }
+    ensures { (labels.new ≡ labelled (given mesh.now) labels.old) × step.Ready (given mesh.now) order.new × Past 0 (4 * length mesh.now.sizes.now) order.old order.new × (work.new ≡ cleared 0 (work_words * length mesh.now.sizes.now) work.old) }
 {
-    let n = sizes.len();
-    islands::label(sizes, positions, normals, texture, labels, work);
+    let n = mesh.sizes.len();
+    islands::label(mesh, labels, work);
     table::clear_first(work, definition::WORK_WORDS * n);
-    start_faces(sizes, order);
+    start_faces(mesh.sizes, order);
     link_faces(labels, order, n);
 }
 
@@ -400,10 +353,7 @@ fn is_short(
 // The frames of a mesh that the desk accepts, island by island; the result is how many slots there are.
 fn make_frames(
     threshold: f32,
-    sizes: &[u8],
-    positions: &[f32],
-    normals: &[f32],
-    texture: &[f32],
+    mesh: &Mesh,
     order: &mut [u32],
     labels: &mut [u32],
     answer: &mut [u32],
@@ -412,10 +362,10 @@ fn make_frames(
     own_numbers: &mut [f32],
     own_frames: &mut [u32],
 ) -> u32
-    requires { (verdict (shown (handed sizes.now positions.now normals.now texture.now) threshold (length answer.old) (length work.old)) ≡ none) × (spec.short (length sizes.now) (spec.lists labels.old order.old own_sizes.old own_numbers.old own_frames.old) ≡ false) }
-    ensures { spec.leaving (record { number = 0; place = 0; slots = result }) answer.new work.new (spec.lists labels.new order.new own_sizes.new own_numbers.new own_frames.new) ≡ spec.taken (call (handed sizes.now positions.now normals.now texture.now) threshold answer.old work.old) (spec.lists labels.old order.old own_sizes.old own_numbers.old own_frames.old) }
+    requires { (verdict (shown (given mesh.now) threshold (length answer.old) (length work.old)) ≡ none) × (spec.short (length mesh.now.sizes.now) (spec.lists labels.old order.old own_sizes.old own_numbers.old own_frames.old) ≡ false) }
+    ensures { spec.leaving (record { number = 0; place = 0; slots = result }) answer.new work.new (spec.lists labels.new order.new own_sizes.new own_numbers.new own_frames.new) ≡ spec.taken (call (given mesh.now) threshold answer.old work.old) (spec.lists labels.old order.old own_sizes.old own_numbers.old own_frames.old) }
 {
-    prepare(sizes, positions, normals, texture, labels, order, work);
+    prepare(mesh, labels, order, work);
     all_islands(
         own_sizes,
         own_numbers,
@@ -423,14 +373,49 @@ fn make_frames(
         answer,
         work,
         order,
-        sizes,
-        positions,
-        normals,
-        texture,
+        mesh,
         threshold,
     );
-    clear_own(sizes.len(), order, own_sizes, own_numbers, own_frames);
-    mesh::slots_before(sizes, definition::FACE_LIMIT) as u32
+    clear_own(mesh.sizes.len(), order, own_sizes, own_numbers, own_frames);
+    mesh::slots_before(mesh.sizes, definition::FACE_LIMIT) as u32
+}
+
+// The desk, the lists of its own, and then the islands: how many slots were written, or why none were.
+fn try_islands(
+    mesh: &Mesh,
+    threshold: f32,
+    answer: &mut [u32],
+    work: &mut [u32],
+    labels: &mut [u32],
+    order: &mut [u32],
+    own_sizes: &mut [u8],
+    own_numbers: &mut [f32],
+    own_frames: &mut [u32],
+) -> Result<u32, Refusal>
+    ensures { spec.leaving (outcome_of result) answer.new work.new (spec.lists labels.new order.new own_sizes.new own_numbers.new own_frames.new) ≡ spec.islands_outcome (call (given mesh.now) threshold answer.old work.old) (spec.lists labels.old order.old own_sizes.old own_numbers.old own_frames.old) }
+{
+    desk::judge(mesh, threshold, answer.len(), work.len())?;
+    if is_short(
+        mesh.sizes.len(),
+        labels.len(),
+        order.len(),
+        own_sizes.len(),
+        own_numbers.len(),
+        own_frames.len(),
+    ) {
+        return Err(Refusal::ShortOwn);
+    }
+    Ok(make_frames(
+        threshold,
+        mesh,
+        order,
+        labels,
+        answer,
+        work,
+        own_sizes,
+        own_numbers,
+        own_frames,
+    ))
 }
 
 // What one call of the base leaves, got one island at a time; the lists of its own are lent: for each face of the mesh 1 entry of `labels`, 4 of `order`, 1 of `own_sizes`, 32 of `own_numbers` and 40 of `own_frames`.
@@ -451,41 +436,21 @@ pub fn frames_by_islands(
 ) -> Outcome
     ensures { spec.Contract (call (handed sizes.now positions.now normals.now texture.now) threshold answer.old work.old) (spec.lists labels.old order.old own_sizes.old own_numbers.old own_frames.old) result answer.new work.new (spec.lists labels.new order.new own_sizes.new own_numbers.new own_frames.new) }
 {
-    let v = desk::judge(
+    let mesh = Mesh {
         sizes,
         positions,
         normals,
         texture,
+    };
+    Outcome::from(try_islands(
+        &mesh,
         threshold,
-        answer.len(),
-        work.len(),
-    );
-    if v.number != 0 {
-        return said(v.number, v.place, 0);
-    }
-    if is_short(
-        sizes.len(),
-        labels.len(),
-        order.len(),
-        own_sizes.len(),
-        own_numbers.len(),
-        own_frames.len(),
-    ) {
-        return said(9, 0, 0);
-    }
-    let slots = make_frames(
-        threshold,
-        sizes,
-        positions,
-        normals,
-        texture,
-        order,
-        labels,
         answer,
         work,
+        labels,
+        order,
         own_sizes,
         own_numbers,
         own_frames,
-    );
-    said(0, 0, slots)
+    ))
 }

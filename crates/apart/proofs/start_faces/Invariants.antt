@@ -20,6 +20,3 @@ pub record Going (sizes w : List ℕ) (c s f : ℕ) (u : List ℕ) : Type 0 wher
 
 abbrev pub invariant-loop-f : goal.invariant-loop-f
 invariant-loop-f l = Going l.sizes l.initial.order l.corners l.slots l.f l.order
-
-abbrev pub decreases-loop-f : goal.decreases-loop-f
-decreases-loop-f l = length l.sizes - l.f
