@@ -2,3 +2,4 @@ pub mod Fronts
 pub mod Deciding
 pub mod Columns
 pub mod Results
+pub mod Accepted

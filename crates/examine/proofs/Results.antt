@@ -9,36 +9,32 @@ use lib.ListN.{length}
 use borrow.Author.Tests.{ltb-false}
 use Rattle.definition.specs.Handed.{Handed}
 use Rattle.definition.specs.Desk.{Row}
-use Rattle.desk.specs.declared.Verdict.{Verdict}
-use Rattle.desk.specs.Verdict.{as_verdict}
+use Rattle.std.specs.Prelude.{Ok, Err}
+use Rattle.desk.specs.declared.Refusal.{Refusal}
+use Rattle.desk.specs.declared.Refusal.TheVariants.{ShortOwn}
+use Rattle.desk.specs.Verdict.{Verdict, as_verdict, told, number_of, place_of}
+use Rattle.desk.proofs.Telling.{number-some}
 use Rattle.examine.specs.declared.Examined.{Examined}
-use Rattle.examine.specs.declared.Owned.{Owned}
-use Rattle.examine.specs.Contract.{refusal, too_short, Decided, Examines, Given, Hands}
+use Rattle.examine.specs.Contract.{refusal, owned_of, too_short, Decided, Examines, HandedOut, Hands}
 
--- the desk's number and place where there is a refusal
-module _ (o : Option Row) (j : Verdict) (e : j ≡ as_verdict o) (x : Row) (s : o ≡ some x) where
-  pub number_is : j.number ≡ x.number
-  unfolding as_verdict
-  number_is = ap (λ (v : Verdict). v.number) (e ∙ ap as_verdict s)
+-- a refusal is the desk's row
+pub told_row : (o : Option Row) (r : Refusal) → told (Err r) ≡ as_verdict o → (x : Row) → o ≡ some x → (number_of r ≡ x.number) × (place_of r ≡ x.place)
+unfolding as_verdict told
+told_row o r e x s = let f = e ∙ ap as_verdict s in (ap (λ (v : Verdict). v.number) f, ap (λ (v : Verdict). v.place) f)
 
-  pub place_is : j.place ≡ x.place
-  unfolding as_verdict
-  place_is = ap (λ (v : Verdict). v.place) (e ∙ ap as_verdict s)
-
--- a number that is not 0 is a refusal's
-pub not_none : (o : Option Row) (j : Verdict) → j ≡ as_verdict o → (j.number ≡ 0 → ⊥) → o ≡ none → ⊥
-unfolding as_verdict
-not_none o j e ne n = ne (ap (λ (v : Verdict). v.number) (e ∙ ap as_verdict n))
+pub told-some : (o : Option Row) (r : Refusal) → told (Err r) ≡ as_verdict o → o ≡ none → ⊥
+unfolding as_verdict told
+told-some o r e n = number-some r (ap (λ (v : Verdict). v.number) (e ∙ ap as_verdict n))
 
 module _ (mesh : Handed) (L G O w : List ℕ) where
   abbrev desk : Option Row
   desk = refusal mesh (length w)
 
-  pub examines-refused : (j : Verdict) (r : Examined) → j ≡ as_verdict desk → (j.number ≡ 0 → ⊥) → r ≡ record { refusal = j.number; objection = 0; place = j.place } → Examines mesh L G O w r w
-  examines-refused j r e ne q =
+  pub examines-refused : (r : Refusal) (y : Examined) → told (Err r) ≡ as_verdict desk → y ≡ record { refusal = number_of r; objection = 0; place = place_of r } → Examines mesh L G O w y w
+  examines-refused r y e q =
       record {
-        refused = λ x s. record { number = ap (λ (y : Examined). y.refusal) q ∙ number_is desk j e x s; none = ap (λ (y : Examined). y.objection) q; place = ap (λ (y : Examined). y.place) q ∙ place_is desk j e x s; work = refl };
-        decided = λ n. absurd (not_none desk j e ne n);
+        refused = λ x s. let f = told_row desk r e x s in record { number = ap (λ (z : Examined). z.refusal) q ∙ f.0; none = ap (λ (z : Examined). z.objection) q; place = ap (λ (z : Examined). z.place) q ∙ f.1; work = refl };
+        decided = λ n. absurd (told-some desk r e n);
       }
 
   pub examines-decided : (r : Examined) (u : List ℕ) → desk ≡ none → Decided mesh L G O w r u → Examines mesh L G O w r u
@@ -46,25 +42,28 @@ module _ (mesh : Handed) (L G O w : List ℕ) where
 
   -- ---- our own lists
 
-  pub hands-refused : (j : Verdict) (r : Owned) → j ≡ as_verdict desk → (j.number ≡ 0 → ⊥) → r ≡ record { number = j.number; place = j.place; sound = 0 } → Hands mesh L G O w r L G O w
-  hands-refused j r e ne q =
+  pub hands-refused : (r : Refusal) → told (Err r) ≡ as_verdict desk → Hands mesh L G O w (owned_of (Err r)) L G O w
+  unfolding owned_of
+  hands-refused r e =
       record {
-        refused = λ x s. record { is = q ∙ (λ i. record { number = number_is desk j e x s i; place = place_is desk j e x s i; sound = 0 }); links = refl; groups = refl; ways = refl; work = refl };
-        short = λ n. absurd (not_none desk j e ne n);
-        given = λ n. absurd (not_none desk j e ne n);
+        refused = λ x s. let f = told_row desk r e x s in record { is = λ i. record { number = f.0 i; place = f.1 i; sound = 0 }; links = refl; groups = refl; ways = refl; work = refl };
+        short = λ n. absurd (told-some desk r e n);
+        given = λ n. absurd (told-some desk r e n);
       }
 
   module _ (b : Bool) (s : b ≡ too_short (length mesh.sizes) (length L) (length G) (length O)) (n : desk ≡ none) where
-    pub hands-short : (r : Owned) → b ≡ true → r ≡ record { number = 9; place = 0; sound = 0 } → Hands mesh L G O w r L G O w
-    hands-short r t q =
+    pub hands-short : b ≡ true → Hands mesh L G O w (owned_of (Err ShortOwn)) L G O w
+    unfolding owned_of number_of place_of
+    hands-short t =
         record {
           refused = λ x f. absurd (none-ne-some x (sym n ∙ f));
-          short = λ _ _. record { is = q; links = refl; groups = refl; ways = refl; work = refl };
+          short = λ _ _. record { is = refl; links = refl; groups = refl; ways = refl; work = refl };
           given = λ _ f. absurd (true≢false (sym t ∙ (s ∙ f)));
         }
 
-    pub hands-given : (r : Owned) (L' G' O' u : List ℕ) → b ≡ false → Given mesh L G O w r L' G' O' u → Hands mesh L G O w r L' G' O' u
-    hands-given r L' G' O' u t g = record { refused = λ x f. absurd (none-ne-some x (sym n ∙ f)); short = λ _ f. absurd (true≢false (sym f ∙ (sym s ∙ t))); given = λ _ _. g }
+    pub hands-given : (k : ℕ) (L' G' O' u : List ℕ) → b ≡ false → HandedOut mesh L G O w k L' G' O' u → Hands mesh L G O w (owned_of (Ok k)) L' G' O' u
+    unfolding owned_of
+    hands-given k L' G' O' u t h = record { refused = λ x f. absurd (none-ne-some x (sym n ∙ f)); short = λ _ f. absurd (true≢false (sym f ∙ (sym s ∙ t))); given = λ _ _. record { number = refl; place = refl; handed = h } }
 
 -- lists that are long enough
 pub long-enough : (f l g o : ℕ) → too_short f l g o ≡ false → (6 * f ≤ l) × (6 * f ≤ g) × (2 * f ≤ o)

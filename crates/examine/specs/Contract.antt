@@ -1,5 +1,5 @@
 -- What the two calls of request E10 promise, for every input whatever: face sizes, positions ps, normals ns, texture coordinates ts; links L, groups G, orientations O; the work list w. Definitions only.
-use Rattle.std.specs.Prelude.{ℕ, ◌*◌, ◌≡◌, Bool, true, false, ◌||◌, List, ◌++◌, ltb, length, drop, replicate}
+use Rattle.std.specs.Prelude.{ℕ, ◌*◌, ◌≡◌, Bool, true, false, ◌||◌, List, ◌++◌, ltb, length, drop, replicate, Result, Ok, Err}
 use Rattle.std.proofs.Math.Option.{Option, none, some}
 use Rattle.std.proofs.lemmas.List.Edits.{sets}
 use Rattle.table.specs.Table.{cell}
@@ -12,6 +12,8 @@ use Rattle.definition.specs.Desk.{Row}
 use Rattle.definition.specs.Frames.{triangles_of}
 use Rattle.definition.specs.Step4Order.{sound}
 use Rattle.mikktspace.specs.Alone.{desk_verdict}
+use Rattle.desk.specs.declared.Refusal.{Refusal}
+use Rattle.desk.specs.Verdict.{number_of, place_of}
 use Rattle.grouped.specs.declared.MeshCounts.{MeshCounts}
 use Rattle.grouped.specs.Grouped.{LeftBySix}
 use Rattle.asked.specs.Groups.{Connected}
@@ -60,6 +62,11 @@ pub record Examines (mesh : Handed) (L G O w : List ℕ) (r : Examined) (u : Lis
 -- 9: a list of links or groups has less than six words a face, or one of orientations less than two
 unfoldable pub too_short : ℕ → ℕ → ℕ → ℕ → Bool
 too_short faces links groups orientations = ltb links (6 * faces) || ltb groups (6 * faces) || ltb orientations (2 * faces)
+
+-- how many triangles are sound, or why nothing was handed out, as the call returns it
+unfoldable pub owned_of : Result ℕ Refusal → Owned
+owned_of (Ok n) = record { number = 0; place = 0; sound = n }
+owned_of (Err r) = record { number = number_of r; place = place_of r; sound = 0 }
 
 -- the words of a column at the rows below n, at the front of a list
 abbrev pub front : ℕ → ℕ → ℕ → List ℕ → List ℕ → List ℕ
