@@ -2,7 +2,7 @@
 use Prim.Native.Nat.{ℕ, ◌*◌, ◌≤◌, min}
 use native.Mathlib.Nat.{one-mul}
 use native.Mathlib.Omega.{arith}
-use mathlib.Core.Path.{◌≡◌, refl, sym, ◌∙◌, ap, subst}
+use mathlib.Core.Path.{◌≡◌, sym, ◌∙◌, ap, subst}
 use mathlib.Core.Bool.{Bool, true, false, ◌||◌}
 use mathlib.Core.List.{List, ◌++◌}
 use mathlib.Core.Option.{Option, none, some}
@@ -109,7 +109,7 @@ module _ (mesh : Handed) (h : Float) (a w : List ℕ) (o : Own) (room : slot_wor
 
 -- a refusal of the table
 refused-by : (v : Option Row) (r : Refusal) (b : Bool) (z : Result) (y o : Own) (a w : List ℕ) → told (Err r) ≡ as_verdict v → leaving (outcome_of (Err r)) a w o ≡ record { result = answered (afterwards v b) z a w; own = own_left (afterwards v b) y o }
-unfolding told leaving left as_verdict afterwards answered own_left outcome_of
+unfolding leaving left told as_verdict afterwards answered own_left outcome_of
 refused-by none r b z y o a w e = absurd (number-some r (ap (λ x. x.number) e))
 refused-by (some x) r b z y o a w e = λ i. record { result = record { number = (e i).number; place = (e i).place; slots = 0; answer = a; work = w }; own = o }
 

@@ -15,15 +15,14 @@ ghost use Rattle.definition.specs.Frames.{frames};
 ghost use Rattle.definition.specs.Outcome.{answer_words};
 ghost use Rattle.islands.specs.Islands.{island_of};
 ghost use Rattle.islands.specs.Rows.{labelled};
-ghost use Rattle.apart.specs.Lists.{Past, Copied, cleared};
+ghost use Rattle.apart.specs.Lists.{Past, Copies, cleared};
 ghost use Rattle.apart.specs.Order as chain;
 ghost use Rattle.apart.specs.Gather as gather;
 ghost use Rattle.apart.specs.Scatter as scatter;
-ghost use Rattle.mesh.specs.Parts.{Fits};
+ghost use Rattle.mesh.specs.Parts.{Fits, given};
+ghost use Rattle.mikktspace.specs.Contract.{outcome_of};
 ghost use Rattle.apart.specs.Steps as step;
 ghost use Rattle.apart.specs.Call as spec;
-ghost use Rattle.mesh.specs.Parts.{given};
-ghost use Rattle.mikktspace.specs.Contract.{outcome_of};
 
 use desk::Refusal;
 use mesh::Mesh;
@@ -34,42 +33,14 @@ const NUMBER_ENTRIES: usize = 32;
 
 const FRAME_ENTRIES: usize = 4 * tangent::SLOT_WORDS;
 
-// ---- copying and clearing
+// ---- copying
 
-// Numbers copied from one list into another.
-fn copy(xs: &[f32], at: usize, ys: &mut [f32], start: usize, count: usize)
+// Entries copied from one list into another.
+fn copy<T: Copy>(xs: &[T], at: usize, ys: &mut [T], start: usize, count: usize)
     requires { (at + count ≤ length xs.now) × (start + count ≤ length ys.old) }
-    ensures { Copied nan xs.now ys.old ys.new at start count }
+    ensures { Copies xs.now ys.old ys.new at start count }
 {
-    for j in 0..count {
-        ys[start + j] = xs[at + j];
-    }
-}
-
-// The same of words.
-fn copy_words(xs: &[u32], at: usize, ys: &mut [u32], start: usize, count: usize)
-    requires { (at + count ≤ length xs.now) × (start + count ≤ length ys.old) }
-    ensures { Copied 0 xs.now ys.old ys.new at start count }
-{
-    for j in 0..count {
-        ys[start + j] = xs[at + j];
-    }
-}
-
-// The first numbers of a list, zeros.
-fn clear_numbers(xs: &mut [f32], count: usize)
-    requires { count ≤ length xs.old }
-    ensures { xs.new ≡ cleared zeroᶠ count xs.old }
-{
-    xs[..count].fill(0.0);
-}
-
-// The first sizes of a list, zeros.
-fn clear_sizes(xs: &mut [u8], count: usize)
-    requires { count ≤ length xs.old }
-    ensures { xs.new ≡ cleared 0 count xs.old }
-{
-    xs[..count].fill(0);
+    ys[start..start + count].copy_from_slice(&xs[at..at + count]);
 }
 
 // ---- the order of the faces
@@ -118,9 +89,7 @@ fn start_faces(sizes: &[u8], order: &mut [u32])
 
 // One face, as number k of its island, after c corners: its size, and the numbers of its corners, which start at number base.
 fn gather_face(
-    positions: &[f32],
-    normals: &[f32],
-    texture: &[f32],
+    mesh: &Mesh,
     base: usize,
     size: u8,
     own_sizes: &mut [u8],
@@ -129,14 +98,14 @@ fn gather_face(
     k: usize,
     c: usize,
 )
-    requires { (3 * base + 3 * size ≤ length positions.now) × (3 * base + 3 * size ≤ length normals.now) × (2 * base + 2 * size ≤ length texture.now) × (k < length own_sizes.old) × (c + size ≤ 4 * n) × (spec.number_entries * n ≤ length own_numbers.old) }
-    ensures { (own_sizes.new ≡ set own_sizes.old k size) × gather.Laid positions.now normals.now texture.now n base c size own_numbers.old own_numbers.new }
+    requires { (3 * base + 3 * size ≤ length mesh.now.positions.now) × (3 * base + 3 * size ≤ length mesh.now.normals.now) × (2 * base + 2 * size ≤ length mesh.now.texture.now) × (k < length own_sizes.old) × (c + size ≤ 4 * n) × (spec.number_entries * n ≤ length own_numbers.old) }
+    ensures { (own_sizes.new ≡ set own_sizes.old k size) × gather.Laid mesh.now.positions.now mesh.now.normals.now mesh.now.texture.now n base c size own_numbers.old own_numbers.new }
 {
     let z = size as usize;
     own_sizes[k] = size;
-    copy(positions, 3 * base, own_numbers, 3 * c, 3 * z);
-    copy(normals, 3 * base, own_numbers, 12 * n + 3 * c, 3 * z);
-    copy(texture, 2 * base, own_numbers, 24 * n + 2 * c, 2 * z);
+    copy(mesh.positions, 3 * base, own_numbers, 3 * c, 3 * z);
+    copy(mesh.normals, 3 * base, own_numbers, 12 * n + 3 * c, 3 * z);
+    copy(mesh.texture, 2 * base, own_numbers, 24 * n + 2 * c, 2 * z);
 }
 
 // How many faces of an island are gathered, and how many corners they have.
@@ -166,18 +135,7 @@ fn gather(
         f = next as usize;
         let size = mesh.sizes[f - 1];
         let base = order[2 * n + (f - 1)] as usize;
-        gather_face(
-            mesh.positions,
-            mesh.normals,
-            mesh.texture,
-            base,
-            size,
-            own_sizes,
-            own_numbers,
-            n,
-            k,
-            c,
-        );
+        gather_face(mesh, base, size, own_sizes, own_numbers, n, k, c);
         k += 1;
         c += size as usize;
         next = order[f - 1];
@@ -231,7 +189,7 @@ fn scatter(sizes: &[u8], order: &[u32], t: usize, own_frames: &[u32], answer: &m
         f = next as usize;
         let z = sizes[f - 1] as usize;
         let to = order[3 * n + (f - 1)] as usize;
-        copy_words(
+        copy(
             own_frames,
             tangent::SLOT_WORDS * c,
             answer,
@@ -247,10 +205,10 @@ fn scatter(sizes: &[u8], order: &[u32], t: usize, own_frames: &[u32], answer: &m
 
 // Island t, where there is one: its faces gathered, the base, its frames in their places.
 fn one_island(
+    mesh: &Mesh,
     threshold: f32,
     order: &[u32],
     t: usize,
-    mesh: &Mesh,
     answer: &mut [u32],
     work: &mut [u32],
     own_sizes: &mut [u8],
@@ -273,13 +231,13 @@ fn one_island(
 
 // Each of them.
 fn all_islands(
+    mesh: &Mesh,
     own_sizes: &mut [u8],
     own_numbers: &mut [f32],
     own_frames: &mut [u32],
     answer: &mut [u32],
     work: &mut [u32],
     order: &[u32],
-    mesh: &Mesh,
     threshold: f32,
 )
     requires { step.Ready (given mesh.now) order.now × step.Good (given mesh.now) threshold × step.Room mesh.now.sizes.now answer.old work.old own_sizes.old own_numbers.old own_frames.old }
@@ -287,10 +245,10 @@ fn all_islands(
 {
     for t in 0..mesh.sizes.len() {
         one_island(
+            mesh,
             threshold,
             order,
             t,
-            mesh,
             answer,
             work,
             own_sizes,
@@ -325,13 +283,14 @@ fn clear_own(
     requires { (n ≤ face_limit) × (4 * n ≤ length order.old) × (n ≤ length own_sizes.old) × (spec.number_entries * n ≤ length own_numbers.old) × (spec.frame_entries * n ≤ length own_frames.old) }
     ensures { (order.new ≡ cleared 0 (4 * n) order.old) × (own_sizes.new ≡ cleared 0 n own_sizes.old) × (own_numbers.new ≡ cleared zeroᶠ (spec.number_entries * n) own_numbers.old) × (own_frames.new ≡ cleared 0 (spec.frame_entries * n) own_frames.old) }
 {
-    table::clear_first(order, 4 * n);
-    clear_sizes(own_sizes, n);
-    clear_numbers(own_numbers, NUMBER_ENTRIES * n);
-    table::clear_first(own_frames, FRAME_ENTRIES * n);
+    order[..4 * n].fill(0);
+    own_sizes[..n].fill(0);
+    own_numbers[..NUMBER_ENTRIES * n].fill(0.0);
+    own_frames[..FRAME_ENTRIES * n].fill(0);
 }
 
 // Whether a list of its own is too short for n faces.
+#[tactic(auto, unfolding(crate::specs::Call::too_short))]
 fn is_short(
     n: usize,
     labels: usize,
@@ -343,17 +302,17 @@ fn is_short(
     requires { n ≤ face_limit }
     ensures { result ≡ spec.too_short n labels order own_sizes own_numbers own_frames }
 {
-    (labels < n)
-        | (order < 4 * n)
-        | (own_sizes < n)
-        | (own_numbers < NUMBER_ENTRIES * n)
-        | (own_frames < FRAME_ENTRIES * n)
+    labels < n
+        || order < 4 * n
+        || own_sizes < n
+        || own_numbers < NUMBER_ENTRIES * n
+        || own_frames < FRAME_ENTRIES * n
 }
 
 // The frames of a mesh that the desk accepts, island by island; the result is how many slots there are.
 fn make_frames(
-    threshold: f32,
     mesh: &Mesh,
+    threshold: f32,
     order: &mut [u32],
     labels: &mut [u32],
     answer: &mut [u32],
@@ -367,13 +326,13 @@ fn make_frames(
 {
     prepare(mesh, labels, order, work);
     all_islands(
+        mesh,
         own_sizes,
         own_numbers,
         own_frames,
         answer,
         work,
         order,
-        mesh,
         threshold,
     );
     clear_own(mesh.sizes.len(), order, own_sizes, own_numbers, own_frames);
@@ -392,22 +351,23 @@ fn try_islands(
     own_numbers: &mut [f32],
     own_frames: &mut [u32],
 ) -> Result<u32, Refusal>
-    ensures { spec.leaving (outcome_of result) answer.new work.new (spec.lists labels.new order.new own_sizes.new own_numbers.new own_frames.new) ≡ spec.islands_outcome (call (given mesh.now) threshold answer.old work.old) (spec.lists labels.old order.old own_sizes.old own_numbers.old own_frames.old) }
+    ensures { spec.Contract (call (given mesh.now) threshold answer.old work.old) (spec.lists labels.old order.old own_sizes.old own_numbers.old own_frames.old) (outcome_of result) answer.new work.new (spec.lists labels.new order.new own_sizes.new own_numbers.new own_frames.new) }
 {
     desk::judge(mesh, threshold, answer.len(), work.len())?;
-    if is_short(
+    let short = is_short(
         mesh.sizes.len(),
         labels.len(),
         order.len(),
         own_sizes.len(),
         own_numbers.len(),
         own_frames.len(),
-    ) {
+    );
+    if short {
         return Err(Refusal::ShortOwn);
     }
     Ok(make_frames(
-        threshold,
         mesh,
+        threshold,
         order,
         labels,
         answer,

@@ -1,7 +1,5 @@
 -- Proof that `gather` meets its contract. The invariant: the faces of the island below f are gathered. Assumes nothing.
-use Prim.Native.Nat.{◌+◌, ◌*◌, ◌-◌}
 use native.Mathlib.Omega.{arith}
-use lib.ListN.{length}
 use Rattle.apart.proofs.Turns.{going-none, gathered-all, safe, going_more}
 use Rattle.apart.proofs.gather.Goals as goal
 
@@ -34,9 +32,6 @@ offset_bounds-order-n-in-loop-next c = let k = safe _ _ c.requires.1 _ c.require
 
 pub bounds-order-n-in-loop-next : goal.bounds-order-n-in-loop-next
 bounds-order-n-in-loop-next c = let k = safe _ _ c.requires.1 _ c.requires.0 _ _ c.requires.2 _ _ _ _ _ _ c.loop-next.invariant c.loop-next-test.true in omega (arith, k.below, k.is, c.requires.1.long)
-
-pub overflow_cast-base : goal.overflow_cast-base
-overflow_cast-base c = omega (arith, c.type_inv.order (2 * length c.args.mesh.now.sizes.now + (c.loop-next.next - 1)))
 
 pub gather_face-requires : goal.gather_face-requires
 gather_face-requires c = let k = safe _ _ c.requires.1 _ c.requires.0 _ _ c.requires.2 _ _ _ _ _ _ c.loop-next.invariant c.loop-next-test.true in (k.positions, k.normals, k.texture, k.faces, k.corners, omega (arith, c.requires.3, c.loop-next.invariant.numbers.size))

@@ -1,10 +1,8 @@
--- Proof that `try_islands` meets its contract: what the desk says, 9, and else the islands. Assumes nothing.
+-- `apart::try_islands` meets its contract: what the desk says, a list of its own that is too short, and else the islands. Assumes nothing.
 use mathlib.Core.Path.{sym, ◌∙◌}
-use lib.ListN.{length}
 use Rattle.std.proofs.lemmas.Result.{err_from_is_err_and}
-use Rattle.mesh.specs.Parts.{given}
-use Rattle.definition.specs.Desk.{shown}
 use Rattle.laws.proofs.Verdict.{fine}
+use Rattle.mesh.specs.Parts.{given}
 use Rattle.mikktspace.specs.Contract.{outcome_of}
 use Rattle.mikktspace.proofs.Verdicts.{no-refusal}
 use Rattle.apart.specs.Call.{lists, short}
@@ -14,47 +12,24 @@ use Rattle.apart.proofs.try_islands.Goals as goal
 pub returns-in_err-judge : goal.returns-in_err-judge
 returns-in_err-judge c =
     let a = c.args in
-    let m = given a.mesh.now in
-    let o = lists a.labels.now a.order.now a.own_sizes.now a.own_numbers.now a.own_frames.now in
-    let x = shown m a.threshold (length a.answer.now) (length a.work.now) in
     let p = err_from_is_err_and c.from_residual.result c.from_residual.ensures.1 in
-    rw (p.1, p.2) (table-leaves m a.threshold a.answer.now a.work.now o _ c.in_err-judge.ensures)
+    rw (p.1, p.2) (table-leaves (given a.mesh.now) a.threshold a.answer.now a.work.now (lists a.labels.now a.order.now a.own_sizes.now a.own_numbers.now a.own_frames.now) _ c.in_err-judge.ensures)
 
-pub is_short-requires : goal.is_short-requires
-is_short-requires c =
-    let a = c.args in
-    let m = given a.mesh.now in
-    let o = lists a.labels.now a.order.now a.own_sizes.now a.own_numbers.now a.own_frames.now in
-    let x = shown m a.threshold (length a.answer.now) (length a.work.now) in
-    let no = no-refusal x c.in_ok-judge.ensures in
-    (fine x no).few
+pub is_short-short-requires : goal.is_short-short-requires
+is_short-short-requires c = (fine _ (no-refusal _ c.in_ok-judge.ensures)).few
 
-pub returns-then-is_short : goal.returns-then-is_short
+pub returns-then-short : goal.returns-then-short
 unfolding short
-returns-then-is_short c =
+returns-then-short c =
     let a = c.args in
-    let m = given a.mesh.now in
-    let o = lists a.labels.now a.order.now a.own_sizes.now a.own_numbers.now a.own_frames.now in
-    let x = shown m a.threshold (length a.answer.now) (length a.work.now) in
-    let no = no-refusal x c.in_ok-judge.ensures in
-    nine-leaves m a.threshold a.answer.now a.work.now o no (sym c.is_short.ensures ∙ c.if-is_short.true)
+    nine-leaves (given a.mesh.now) a.threshold a.answer.now a.work.now (lists a.labels.now a.order.now a.own_sizes.now a.own_numbers.now a.own_frames.now) (no-refusal _ c.in_ok-judge.ensures) (sym c.is_short-short.ensures ∙ c.if-short.true)
 
 pub make_frames-requires : goal.make_frames-requires
 unfolding short
-make_frames-requires c =
-    let a = c.args in
-    let m = given a.mesh.now in
-    let o = lists a.labels.now a.order.now a.own_sizes.now a.own_numbers.now a.own_frames.now in
-    let x = shown m a.threshold (length a.answer.now) (length a.work.now) in
-    let no = no-refusal x c.in_ok-judge.ensures in
-    (no, sym c.is_short.ensures ∙ c.if-is_short.false)
+make_frames-requires c = (no-refusal _ c.in_ok-judge.ensures, sym c.is_short-short.ensures ∙ c.if-short.false)
 
 pub returns : goal.returns
 unfolding short outcome_of
 returns c =
     let a = c.args in
-    let m = given a.mesh.now in
-    let o = lists a.labels.now a.order.now a.own_sizes.now a.own_numbers.now a.own_frames.now in
-    let x = shown m a.threshold (length a.answer.now) (length a.work.now) in
-    let no = no-refusal x c.in_ok-judge.ensures in
-    c.make_frames.ensures ∙ taken-leaves m a.threshold a.answer.now a.work.now o no (sym c.is_short.ensures ∙ c.if-is_short.false)
+    c.make_frames.ensures ∙ taken-leaves (given a.mesh.now) a.threshold a.answer.now a.work.now (lists a.labels.now a.order.now a.own_sizes.now a.own_numbers.now a.own_frames.now) (no-refusal _ c.in_ok-judge.ensures) (sym c.is_short-short.ensures ∙ c.if-short.false)
