@@ -20,7 +20,7 @@ import sys
 
 ROOT = pathlib.Path(__file__).resolve().parent.parent
 PAPERS = ["README.md", "crates/README.md", "bench/README.md", "side_by_side/README.md"]
-PAST = {"docs/LANDINGS.md", "docs/PORT.md"}
+PAST = {"docs/LANDINGS.md", "docs/PORT.md", "docs/DESIGN-PASS.md"}
 # below which a paper's short paths stand
 BELOW = {"docs/PROMISES.md": ["crates/promises"], "docs/EXAMINER.md": ["crates/promises/specs"]}
 # what papers name and the tree has not: a function of the crate, words of the kit, a form of a line, a program that is gone, what rt makes
