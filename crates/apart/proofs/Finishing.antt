@@ -2,7 +2,7 @@
 use Prim.Native.Nat.{ℕ, ◌*◌, ◌≤◌, min}
 use native.Mathlib.Nat.{one-mul}
 use native.Mathlib.Omega.{arith}
-use mathlib.Core.Path.{◌≡◌, refl, sym, ◌∙◌, ap, subst}
+use mathlib.Core.Path.{◌≡◌, sym, ◌∙◌, ap, subst}
 use mathlib.Core.Bool.{Bool, true, false, ◌||◌}
 use mathlib.Core.List.{List, ◌++◌}
 use mathlib.Core.Option.{Option, none, some}
@@ -17,9 +17,12 @@ use Rattle.definition.specs.Limits.{face_limit, work_words}
 use Rattle.definition.specs.Handed.{call, mesh_of, Handed, slot_count}
 use Rattle.definition.specs.Desk.{shown, Row, verdict}
 use Rattle.definition.specs.Outcome.{Result, answer_words, answered}
-use Rattle.desk.specs.Verdict.{as_verdict}
-use Rattle.mikktspace.specs.declared.Outcome.{Outcome}
-use Rattle.mikktspace.specs.Contract.{left}
+use Rattle.std.specs.Prelude.{Err}
+use Rattle.desk.specs.declared.Refusal.{Refusal}
+use Rattle.desk.specs.declared.Refusal.TheVariants.{ShortOwn}
+use Rattle.desk.specs.Verdict.{as_verdict, told, number_of, place_of}
+use Rattle.desk.proofs.Telling.{number-some}
+use Rattle.mikktspace.specs.Contract.{left, outcome_of}
 use Rattle.mikktspace.proofs.Verdicts.{all_slots}
 use Rattle.islands.specs.Rows.{labelled}
 use Rattle.islands.proofs.Together.{together-is}
@@ -104,26 +107,23 @@ module _ (mesh : Handed) (h : Float) (a w : List ℕ) (o : Own) (room : slot_wor
 
 -- ---- the call
 
-pub leaving-same : (r s : Outcome) (a w : List ℕ) (o : Own) → r ≡ s → leaving r a w o ≡ leaving s a w o
-leaving-same r s a w o e = ap (λ x. leaving x a w o) e
-
 -- a refusal of the table
-refused-by : (v : Option Row) (b : Bool) (z : Result) (y o : Own) (a w : List ℕ) → ((as_verdict v).number ≡ 0 → ⊥) → leaving (record { number = (as_verdict v).number; place = (as_verdict v).place; slots = 0 }) a w o ≡ record { result = answered (afterwards v b) z a w; own = own_left (afterwards v b) y o }
-unfolding leaving left as_verdict afterwards answered own_left
-refused-by none b z y o a w e = absurd (e refl)
-refused-by (some r) b z y o a w e = refl
+refused-by : (v : Option Row) (r : Refusal) (b : Bool) (z : Result) (y o : Own) (a w : List ℕ) → told (Err r) ≡ as_verdict v → leaving (outcome_of (Err r)) a w o ≡ record { result = answered (afterwards v b) z a w; own = own_left (afterwards v b) y o }
+unfolding leaving left told as_verdict afterwards answered own_left outcome_of
+refused-by none r b z y o a w e = absurd (number-some r (ap (λ x. x.number) e))
+refused-by (some x) r b z y o a w e = λ i. record { result = record { number = (e i).number; place = (e i).place; slots = 0; answer = a; work = w }; own = o }
 
 module _ (mesh : Handed) (h : Float) (a w : List ℕ) (o : Own) where
   abbrev v : Option Row
   v = verdict (shown mesh h (length a) (length w))
 
-  pub table-leaves : (r : Outcome) → r ≡ record { number = (as_verdict v).number; place = (as_verdict v).place; slots = 0 } → ((as_verdict v).number ≡ 0 → ⊥) → leaving r a w o ≡ islands_outcome (call mesh h a w) o
+  pub table-leaves : (r : Refusal) → told (Err r) ≡ as_verdict v → leaving (outcome_of (Err r)) a w o ≡ islands_outcome (call mesh h a w) o
   unfolding islands_outcome verdict_of
-  table-leaves r e k = ap (λ x. leaving x a w o) e ∙ refused-by v (short (length mesh.sizes) o) (accepted_of (call mesh h a w)) (own_after mesh o) o a w k
+  table-leaves r e = refused-by v r (short (length mesh.sizes) o) (accepted_of (call mesh h a w)) (own_after mesh o) o a w e
 
-  pub nine-leaves : (r : Outcome) → r ≡ record { number = 9; place = 0; slots = 0 } → v ≡ none → short (length mesh.sizes) o ≡ true → leaving r a w o ≡ islands_outcome (call mesh h a w) o
-  unfolding afterwards leaving left answered own_left
-  nine-leaves r e k s = ap (λ x. leaving x a w o) e ∙ sym (outcome-by mesh h a w o none true k s)
+  pub nine-leaves : v ≡ none → short (length mesh.sizes) o ≡ true → leaving (outcome_of (Err ShortOwn)) a w o ≡ islands_outcome (call mesh h a w) o
+  unfolding afterwards leaving left answered own_left outcome_of number_of place_of
+  nine-leaves k s = sym (outcome-by mesh h a w o none true k s)
 
   pub taken-leaves : v ≡ none → short (length mesh.sizes) o ≡ false → taken (call mesh h a w) o ≡ islands_outcome (call mesh h a w) o
   unfolding afterwards taken answered own_left

@@ -3,11 +3,14 @@ use Prim.Native.Nat.{ℕ, ◌+◌, ◌-◌, ◌≤◌, ◌<◌}
 use native.Mathlib.Decide.{dec_lt}
 use native.Mathlib.Nat.{add-sub_of_le}
 use native.Mathlib.Omega.{arith}
-use mathlib.Core.Path.{◌≡◌, refl, sym, ◌∙◌, ap}
+use mathlib.Core.Path.{◌≡◌, refl, sym, ◌∙◌, ap, subst}
+use borrow.Rule.Slice.PartMut.{put_mid}
+use Rattle.std.proofs.lemmas.Slice.{put_mid-paste}
+use Rattle.std.proofs.lemmas.List.{get_or-take, get_or_append_left, get_or-append_right}
+use Rattle.std.proofs.lemmas.List.Edits.{paste_all}
 use mathlib.Core.List.{List, ◌++◌}
-use lib.ListN.{length, get_or, set, drop, replicate, length-set, length-append, length-drop, length-replicate, get_or-replicate, get_or-append}
-use lib.Seq.{ext_get_or, get_or-set_same, get_or-set_other, get_or-append-add, get_or-drop}
-use Rattle.unions.proofs.Stores.{either}
+use lib.ListN.{length, get_or, set, take, drop, replicate, length-set, length-append, length-drop, length-replicate, get_or-replicate, get_or-append}
+use lib.Seq.{ext_get_or, get_or-set_other, get_or-append-add, get_or-drop, length-take-le}
 use Rattle.apart.specs.Lists.{Past, Copied, cleared}
 
 module _ {X : Type 0} (d : X) where
@@ -27,18 +30,29 @@ module _ {X : Type 0} (d : X) where
 
   -- ---- copying
 
-  pub copied_none : (xs ys : List X) (at start : ℕ) → Copied d xs ys ys at start 0
-  copied_none xs ys at start = record { size = refl; new = λ j h. absurd (omega arith); old = λ j h. refl; rest = λ j h. refl }
+  -- a part that is written whole, by a part of another list
+  pub copied_part : (xs ys ws : List X) (at start count k m : ℕ) → k ≡ count → m ≡ count → at + count ≤ length xs → start + count ≤ length ys → ws ≡ take m (drop at xs) → Copied d xs ys (put_mid start k ys ws) at start count
+  copied_part xs ys ws at start count k m ek em h f e = subst (λ l. Copied d xs ys l at start count) (sym whole) (record {
+    size = length-append (take start ys) (zs ++ end) ∙ omega (arith, length-append zs end, front, long, length-drop (start + count) ys);
+    new = λ j g. get_or-append_right (take start ys) (zs ++ end) start (start + j) d front (omega arith) ∙ get_or_append_left zs end d _ (omega (arith, long)) ∙ get_or-take count (drop at xs) _ d (omega arith) ∙ get_or-drop at xs _ d ∙ ap (λ i. get_or xs i d) (omega arith);
+    old = λ j g. get_or_append_left (take start ys) (zs ++ end) d j (omega (arith, front)) ∙ get_or-take start ys j d g;
+    rest = λ j g. get_or-append_right (take start ys) (zs ++ end) start j d front (omega arith) ∙ get_or-append_right zs end count _ d long (omega arith) ∙ get_or-drop (start + count) ys _ d ∙ ap (λ i. get_or ys i d) (omega arith);
+  })
+    where
+      zs : List X
+      zs = take count (drop at xs)
 
-  pub copied_more : (xs ys zs : List X) (at start n : ℕ) → start + n < length ys → Copied d xs ys zs at start n → Copied d xs ys (set zs (start + n) (get_or xs (at + n) d)) at start (n + 1)
-  copied_more xs ys zs at start n h c = record {
-    size = length-set zs (start + n) (get_or xs (at + n) d) ∙ c.size;
-    new = λ j k. either j n
-        (λ e. ap (λ i. get_or (set zs (start + n) (get_or xs (at + n) d)) (start + i) d) e ∙ get_or-set_same zs (start + n) (get_or xs (at + n) d) d (omega (arith, c.size)) ∙ ap (λ i. get_or xs (at + i) d) (sym e))
-        (λ e. get_or-set_other zs (start + n) (start + j) (get_or xs (at + n) d) d (λ i. e (omega arith)) ∙ c.new j (omega (arith, e)));
-    old = λ j k. get_or-set_other zs (start + n) j (get_or xs (at + n) d) d (λ i. omega arith) ∙ c.old j k;
-    rest = λ j k. get_or-set_other zs (start + n) j (get_or xs (at + n) d) d (λ i. omega arith) ∙ c.rest j (omega arith);
-  }
+      end : List X
+      end = drop (start + count) ys
+
+      front : length (take start ys) ≡ start
+      front = length-take-le start ys (omega arith)
+
+      long : length zs ≡ count
+      long = length-take-le count (drop at xs) (omega (arith, length-drop at xs))
+
+      whole : put_mid start k ys ws ≡ take start ys ++ (zs ++ end)
+      whole = put_mid-paste start k ys ws zs count (e ∙ ap (λ i. take i (drop at xs)) em) (sym ek) (sym long) ∙ paste_all ys start zs count (sym long)
 
   -- ---- another front
 
@@ -73,16 +87,6 @@ module _ {X : Type 0} (d : X) where
 
     pub cleared-is : n ≤ length u → (v : List X) → Past d n u v → ((x : ℕ) → x < n → get_or v x d ≡ z) → v ≡ cleared z n u
     cleared-is room v p low = front-is (replicate n z) n (length-replicate n z) u room v p (λ x h. low x h ∙ sym (get_or-replicate n x z d h))
-
-  -- one zero more
-  pub cleared_more : (z : X) (n : ℕ) (u : List X) → n < length u → set (cleared z n u) n z ≡ cleared z (n + 1) u
-  cleared_more z n u h =
-      let p = cleared-past z n u (omega arith) in
-      cleared-is z (n + 1) u (omega arith) (set (cleared z n u) n z)
-      (past-trans (n + 1) u (cleared z n u) (set (cleared z n u) n z) (past_more n (n + 1) u (cleared z n u) (omega arith) p) (past-set (n + 1) (cleared z n u) n z (omega arith)))
-      (λ x k. either x n
-      (λ e. ap (λ i. get_or (set (cleared z n u) n z) i d) e ∙ get_or-set_same (cleared z n u) n z d (omega (arith, p.size)))
-      (λ e. get_or-set_other (cleared z n u) n x z d e ∙ cleared-low z n u x (omega (arith, e))))
 
   -- what stood in the first n entries does not matter
   pub cleared-same : (z : X) (n : ℕ) (u v : List X) → n ≤ length u → Past d n u v → cleared z n v ≡ cleared z n u

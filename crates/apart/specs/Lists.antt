@@ -13,6 +13,10 @@ pub record Copied {X : Type 0} (d : X) (xs ys zs : List X) (at start count : ℕ
   pub old : (j : ℕ) → j < start → get_or zs j d ≡ get_or ys j d
   pub rest : (j : ℕ) → start + count ≤ j → get_or zs j d ≡ get_or ys j d
 
+-- the same, whatever stands for an entry past the end
+abbrev pub Copies : {X : Type 0} → List X → List X → List X → ℕ → ℕ → ℕ → Type 0
+Copies {X} xs ys zs at start count = (d : X) → Copied d xs ys zs at start count
+
 -- zeros in the first n entries
 abbrev pub cleared : {X : Type 0} → X → ℕ → List X → List X
 cleared z n l = replicate n z ++ drop n l

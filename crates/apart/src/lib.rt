@@ -15,14 +15,17 @@ ghost use Rattle.definition.specs.Frames.{frames};
 ghost use Rattle.definition.specs.Outcome.{answer_words};
 ghost use Rattle.islands.specs.Islands.{island_of};
 ghost use Rattle.islands.specs.Rows.{labelled};
-ghost use Rattle.apart.specs.Lists.{Past, Copied, cleared};
+ghost use Rattle.apart.specs.Lists.{Past, Copies, cleared};
 ghost use Rattle.apart.specs.Order as chain;
 ghost use Rattle.apart.specs.Gather as gather;
 ghost use Rattle.apart.specs.Scatter as scatter;
-ghost use Rattle.mesh.specs.Parts.{Fits};
+ghost use Rattle.mesh.specs.Parts.{Fits, given};
+ghost use Rattle.mikktspace.specs.Contract.{outcome_of};
 ghost use Rattle.apart.specs.Steps as step;
 ghost use Rattle.apart.specs.Call as spec;
 
+use desk::Refusal;
+use mesh::Mesh;
 use mikktspace::Outcome;
 
 // The numbers and the frames' words that are lent for each face: 8 numbers for each of four corners, a slot for each.
@@ -30,48 +33,14 @@ const NUMBER_ENTRIES: usize = 32;
 
 const FRAME_ENTRIES: usize = 4 * tangent::SLOT_WORDS;
 
-// ---- copying and clearing
+// ---- copying
 
-// Numbers copied from one list into another.
-fn copy(xs: &[f32], at: usize, ys: &mut [f32], start: usize, count: usize)
+// Entries copied from one list into another.
+fn copy<T: Copy>(xs: &[T], at: usize, ys: &mut [T], start: usize, count: usize)
     requires { (at + count ≤ length xs.now) × (start + count ≤ length ys.old) }
-    ensures { Copied nan xs.now ys.old ys.new at start count }
+    ensures { Copies xs.now ys.old ys.new at start count }
 {
-    for j in 0..count {
-        ys[start + j] = xs[at + j];
-    }
-}
-
-// The same of words.
-fn copy_words(xs: &[u32], at: usize, ys: &mut [u32], start: usize, count: usize)
-    requires { (at + count ≤ length xs.now) × (start + count ≤ length ys.old) }
-    ensures { Copied 0 xs.now ys.old ys.new at start count }
-{
-    for j in 0..count {
-        ys[start + j] = xs[at + j];
-    }
-}
-
-// The first numbers of a list, zeros.
-fn clear_numbers(xs: &mut [f32], count: usize)
-    requires { count ≤ length xs.old }
-    ensures { xs.new ≡ cleared zeroᶠ count xs.old }
-{
-    for i in 0..count {
-        xs[i] = 0.0;
-    }
-}
-
-// The first sizes of a list, zeros.
-fn clear_sizes(xs: &mut [u8], count: usize)
-    requires { count ≤ length xs.old }
-    ensures { xs.new ≡ cleared 0 count xs.old }
-{
-    let mut k: usize = 0;
-    while k < count {
-        xs[k] = 0;
-        k += 1;
-    }
+    ys[start..start + count].copy_from_slice(&xs[at..at + count]);
 }
 
 // ---- the order of the faces
@@ -95,9 +64,7 @@ fn link_faces(labels: &[u32], order: &mut [u32], count: usize)
     ensures { chain.Linked count (chain.label_at labels.now) 0 order.new × Past 0 (2 * count) order.old order.new }
 {
     table::clear_first(order, 2 * count);
-    let mut i = count;
-    while 0 < i {
-        i -= 1;
+    for i in (0..count).rev() {
         link_face(labels, order, count, i);
     }
 }
@@ -110,14 +77,11 @@ fn start_faces(sizes: &[u8], order: &mut [u32])
     let n = sizes.len();
     let mut corners: u32 = 0;
     let mut slots: u32 = 0;
-    let mut f: usize = 0;
-    while f < n {
-        let size = sizes[f];
+    for (f, &size) in sizes.iter().enumerate() {
         order[2 * n + f] = corners;
         order[3 * n + f] = slots;
         corners += size as u32;
         slots += mesh::slots_of(size) as u32;
-        f += 1;
     }
 }
 
@@ -125,9 +89,7 @@ fn start_faces(sizes: &[u8], order: &mut [u32])
 
 // One face, as number k of its island, after c corners: its size, and the numbers of its corners, which start at number base.
 fn gather_face(
-    positions: &[f32],
-    normals: &[f32],
-    texture: &[f32],
+    mesh: &Mesh,
     base: usize,
     size: u8,
     own_sizes: &mut [u8],
@@ -136,14 +98,14 @@ fn gather_face(
     k: usize,
     c: usize,
 )
-    requires { (3 * base + 3 * size ≤ length positions.now) × (3 * base + 3 * size ≤ length normals.now) × (2 * base + 2 * size ≤ length texture.now) × (k < length own_sizes.old) × (c + size ≤ 4 * n) × (spec.number_entries * n ≤ length own_numbers.old) }
-    ensures { (own_sizes.new ≡ set own_sizes.old k size) × gather.Laid positions.now normals.now texture.now n base c size own_numbers.old own_numbers.new }
+    requires { (3 * base + 3 * size ≤ length mesh.now.positions.now) × (3 * base + 3 * size ≤ length mesh.now.normals.now) × (2 * base + 2 * size ≤ length mesh.now.texture.now) × (k < length own_sizes.old) × (c + size ≤ 4 * n) × (spec.number_entries * n ≤ length own_numbers.old) }
+    ensures { (own_sizes.new ≡ set own_sizes.old k size) × gather.Laid mesh.now.positions.now mesh.now.normals.now mesh.now.texture.now n base c size own_numbers.old own_numbers.new }
 {
     let z = size as usize;
     own_sizes[k] = size;
-    copy(positions, 3 * base, own_numbers, 3 * c, 3 * z);
-    copy(normals, 3 * base, own_numbers, 12 * n + 3 * c, 3 * z);
-    copy(texture, 2 * base, own_numbers, 24 * n + 2 * c, 2 * z);
+    copy(mesh.positions, 3 * base, own_numbers, 3 * c, 3 * z);
+    copy(mesh.normals, 3 * base, own_numbers, 12 * n + 3 * c, 3 * z);
+    copy(mesh.texture, 2 * base, own_numbers, 24 * n + 2 * c, 2 * z);
 }
 
 // How many faces of an island are gathered, and how many corners they have.
@@ -155,39 +117,25 @@ pub struct Taken {
 
 // All faces of island t, in order.
 fn gather(
-    sizes: &[u8],
-    positions: &[f32],
-    normals: &[f32],
-    texture: &[f32],
+    mesh: &Mesh,
     order: &[u32],
     t: usize,
     own_sizes: &mut [u8],
     own_numbers: &mut [f32],
 ) -> Taken
-    requires { (t < length sizes.now) × step.Ready (handed sizes.now positions.now normals.now texture.now) order.now × (length sizes.now ≤ length own_sizes.old) × (spec.number_entries * length sizes.now ≤ length own_numbers.old) }
-    ensures { gather.Gathered (chain.among (island_of (mesh_of (handed sizes.now positions.now normals.now texture.now))) t) (handed sizes.now positions.now normals.now texture.now) (length sizes.now) result.faces result.corners own_sizes.new own_numbers.new × Past 0 (length sizes.now) own_sizes.old own_sizes.new × Past nan (spec.number_entries * length sizes.now) own_numbers.old own_numbers.new }
+    requires { (t < length mesh.now.sizes.now) × step.Ready (given mesh.now) order.now × (length mesh.now.sizes.now ≤ length own_sizes.old) × (spec.number_entries * length mesh.now.sizes.now ≤ length own_numbers.old) }
+    ensures { gather.Gathered (chain.among (island_of (mesh_of (given mesh.now))) t) (given mesh.now) (length mesh.now.sizes.now) result.faces result.corners own_sizes.new own_numbers.new × Past 0 (length mesh.now.sizes.now) own_sizes.old own_sizes.new × Past nan (spec.number_entries * length mesh.now.sizes.now) own_numbers.old own_numbers.new }
 {
-    let n = sizes.len();
+    let n = mesh.sizes.len();
     let mut next = order[n + t];
     let mut f: usize = 0;
     let mut k: usize = 0;
     let mut c: usize = 0;
     while next != 0 {
         f = next as usize;
-        let size = sizes[f - 1];
+        let size = mesh.sizes[f - 1];
         let base = order[2 * n + (f - 1)] as usize;
-        gather_face(
-            positions,
-            normals,
-            texture,
-            base,
-            size,
-            own_sizes,
-            own_numbers,
-            n,
-            k,
-            c,
-        );
+        gather_face(mesh, base, size, own_sizes, own_numbers, n, k, c);
         k += 1;
         c += size as usize;
         next = order[f - 1];
@@ -241,7 +189,7 @@ fn scatter(sizes: &[u8], order: &[u32], t: usize, own_frames: &[u32], answer: &m
         f = next as usize;
         let z = sizes[f - 1] as usize;
         let to = order[3 * n + (f - 1)] as usize;
-        copy_words(
+        copy(
             own_frames,
             tangent::SLOT_WORDS * c,
             answer,
@@ -257,68 +205,50 @@ fn scatter(sizes: &[u8], order: &[u32], t: usize, own_frames: &[u32], answer: &m
 
 // Island t, where there is one: its faces gathered, the base, its frames in their places.
 fn one_island(
+    mesh: &Mesh,
     threshold: f32,
     order: &[u32],
     t: usize,
-    sizes: &[u8],
-    positions: &[f32],
-    normals: &[f32],
-    texture: &[f32],
     answer: &mut [u32],
     work: &mut [u32],
     own_sizes: &mut [u8],
     own_numbers: &mut [f32],
     own_frames: &mut [u32],
 )
-    requires { (t < length sizes.now) × step.Ready (handed sizes.now positions.now normals.now texture.now) order.now × step.Good (handed sizes.now positions.now normals.now texture.now) threshold × step.Room sizes.now answer.old work.old own_sizes.old own_numbers.old own_frames.old }
-    ensures { step.Done (handed sizes.now positions.now normals.now texture.now) threshold t answer.old answer.new × (work.new ≡ work.old) × step.Kept (length sizes.now) own_sizes.old own_sizes.new own_numbers.old own_numbers.new own_frames.old own_frames.new }
+    requires { (t < length mesh.now.sizes.now) × step.Ready (given mesh.now) order.now × step.Good (given mesh.now) threshold × step.Room mesh.now.sizes.now answer.old work.old own_sizes.old own_numbers.old own_frames.old }
+    ensures { step.Done (given mesh.now) threshold t answer.old answer.new × (work.new ≡ work.old) × step.Kept (length mesh.now.sizes.now) own_sizes.old own_sizes.new own_numbers.old own_numbers.new own_frames.old own_frames.new }
 {
-    let n = sizes.len();
+    let n = mesh.sizes.len();
     if order[n + t] == 0 {
         return;
     }
-    let taken = gather(
-        sizes,
-        positions,
-        normals,
-        texture,
-        order,
-        t,
-        own_sizes,
-        own_numbers,
-    );
+    let taken = gather(mesh, order, t, own_sizes, own_numbers);
     let k = taken.faces;
     let c = taken.corners;
     make(own_sizes, own_numbers, n, k, c, threshold, own_frames, work);
-    scatter(sizes, order, t, own_frames, answer);
+    scatter(mesh.sizes, order, t, own_frames, answer);
 }
 
 // Each of them.
 fn all_islands(
+    mesh: &Mesh,
     own_sizes: &mut [u8],
     own_numbers: &mut [f32],
     own_frames: &mut [u32],
     answer: &mut [u32],
     work: &mut [u32],
     order: &[u32],
-    sizes: &[u8],
-    positions: &[f32],
-    normals: &[f32],
-    texture: &[f32],
     threshold: f32,
 )
-    requires { step.Ready (handed sizes.now positions.now normals.now texture.now) order.now × step.Good (handed sizes.now positions.now normals.now texture.now) threshold × step.Room sizes.now answer.old work.old own_sizes.old own_numbers.old own_frames.old }
-    ensures { step.DoneBelow (handed sizes.now positions.now normals.now texture.now) threshold (length sizes.now) answer.old answer.new × (work.new ≡ work.old) × step.Kept (length sizes.now) own_sizes.old own_sizes.new own_numbers.old own_numbers.new own_frames.old own_frames.new }
+    requires { step.Ready (given mesh.now) order.now × step.Good (given mesh.now) threshold × step.Room mesh.now.sizes.now answer.old work.old own_sizes.old own_numbers.old own_frames.old }
+    ensures { step.DoneBelow (given mesh.now) threshold (length mesh.now.sizes.now) answer.old answer.new × (work.new ≡ work.old) × step.Kept (length mesh.now.sizes.now) own_sizes.old own_sizes.new own_numbers.old own_numbers.new own_frames.old own_frames.new }
 {
-    for t in 0..sizes.len() {
+    for t in 0..mesh.sizes.len() {
         one_island(
+            mesh,
             threshold,
             order,
             t,
-            sizes,
-            positions,
-            normals,
-            texture,
             answer,
             work,
             own_sizes,
@@ -330,34 +260,15 @@ fn all_islands(
 
 // ---- the call
 
-// An outcome of this number, place and count of slots.
-fn said(number: u32, place: u32, slots: u32) -> Outcome
-    ensures { result ≡ record { number = number; place = place; slots = slots } }
-{
-    Outcome {
-        number,
-        place,
-        slots,
-    }
-}
-
 // Before the first island: the faces' numbers, a cleared work list and the order of the faces.
-fn prepare(
-    sizes: &[u8],
-    positions: &[f32],
-    normals: &[f32],
-    texture: &[f32],
-    labels: &mut [u32],
-    order: &mut [u32],
-    work: &mut [u32],
-)
-    requires { Fits (handed sizes.now positions.now normals.now texture.now) × (length sizes.now ≤ length labels.old) × (4 * length sizes.now ≤ length order.old) × (work_words * length sizes.now ≤ length work.old) }
-    ensures { (labels.new ≡ labelled (handed sizes.now positions.now normals.now texture.now) labels.old) × step.Ready (handed sizes.now positions.now normals.now texture.now) order.new × Past 0 (4 * length sizes.now) order.old order.new × (work.new ≡ cleared 0 (work_words * length sizes.now) work.old) }
+fn prepare(mesh: &Mesh, labels: &mut [u32], order: &mut [u32], work: &mut [u32])
+    requires { Fits (given mesh.now) × (length mesh.now.sizes.now ≤ length labels.old) × (4 * length mesh.now.sizes.now ≤ length order.old) × (work_words * length mesh.now.sizes.now ≤ length work.old) }
+    ensures { (labels.new ≡ labelled (given mesh.now) labels.old) × step.Ready (given mesh.now) order.new × Past 0 (4 * length mesh.now.sizes.now) order.old order.new × (work.new ≡ cleared 0 (work_words * length mesh.now.sizes.now) work.old) }
 {
-    let n = sizes.len();
-    islands::label(sizes, positions, normals, texture, labels, work);
+    let n = mesh.sizes.len();
+    islands::label(mesh, labels, work);
     table::clear_first(work, definition::WORK_WORDS * n);
-    start_faces(sizes, order);
+    start_faces(mesh.sizes, order);
     link_faces(labels, order, n);
 }
 
@@ -372,13 +283,14 @@ fn clear_own(
     requires { (n ≤ face_limit) × (4 * n ≤ length order.old) × (n ≤ length own_sizes.old) × (spec.number_entries * n ≤ length own_numbers.old) × (spec.frame_entries * n ≤ length own_frames.old) }
     ensures { (order.new ≡ cleared 0 (4 * n) order.old) × (own_sizes.new ≡ cleared 0 n own_sizes.old) × (own_numbers.new ≡ cleared zeroᶠ (spec.number_entries * n) own_numbers.old) × (own_frames.new ≡ cleared 0 (spec.frame_entries * n) own_frames.old) }
 {
-    table::clear_first(order, 4 * n);
-    clear_sizes(own_sizes, n);
-    clear_numbers(own_numbers, NUMBER_ENTRIES * n);
-    table::clear_first(own_frames, FRAME_ENTRIES * n);
+    order[..4 * n].fill(0);
+    own_sizes[..n].fill(0);
+    own_numbers[..NUMBER_ENTRIES * n].fill(0.0);
+    own_frames[..FRAME_ENTRIES * n].fill(0);
 }
 
 // Whether a list of its own is too short for n faces.
+#[tactic(auto, unfolding(crate::specs::Call::too_short))]
 fn is_short(
     n: usize,
     labels: usize,
@@ -390,20 +302,17 @@ fn is_short(
     requires { n ≤ face_limit }
     ensures { result ≡ spec.too_short n labels order own_sizes own_numbers own_frames }
 {
-    (labels < n)
-        | (order < 4 * n)
-        | (own_sizes < n)
-        | (own_numbers < NUMBER_ENTRIES * n)
-        | (own_frames < FRAME_ENTRIES * n)
+    labels < n
+        || order < 4 * n
+        || own_sizes < n
+        || own_numbers < NUMBER_ENTRIES * n
+        || own_frames < FRAME_ENTRIES * n
 }
 
 // The frames of a mesh that the desk accepts, island by island; the result is how many slots there are.
 fn make_frames(
+    mesh: &Mesh,
     threshold: f32,
-    sizes: &[u8],
-    positions: &[f32],
-    normals: &[f32],
-    texture: &[f32],
     order: &mut [u32],
     labels: &mut [u32],
     answer: &mut [u32],
@@ -412,25 +321,61 @@ fn make_frames(
     own_numbers: &mut [f32],
     own_frames: &mut [u32],
 ) -> u32
-    requires { (verdict (shown (handed sizes.now positions.now normals.now texture.now) threshold (length answer.old) (length work.old)) ≡ none) × (spec.short (length sizes.now) (spec.lists labels.old order.old own_sizes.old own_numbers.old own_frames.old) ≡ false) }
-    ensures { spec.leaving (record { number = 0; place = 0; slots = result }) answer.new work.new (spec.lists labels.new order.new own_sizes.new own_numbers.new own_frames.new) ≡ spec.taken (call (handed sizes.now positions.now normals.now texture.now) threshold answer.old work.old) (spec.lists labels.old order.old own_sizes.old own_numbers.old own_frames.old) }
+    requires { (verdict (shown (given mesh.now) threshold (length answer.old) (length work.old)) ≡ none) × (spec.short (length mesh.now.sizes.now) (spec.lists labels.old order.old own_sizes.old own_numbers.old own_frames.old) ≡ false) }
+    ensures { spec.leaving (record { number = 0; place = 0; slots = result }) answer.new work.new (spec.lists labels.new order.new own_sizes.new own_numbers.new own_frames.new) ≡ spec.taken (call (given mesh.now) threshold answer.old work.old) (spec.lists labels.old order.old own_sizes.old own_numbers.old own_frames.old) }
 {
-    prepare(sizes, positions, normals, texture, labels, order, work);
+    prepare(mesh, labels, order, work);
     all_islands(
+        mesh,
         own_sizes,
         own_numbers,
         own_frames,
         answer,
         work,
         order,
-        sizes,
-        positions,
-        normals,
-        texture,
         threshold,
     );
-    clear_own(sizes.len(), order, own_sizes, own_numbers, own_frames);
-    mesh::slots_before(sizes, definition::FACE_LIMIT) as u32
+    clear_own(mesh.sizes.len(), order, own_sizes, own_numbers, own_frames);
+    mesh::slots_before(mesh.sizes, definition::FACE_LIMIT) as u32
+}
+
+// The desk, the lists of its own, and then the islands: how many slots were written, or why none were.
+fn try_islands(
+    mesh: &Mesh,
+    threshold: f32,
+    answer: &mut [u32],
+    work: &mut [u32],
+    labels: &mut [u32],
+    order: &mut [u32],
+    own_sizes: &mut [u8],
+    own_numbers: &mut [f32],
+    own_frames: &mut [u32],
+) -> Result<u32, Refusal>
+    ensures { spec.Contract (call (given mesh.now) threshold answer.old work.old) (spec.lists labels.old order.old own_sizes.old own_numbers.old own_frames.old) (outcome_of result) answer.new work.new (spec.lists labels.new order.new own_sizes.new own_numbers.new own_frames.new) }
+{
+    desk::judge(mesh, threshold, answer.len(), work.len())?;
+    let short = is_short(
+        mesh.sizes.len(),
+        labels.len(),
+        order.len(),
+        own_sizes.len(),
+        own_numbers.len(),
+        own_frames.len(),
+    );
+    if short {
+        return Err(Refusal::ShortOwn);
+    }
+    Ok(make_frames(
+        mesh,
+        threshold,
+        order,
+        labels,
+        answer,
+        work,
+        own_sizes,
+        own_numbers,
+        own_frames,
+    ))
 }
 
 // What one call of the base leaves, got one island at a time; the lists of its own are lent: for each face of the mesh 1 entry of `labels`, 4 of `order`, 1 of `own_sizes`, 32 of `own_numbers` and 40 of `own_frames`.
@@ -451,41 +396,21 @@ pub fn frames_by_islands(
 ) -> Outcome
     ensures { spec.Contract (call (handed sizes.now positions.now normals.now texture.now) threshold answer.old work.old) (spec.lists labels.old order.old own_sizes.old own_numbers.old own_frames.old) result answer.new work.new (spec.lists labels.new order.new own_sizes.new own_numbers.new own_frames.new) }
 {
-    let v = desk::judge(
+    let mesh = Mesh {
         sizes,
         positions,
         normals,
         texture,
+    };
+    Outcome::from(try_islands(
+        &mesh,
         threshold,
-        answer.len(),
-        work.len(),
-    );
-    if v.number != 0 {
-        return said(v.number, v.place, 0);
-    }
-    if is_short(
-        sizes.len(),
-        labels.len(),
-        order.len(),
-        own_sizes.len(),
-        own_numbers.len(),
-        own_frames.len(),
-    ) {
-        return said(9, 0, 0);
-    }
-    let slots = make_frames(
-        threshold,
-        sizes,
-        positions,
-        normals,
-        texture,
-        order,
-        labels,
         answer,
         work,
+        labels,
+        order,
         own_sizes,
         own_numbers,
         own_frames,
-    );
-    said(0, 0, slots)
+    ))
 }

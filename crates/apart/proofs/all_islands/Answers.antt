@@ -2,7 +2,7 @@
 use native.Mathlib.Omega.{arith}
 use mathlib.Core.Path.{◌≡◌, refl, ◌∙◌, subst}
 use lib.ListN.{length}
-use Rattle.definition.specs.Handed.{handed}
+use Rattle.mesh.specs.Parts.{given}
 use Rattle.apart.specs.Steps.{DoneBelow}
 use Rattle.apart.proofs.Whole.{below_none, below_more, kept-none, kept_trans, room-kept}
 use Rattle.apart.proofs.all_islands.Goals as goal
@@ -43,5 +43,5 @@ pub returns : goal.returns
 returns c =
     let v = c.loop-t.invariant in
     let a = c.args in
-    let e : c.loop-t.t ≡ length a.sizes.now = omega (arith, v.0, c.loop-t-test.false) in
-    (subst (λ t. DoneBelow (handed a.sizes.now a.positions.now a.normals.now a.texture.now) a.threshold t a.answer.now c.loop-t.answer) e v.1, v.2, v.3)
+    let e : c.loop-t.t ≡ length a.mesh.now.sizes.now = omega (arith, v.0, c.loop-t-test.false) in
+    (subst (λ t. DoneBelow (given a.mesh.now) a.threshold t a.answer.now c.loop-t.answer) e v.1, v.2, v.3)

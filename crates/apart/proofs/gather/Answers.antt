@@ -1,7 +1,5 @@
 -- Proof that `gather` meets its contract. The invariant: the faces of the island below f are gathered. Assumes nothing.
-use Prim.Native.Nat.{◌+◌, ◌*◌, ◌-◌}
 use native.Mathlib.Omega.{arith}
-use lib.ListN.{length}
 use Rattle.apart.proofs.Turns.{going-none, gathered-all, safe, going_more}
 use Rattle.apart.proofs.gather.Goals as goal
 
@@ -20,8 +18,8 @@ overflow_cast-f c = let k = safe _ _ c.requires.1 _ c.requires.0 _ _ c.requires.
 pub overflow_sub-size : goal.overflow_sub-size
 overflow_sub-size c = omega (arith, c.loop-next-test.true)
 
-pub bounds-sizes-f : goal.bounds-sizes-f
-bounds-sizes-f c = let k = safe _ _ c.requires.1 _ c.requires.0 _ _ c.requires.2 _ _ _ _ _ _ c.loop-next.invariant c.loop-next-test.true in omega (arith, k.below, k.is)
+pub bounds-mesh-f : goal.bounds-mesh-f
+bounds-mesh-f c = let k = safe _ _ c.requires.1 _ c.requires.0 _ _ c.requires.2 _ _ _ _ _ _ c.loop-next.invariant c.loop-next-test.true in omega (arith, k.below, k.is)
 
 pub overflow_sub-base : goal.overflow_sub-base
 overflow_sub-base c = let k = safe _ _ c.requires.1 _ c.requires.0 _ _ c.requires.2 _ _ _ _ _ _ c.loop-next.invariant c.loop-next-test.true in omega (arith, k.is)
@@ -34,9 +32,6 @@ offset_bounds-order-n-in-loop-next c = let k = safe _ _ c.requires.1 _ c.require
 
 pub bounds-order-n-in-loop-next : goal.bounds-order-n-in-loop-next
 bounds-order-n-in-loop-next c = let k = safe _ _ c.requires.1 _ c.requires.0 _ _ c.requires.2 _ _ _ _ _ _ c.loop-next.invariant c.loop-next-test.true in omega (arith, k.below, k.is, c.requires.1.long)
-
-pub overflow_cast-base : goal.overflow_cast-base
-overflow_cast-base c = omega (arith, c.shared_slice_known-in-loop-next-2-1.given (2 * length c.args.sizes.now + (c.loop-next.next - 1)))
 
 pub gather_face-requires : goal.gather_face-requires
 gather_face-requires c = let k = safe _ _ c.requires.1 _ c.requires.0 _ _ c.requires.2 _ _ _ _ _ _ c.loop-next.invariant c.loop-next-test.true in (k.positions, k.normals, k.texture, k.faces, k.corners, omega (arith, c.requires.3, c.loop-next.invariant.numbers.size))

@@ -19,7 +19,7 @@ linked : (s : At-Start) → Linked s.args.count (label_at s.args.labels.now) (su
 linked s = subst (λ i. Linked s.args.count (label_at s.args.labels.now) i s.args.order.now) (add-one s.args.f) s.requires.4
 
 pub overflow_cast-t : goal.overflow_cast-t
-overflow_cast-t c = omega (arith, c.shared_slice_known-1.given c.args.f)
+overflow_cast-t c = omega (arith, c.type_inv.labels c.args.f)
 
 pub returns-then-count-t : goal.returns-then-count-t
 returns-then-count-t c = (linked-skip _ _ _ _ c.if-count-t.true (linked c.before.before.before), past-none 0 _ _)

@@ -6,6 +6,3 @@ use Rattle.apart.proofs.link_faces.Given as goal
 
 abbrev pub invariant-loop-i : goal.invariant-loop-i
 invariant-loop-i l = (l.i ≤ l.count) × Linked l.count (label_at l.labels) l.i l.order × Past 0 (2 * l.count) l.initial.order l.order
-
-abbrev pub decreases-loop-i : goal.decreases-loop-i
-decreases-loop-i l = l.i

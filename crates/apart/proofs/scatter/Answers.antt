@@ -48,8 +48,8 @@ overflow_mul-to-in-loop-next c = let k = safe _ _ _ _ c.requires.1 c.requires.4 
 pub overflow_mul-z : goal.overflow_mul-z
 overflow_mul-z c = let k = safe _ _ _ _ c.requires.1 c.requires.4 _ c.requires.3 _ _ _ _ (c.loop-next.invariant c.requires.4) c.loop-next-test.true (slots-few _) in omega (arith, k.small)
 
-pub copy_words-requires : goal.copy_words-requires
-copy_words-requires c = let k = safe _ _ _ _ c.requires.1 c.requires.4 _ c.requires.3 _ _ _ _ (c.loop-next.invariant c.requires.4) c.loop-next-test.true (slots-few _) in (k.read, k.written)
+pub copy-requires : goal.copy-requires
+copy-requires c = let k = safe _ _ _ _ c.requires.1 c.requires.4 _ c.requires.3 _ _ _ _ (c.loop-next.invariant c.requires.4) c.loop-next-test.true (slots-few _) in (k.read, k.written)
 
 pub overflow_add-c : goal.overflow_add-c
 overflow_add-c c = let k = safe _ _ _ _ c.requires.1 c.requires.4 _ c.requires.3 _ _ _ _ (c.loop-next.invariant c.requires.4) c.loop-next-test.true (slots-few _) in let w = c.loop-next.invariant c.requires.4 in omega (arith, w.low, w.within, k.small, c.requires.0)
@@ -68,7 +68,7 @@ loop-next-smaller c = let k = safe _ _ _ _ c.requires.1 c.requires.4 _ c.require
 
 pub loop-next-preserved : goal.loop-next-preserved
 loop-next-preserved c =
-    λ e. walks_more _ _ _ _ c.requires.1 e _ c.requires.3 _ _ _ _ (c.loop-next.invariant e) c.loop-next-test.true _ c.copy_words.ensures
+    λ e. walks_more _ _ _ _ c.requires.1 e _ c.requires.3 _ _ _ _ (c.loop-next.invariant e) c.loop-next-test.true _ (c.copy.ensures 0)
 
 pub shape_of-answer : goal.shape_of-answer
 shape_of-answer c = (c.loop-next.invariant c.requires.4).put.past.size

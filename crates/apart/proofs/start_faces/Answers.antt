@@ -36,18 +36,15 @@ bounds-order-n c = let g = c.loop-f.invariant in omega (arith, g.past.size, c.re
 pub bounds-order-n-in-loop-f : goal.bounds-order-n-in-loop-f
 bounds-order-n-in-loop-f c = let g = c.loop-f.invariant in simp length-set (omega (arith, g.past.size, c.requires.1, c.loop-f-test.true))
 
-pub overflow_cast-corners : goal.overflow_cast-corners
-overflow_cast-corners c = omega (arith, c.shared_slice_known-in-loop-f-1.given c.loop-f.f)
-
 pub overflow_add-corners : goal.overflow_add-corners
-overflow_add-corners c = let g = c.loop-f.invariant in omega (arith, g.few, c.requires.0, c.loop-f-test.true, c.shared_slice_known-in-loop-f-1.given c.loop-f.f)
+overflow_add-corners c = let g = c.loop-f.invariant in omega (arith, g.few, c.requires.0, c.loop-f-test.true, c.type_inv.sizes c.loop-f.f)
 
 pub overflow_add-slots : goal.overflow_add-slots
 overflow_add-slots c = omega (arith, c.loop-f.invariant.low, c.requires.0, c.loop-f-test.true, c.slots_of.ensures.1)
 
 pub loop-f-preserved : goal.loop-f-preserved
 loop-f-preserved c =
-    going_more _ _ _ _ _ _ _ c.requires.1 c.loop-f-test.true (omega (arith, c.shared_slice_known-in-loop-f-1.given c.loop-f.f)) c.slots_of.ensures.0 c.slots_of.ensures.1 c.loop-f.invariant
+    going_more _ _ _ _ _ _ _ c.requires.1 c.loop-f-test.true (omega (arith, c.type_inv.sizes c.loop-f.f)) c.slots_of.ensures.0 c.slots_of.ensures.1 c.loop-f.invariant
 
 pub shape_of-order : goal.shape_of-order
 shape_of-order c = c.loop-f.invariant.past.size

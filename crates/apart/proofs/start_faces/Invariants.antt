@@ -1,5 +1,5 @@
 -- Proof that `start_faces` meets its contract. The invariant: the first f faces have their starts. Assumes nothing.
-use Prim.Native.Nat.{ℕ, ◌*◌, ◌-◌, ◌≤◌}
+use Prim.Native.Nat.{ℕ, ◌*◌, ◌≤◌}
 use mathlib.Core.Path.{◌≡◌}
 use mathlib.Core.List.{List}
 use lib.ListN.{length, take}
@@ -20,6 +20,3 @@ pub record Going (sizes w : List ℕ) (c s f : ℕ) (u : List ℕ) : Type 0 wher
 
 abbrev pub invariant-loop-f : goal.invariant-loop-f
 invariant-loop-f l = Going l.sizes l.initial.order l.corners l.slots l.f l.order
-
-abbrev pub decreases-loop-f : goal.decreases-loop-f
-decreases-loop-f l = length l.sizes - l.f
