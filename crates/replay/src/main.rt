@@ -58,18 +58,17 @@ struct Compared {
 fn length_at(text: &[u8], head: usize, place: usize, most: usize) -> usize
     ensures { result ≤ most }
 {
-    let n = text::nth(text, head, place) as usize;
-    if n < most { n } else { most }
+    most.min(text::nth(text, head, place) as usize)
 }
 
 // What a lent list holds at a place before the call.
 fn lent(base: u32, i: usize) -> u32 {
-    std::num::wrapping_add_u32(base, (i % 0x1_0000_0000) as u32)
+    base.wrapping_add((i % 0x1_0000_0000) as u32)
 }
 
 fn fill(list: &mut [u32], base: u32) {
-    for i in 0..list.len() {
-        list[i] = lent(base, i);
+    for (i, word) in list.iter_mut().enumerate() {
+        *word = lent(base, i);
     }
 }
 
@@ -100,8 +99,8 @@ fn compare_word(text: &[u8], so_far: Compared, e: Expected, i: usize, got: u32) 
 
 fn compare(text: &[u8], from: Compared, e: Expected, list: &[u32]) -> Compared {
     let mut so_far = from;
-    for i in 0..list.len() {
-        so_far = compare_word(text, so_far, e, i, list[i]);
+    for (i, &got) in list.iter().enumerate() {
+        so_far = compare_word(text, so_far, e, i, got);
     }
     so_far
 }
@@ -121,10 +120,10 @@ fn listed(text: &[u8], head: usize) -> usize {
 
 // How many words of the work list the call clears: none where it refuses.
 fn cleared(text: &[u8], head: usize) -> usize {
-    if text::nth(text, head, NUMBER) == 0 {
-        return definition::WORK_WORDS * (text::nth(text, head, FACES) as usize);
+    match text::nth(text, head, NUMBER) {
+        0 => definition::WORK_WORDS * text::nth(text, head, FACES) as usize,
+        _ => 0,
     }
-    0
 }
 
 // Makes the call. The numbers are the positions, the normals and the texture coordinates, one after the other.
@@ -213,8 +212,7 @@ fn count_numbers(text: &[u8], head: usize, most: usize) -> usize
     let p = text::nth(text, head, POSITIONS) as usize;
     let n = text::nth(text, head, NORMALS) as usize;
     let t = text::nth(text, head, TEXTURE) as usize;
-    let sum = p + n + t;
-    if sum < most { sum } else { most }
+    most.min(p + n + t)
 }
 
 // Reads the sizes and the numbers of a mesh into the first two lists, and goes on with them.
@@ -257,9 +255,8 @@ fn mesh(text: &[u8], head: usize) -> Compared {
 // One mesh more.
 fn mesh_more(text: &[u8], so_far: Compared) -> Compared {
     let one = mesh(text, so_far.next);
-    let tally = so_far.tally;
     Compared {
-        tally: tally.plus(one.tally),
+        tally: so_far.tally + one.tally,
         next: one.next,
     }
 }
@@ -271,7 +268,7 @@ fn group(text: &[u8], from: usize) -> Compared {
         tally: Tally::NONE,
         next: count.next,
     };
-    for i in 0..count.value {
+    for _ in 0..count.value {
         so_far = mesh_more(text, so_far);
     }
     so_far
@@ -279,17 +276,23 @@ fn group(text: &[u8], from: usize) -> Compared {
 
 // The name of a group: the desk's, the lists', the nine steps', and two more.
 fn print_name(g: u32) {
-    if g == 0 {
-        io::write_all(1, b"refusals");
-    } else if g == 1 {
-        io::write_all(1, b"lists and slots");
-    } else if g < 11 {
-        io::write_all(1, b"step ");
-        io::print_decimal(1, g as u64 - 1);
-    } else if g == 11 {
-        io::write_all(1, b"numbers");
-    } else {
-        io::write_all(1, b"mixed");
+    match g {
+        0 => {
+            io::write_all(1, b"refusals");
+        }
+        1 => {
+            io::write_all(1, b"lists and slots");
+        }
+        2..=10 => {
+            io::write_all(1, b"step ");
+            io::print_decimal(1, g as u64 - 1);
+        }
+        11 => {
+            io::write_all(1, b"numbers");
+        }
+        _ => {
+            io::write_all(1, b"mixed");
+        }
     }
 }
 
@@ -298,9 +301,8 @@ fn group_more(text: &[u8], g: u32, so_far: Compared) -> Compared {
     let one = group(text, so_far.next);
     print_name(g);
     print(one.tally);
-    let tally = so_far.tally;
     Compared {
-        tally: tally.plus(one.tally),
+        tally: so_far.tally + one.tally,
         next: one.next,
     }
 }

@@ -1,5 +1,7 @@
 // What was compared.
 
+use std::ops::Add;
+
 // How many meshes, how many words of them, and how many words were not as expected.
 #[derive(Clone, Copy)]
 pub struct Tally {
@@ -24,27 +26,23 @@ impl Tally {
 
     // One word more.
     pub fn with(self, got: u32, expected: u32) -> Tally {
-        let words = std::num::wrapping_add_u64(self.words, 1);
-        if got == expected {
-            return Tally {
-                meshes: self.meshes,
-                words,
-                differed: self.differed,
-            };
-        }
         Tally {
-            meshes: self.meshes,
-            words,
-            differed: std::num::wrapping_add_u64(self.differed, 1),
+            words: self.words.wrapping_add(1),
+            differed: self.differed.wrapping_add((got != expected) as u64),
+            ..self
         }
     }
+}
 
-    // Both together.
-    pub fn plus(self, more: Tally) -> Tally {
+// Both together.
+impl Add for Tally {
+    type Output = Tally;
+
+    fn add(self, more: Tally) -> Tally {
         Tally {
-            meshes: std::num::wrapping_add_u64(self.meshes, more.meshes),
-            words: std::num::wrapping_add_u64(self.words, more.words),
-            differed: std::num::wrapping_add_u64(self.differed, more.differed),
+            meshes: self.meshes.wrapping_add(more.meshes),
+            words: self.words.wrapping_add(more.words),
+            differed: self.differed.wrapping_add(more.differed),
         }
     }
 }

@@ -13,29 +13,20 @@ pub struct Word {
 fn digit(b: u8) -> u32
     ensures { result ≤ 16 }
 {
-    if b >= b'A' {
-        if b <= b'F' {
-            return (b - b'A') as u32 + 10;
-        }
-        return 16;
+    match b {
+        b'0'..=b'9' => (b - b'0') as u32,
+        b'A'..=b'F' => (b - b'A') as u32 + 10,
+        _ => 16,
     }
-    if b >= b'0' {
-        if b <= b'9' {
-            return (b - b'0') as u32;
-        }
-    }
-    16
 }
 
 // Whether a remark goes on past this byte.
 fn in_remark(was: bool, b: u8) -> bool {
-    if b == b'#' {
-        return true;
+    match b {
+        b'#' => true,
+        b'\n' => false,
+        _ => was,
     }
-    if b == b'\n' {
-        return false;
-    }
-    was
 }
 
 // The first place from here on where a word starts; the end of the text where none does.
@@ -45,10 +36,8 @@ fn start(text: &[u8], from: usize) -> usize {
     while at < text.len() {
         let b = text[at];
         remark = in_remark(remark, b);
-        if !remark {
-            if digit(b) < 16 {
-                return at;
-            }
+        if !remark && digit(b) < 16 {
+            return at;
         }
         at += 1;
     }
@@ -78,17 +67,15 @@ pub fn next_word(text: &[u8], from: usize) -> Word {
 // The place behind the next so many words.
 pub fn skip(text: &[u8], from: usize, count: usize) -> usize {
     let mut at = from;
-    for i in 0..count {
-        let w = next_word(text, at);
-        at = w.next;
+    for _ in 0..count {
+        at = next_word(text, at).next;
     }
     at
 }
 
 // The word that stands so many words further on.
 pub fn nth(text: &[u8], from: usize, count: usize) -> u32 {
-    let w = next_word(text, skip(text, from, count));
-    w.value
+    next_word(text, skip(text, from, count)).value
 }
 
 // A run of faces of one size: how many of them are still to come, and the place behind it.
@@ -103,10 +90,9 @@ struct Run {
 fn run_at(text: &[u8], from: usize) -> Run {
     let count = next_word(text, from);
     let size = next_word(text, count.next);
-    let left = if count.value == 0 { 0 } else { count.value - 1 };
     Run {
         size: (size.value % 256) as u8,
-        left,
+        left: count.value.saturating_sub(1),
         next: size.next,
     }
 }
@@ -117,9 +103,8 @@ fn run_on(text: &[u8], run: Run) -> Run {
         return run_at(text, run.next);
     }
     Run {
-        size: run.size,
         left: run.left - 1,
-        next: run.next,
+        ..run
     }
 }
 
@@ -130,9 +115,9 @@ pub fn read_sizes(text: &[u8], from: usize, out: &mut [u8]) -> usize {
         left: 0,
         next: from,
     };
-    for i in 0..out.len() {
+    for size in out.iter_mut() {
         run = run_on(text, run);
-        out[i] = run.size;
+        *size = run.size;
     }
     run.next
 }
@@ -140,9 +125,9 @@ pub fn read_sizes(text: &[u8], from: usize, out: &mut [u8]) -> usize {
 // Reads numbers, each given by its bits.
 pub fn read_numbers(text: &[u8], from: usize, out: &mut [f32]) -> usize {
     let mut at = from;
-    for i in 0..out.len() {
+    for number in out.iter_mut() {
         let w = next_word(text, at);
-        out[i] = bits::number(w.value);
+        *number = bits::number(w.value);
         at = w.next;
     }
     at

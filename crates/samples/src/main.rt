@@ -28,16 +28,9 @@ impl Tally {
 
     // One comparison more.
     fn with(self, got: u32, expected: u32) -> Tally {
-        let compared = std::num::wrapping_add_u64(self.compared, 1);
-        if got == expected {
-            return Tally {
-                compared,
-                differed: self.differed,
-            };
-        }
         Tally {
-            compared,
-            differed: std::num::wrapping_add_u64(self.differed, 1),
+            compared: self.compared.wrapping_add(1),
+            differed: self.differed.wrapping_add((got != expected) as u64),
         }
     }
 
@@ -58,11 +51,7 @@ struct Lines {
 
 // Whether a number counts, as a word.
 fn counts(w: u32) -> u32 {
-    if math::not_zero(bits::number(w)) {
-        1
-    } else {
-        0
-    }
+    math::not_zero(bits::number(w)) as u32
 }
 
 fn root_of(w: u32) -> u32 {
@@ -77,17 +66,11 @@ fn angle_of(w: u32) -> u32 {
 fn digit(b: u8) -> u32
     ensures { result < 16 }
 {
-    if b >= b'0' {
-        if b <= b'9' {
-            return (b - b'0') as u32;
-        }
+    match b {
+        b'0'..=b'9' => (b - b'0') as u32,
+        b'A'..=b'F' => (b - b'A') as u32 + 10,
+        _ => 0,
     }
-    if b >= b'A' {
-        if b <= b'F' {
-            return (b - b'A') as u32 + 10;
-        }
-    }
-    0
 }
 
 fn octet_at(text: &[u8], at: usize) -> u32
@@ -174,8 +157,8 @@ fn sample_9() -> Tally {
 // Words that are each expected to be one of a slot's, in turn.
 fn words(so_far: Tally, got: &[u32], expected: &[u32; SLOT_WORDS]) -> Tally {
     let mut t = so_far;
-    for i in 0..got.len() {
-        t = t.with(got[i], expected[i % SLOT_WORDS]);
+    for (i, &w) in got.iter().enumerate() {
+        t = t.with(w, expected[i % SLOT_WORDS]);
     }
     t
 }
@@ -183,9 +166,9 @@ fn words(so_far: Tally, got: &[u32], expected: &[u32; SLOT_WORDS]) -> Tally {
 // The words of one slot of an answer.
 fn slot(so_far: Tally, answer: &[u32], number: usize, expected: &[u32; SLOT_WORDS]) -> Tally {
     let mut t = so_far;
-    for i in 0..answer.len() {
+    for (i, &w) in answer.iter().enumerate() {
         if i / SLOT_WORDS == number {
-            t = t.with(answer[i], expected[i % SLOT_WORDS]);
+            t = t.with(w, expected[i % SLOT_WORDS]);
         }
     }
     t
