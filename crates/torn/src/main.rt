@@ -25,6 +25,9 @@ const PLACES: usize = CARD_BYTES + 1;
 
 const COUNTS: u32 = blocks::TWELVES_HELD as u32 + 1;
 
+// Where the file is cut: nothing left, one byte, the middle of the first sum, all but one byte; the first block whole, one byte more, the middle of the second sum; two blocks, all but one byte, and no cut.
+const CUTS: [u64; 10] = [0, 1, 510, 511, 512, 513, 1022, 1024, 1535, 1536];
+
 // Words of a record: 0 or 1 first, the others different from place to place.
 fn word(i: usize) -> u32 {
     if i % blocks::TWELVE_WORDS == 0 {
@@ -34,8 +37,8 @@ fn word(i: usize) -> u32 {
 }
 
 fn fill(list: &mut [u32]) {
-    for i in 0..list.len() {
-        list[i] = word(i);
+    for (i, w) in list.iter_mut().enumerate() {
+        *w = word(i);
     }
 }
 
@@ -48,10 +51,7 @@ fn read_file(file: &File, bytes: &mut [u8]) -> io::Result<usize>
 
 // A block's bytes into the file.
 fn put(file: &File, bytes: &[u8], at: usize) -> io::Result<()> {
-    if bytes.len() < blocks::BLOCK_BYTES {
-        return Ok(());
-    }
-    if LAST_PLACE < at {
+    if bytes.len() < blocks::BLOCK_BYTES || LAST_PLACE < at {
         return Ok(());
     }
     file.write_all_at(&bytes[..blocks::BLOCK_BYTES], at as u64)
@@ -111,160 +111,80 @@ fn find(rt: &impl Print, bytes: &[u8], n: usize, answer: &mut [u32]) -> io::Resu
     println!(rt; ", torn {}", found.past)
 }
 
-// What is in the file, and how many bytes.
-fn report(rt: &impl Print, file: &File, bytes: &mut [u8], answer: &mut [u32]) -> io::Result<usize> {
-    let n = read_file(file, bytes)?;
-    find(rt, bytes, n, answer)?;
-    Ok(n)
-}
-
 // Whether the first n bytes are the beginning of a run without a cut.
 fn begins(whole: &[u8], bytes: &[u8], n: usize) -> bool {
-    if whole.len() < n {
-        return false;
-    }
-    if bytes.len() < n {
-        return false;
-    }
-    for i in 0..n {
-        if whole[i] != bytes[i] {
-            return false;
+    n <= whole.len() && n <= bytes.len() && whole[..n] == bytes[..n]
+}
+
+// The card's file, the records that are written, and the bytes of a run without a cut.
+#[derive(Clone, Copy)]
+struct Card<'a> {
+    file: &'a File,
+    list: &'a [u32],
+    whole: &'a [u8],
+}
+
+impl<'a> Card<'a> {
+    // What is in the file, and whether those are the bytes of a run without a cut, all of them or its beginning.
+    fn compare(&self, rt: &impl Print, bytes: &mut [u8], answer: &mut [u32]) -> io::Result<()> {
+        let n = read_file(self.file, bytes)?;
+        find(rt, bytes, n, answer)?;
+        if !begins(self.whole, bytes, n) {
+            println!(rt; "OTHER BYTES")
+        } else if n == self.whole.len() {
+            println!(rt; "the bytes of a run without the cut")
+        } else {
+            println!(rt; "the beginning of a run without the cut")
         }
     }
-    true
-}
 
-// What is in the file, and whether those are the bytes of a run without a cut, all of them or its beginning.
-fn compare(
-    rt: &impl Print,
-    file: &File,
-    whole: &[u8],
-    bytes: &mut [u8],
-    answer: &mut [u32],
-) -> io::Result<()> {
-    let n = report(rt, file, bytes, answer)?;
-    if !begins(whole, bytes, n) {
-        return println!(rt; "OTHER BYTES");
+    // The file cut, and read.
+    fn cut(
+        &self,
+        rt: &impl Print,
+        long: u64,
+        bytes: &mut [u8],
+        answer: &mut [u32],
+    ) -> io::Result<()> {
+        self.file.set_len(long)?;
+        self.compare(rt, bytes, answer)
     }
-    if n == whole.len() {
-        println!(rt; "the bytes of a run without the cut")
-    } else {
-        println!(rt; "the beginning of a run without the cut")
+
+    // The file cut, read, appended to until it is whole, and read again.
+    fn turn(
+        &self,
+        rt: &impl Print,
+        long: u64,
+        bytes: &mut [u8],
+        answer: &mut [u32],
+    ) -> io::Result<()> {
+        self.cut(rt, long, bytes, answer)?;
+        append_all(self.file, self.list, bytes)?;
+        self.compare(rt, bytes, answer)
     }
-}
 
-// The file cut, and read.
-fn cut(
-    rt: &impl Print,
-    file: &File,
-    long: u64,
-    whole: &[u8],
-    bytes: &mut [u8],
-    answer: &mut [u32],
-) -> io::Result<()> {
-    file.set_len(long)?;
-    compare(rt, file, whole, bytes, answer)
-}
+    // The same with one block appended.
+    fn step(
+        &self,
+        rt: &impl Print,
+        long: u64,
+        bytes: &mut [u8],
+        answer: &mut [u32],
+    ) -> io::Result<()> {
+        self.cut(rt, long, bytes, answer)?;
+        append_one(self.file, self.list, bytes)?;
+        self.compare(rt, bytes, answer)
+    }
 
-// The file cut, read, appended to until it is whole, and read again.
-fn turn(
-    rt: &impl Print,
-    file: &File,
-    long: u64,
-    list: &[u32],
-    whole: &[u8],
-    bytes: &mut [u8],
-    answer: &mut [u32],
-) -> io::Result<()> {
-    cut(rt, file, long, whole, bytes, answer)?;
-    append_all(file, list, bytes)?;
-    compare(rt, file, whole, bytes, answer)
-}
-
-// The same with one block appended.
-fn step(
-    rt: &impl Print,
-    file: &File,
-    long: u64,
-    list: &[u32],
-    whole: &[u8],
-    bytes: &mut [u8],
-    answer: &mut [u32],
-) -> io::Result<()> {
-    cut(rt, file, long, whole, bytes, answer)?;
-    append_one(file, list, bytes)?;
-    compare(rt, file, whole, bytes, answer)
-}
-
-// In the first block: nothing, one byte, the middle of the sum, all but one byte.
-fn first_block(
-    rt: &impl Print,
-    file: &File,
-    list: &[u32],
-    whole: &[u8],
-    bytes: &mut [u8],
-    answer: &mut [u32],
-) -> io::Result<()> {
-    turn(rt, file, 0, list, whole, bytes, answer)?;
-    turn(rt, file, 1, list, whole, bytes, answer)?;
-    turn(rt, file, 510, list, whole, bytes, answer)?;
-    turn(rt, file, 511, list, whole, bytes, answer)
-}
-
-// The first block whole, one byte more, and the middle of the second sum.
-fn second_block(
-    rt: &impl Print,
-    file: &File,
-    list: &[u32],
-    whole: &[u8],
-    bytes: &mut [u8],
-    answer: &mut [u32],
-) -> io::Result<()> {
-    turn(rt, file, 512, list, whole, bytes, answer)?;
-    turn(rt, file, 513, list, whole, bytes, answer)?;
-    turn(rt, file, 1022, list, whole, bytes, answer)
-}
-
-// Two blocks, all but one byte, and no cut.
-fn third_block(
-    rt: &impl Print,
-    file: &File,
-    list: &[u32],
-    whole: &[u8],
-    bytes: &mut [u8],
-    answer: &mut [u32],
-) -> io::Result<()> {
-    turn(rt, file, 1024, list, whole, bytes, answer)?;
-    turn(rt, file, 1535, list, whole, bytes, answer)?;
-    turn(rt, file, 1536, list, whole, bytes, answer)
-}
-
-// One cut after another, and a block appended between: the third, the second, and then all three.
-fn many_cuts(
-    rt: &impl Print,
-    file: &File,
-    list: &[u32],
-    whole: &[u8],
-    bytes: &mut [u8],
-    answer: &mut [u32],
-) -> io::Result<()> {
-    step(rt, file, 1100, list, whole, bytes, answer)?;
-    step(rt, file, 900, list, whole, bytes, answer)?;
-    turn(rt, file, 3, list, whole, bytes, answer)
-}
-
-fn all_cuts(
-    rt: &impl Print,
-    file: &File,
-    list: &[u32],
-    whole: &[u8],
-    bytes: &mut [u8],
-    answer: &mut [u32],
-) -> io::Result<()> {
-    first_block(rt, file, list, whole, bytes, answer)?;
-    second_block(rt, file, list, whole, bytes, answer)?;
-    third_block(rt, file, list, whole, bytes, answer)?;
-    many_cuts(rt, file, list, whole, bytes, answer)
+    // Each cut by itself; then one after another with a block appended between: the third, the second, and then all three.
+    fn all_cuts(&self, rt: &impl Print, bytes: &mut [u8], answer: &mut [u32]) -> io::Result<()> {
+        for long in CUTS {
+            self.turn(rt, long, bytes, answer)?;
+        }
+        self.step(rt, 1100, bytes, answer)?;
+        self.step(rt, 900, bytes, answer)?;
+        self.turn(rt, 3, bytes, answer)
+    }
 }
 
 // A run without a cut, and then the cuts.
@@ -276,8 +196,13 @@ fn walk(rt: &impl Print, file: &File) -> io::Result<()> {
     fill(&mut list);
     append_all(file, &list, &mut bytes)?;
     cards::write(&list, &mut whole);
-    compare(rt, file, &whole, &mut bytes, &mut answer)?;
-    all_cuts(rt, file, &list, &whole, &mut bytes, &mut answer)
+    let card = Card {
+        file,
+        list: &list,
+        whole: &whole,
+    };
+    card.compare(rt, &mut bytes, &mut answer)?;
+    card.all_cuts(rt, &mut bytes, &mut answer)
 }
 
 fn main(rt: HostRuntime) -> io::Result<()> {
