@@ -1,6 +1,6 @@
 -- The verdict of the call for labels, as its code has it. Assumes nothing.
 use Prim.Native.Nat.{ℕ, ◌≤◌, ◌<◌}
-use mathlib.Core.Path.{◌≡◌, refl, sym, ap, ◌∙◌}
+use mathlib.Core.Path.{◌≡◌, sym, ap, ◌∙◌}
 use mathlib.Core.Bool.{Bool, true}
 use mathlib.Core.List.{List}
 use mathlib.Core.Option.{Option, none, some}
@@ -18,7 +18,6 @@ use Rattle.desk.specs.Verdict.{as_verdict, told, number_of, place_of}
 use Rattle.desk.proofs.Telling.{number-some}
 use Rattle.islands.specs.Nine.{afterwards}
 use Rattle.islands.proofs.Nine.{passed, numbered-row}
-use Rattle.labels.specs.declared.Labelled.{Labelled}
 use Rattle.mikktspace.specs.Alone.{desk_verdict, longest_answer}
 use Rattle.labels.specs.Labels.{Leaving, left, answered, labelled_of, labels_verdict}
 

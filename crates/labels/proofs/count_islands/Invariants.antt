@@ -1,5 +1,5 @@
 -- `labels::count_islands` meets its contract. The invariant: the count is that of the faces passed. Assumes nothing.
-use Prim.Native.Nat.{◌-◌, ◌≤◌}
+use Prim.Native.Nat.{◌≤◌}
 use mathlib.Core.Path.{◌≡◌}
 use lib.ListN.{length, get_or}
 use Rattle.definition.specs.Limits.{face_limit}

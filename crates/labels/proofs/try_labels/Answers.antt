@@ -2,7 +2,6 @@
 use native.Mathlib.Omega.{arith}
 use mathlib.Core.Path.{sym, ap, ◌∙◌}
 use borrow.Author.Tests.{lt-ltb, le-ltb}
-use lib.Dec.{ltb}
 use lib.ListN.{length}
 use Rattle.std.proofs.lemmas.Result.{err_from_is_err_and}
 use Rattle.bits.specs.Single.{zeroᶠ}
@@ -20,41 +19,29 @@ unfolding labels_outcome labels_verdict
 returns-in_err-judge c =
     let a = c.args in
     let m = given a.mesh.now in
-    let v = desk_verdict m (length a.work.now) in
-    let b = ltb (length a.labels.now) (length m.sizes) in
-    let taken = accepted_labels m a.labels.now a.work.now in
     let p = err_from_is_err_and c.from_residual.result c.from_residual.ensures.1 in
-    rw (p.1, p.2) (refused v _ b taken a.labels.now a.work.now c.in_err-judge.ensures)
+    rw (p.1, p.2) (refused _ _ _ _ a.labels.now a.work.now c.in_err-judge.ensures)
 
 pub returns-then-few : goal.returns-then-few
 unfolding labels_outcome labels_verdict
 returns-then-few c =
     let a = c.args in
     let m = given a.mesh.now in
-    let v = desk_verdict m (length a.work.now) in
-    let b = ltb (length a.labels.now) (length m.sizes) in
-    let taken = accepted_labels m a.labels.now a.work.now in
     let no = no-refusal (shown m zeroᶠ longest_answer (length a.work.now)) c.in_ok-judge.ensures in
-    too_short v b taken a.labels.now a.work.now no (lt-ltb (length a.labels.now) (length m.sizes) (omega arith))
+    too_short _ _ _ a.labels.now a.work.now no (lt-ltb (length a.labels.now) (length m.sizes) (omega arith))
 
 pub number_faces-requires : goal.number_faces-requires
 unfolding labels_verdict
 number_faces-requires c =
     let a = c.args in
     let m = given a.mesh.now in
-    let v = desk_verdict m (length a.work.now) in
-    let b = ltb (length a.labels.now) (length m.sizes) in
-    let taken = accepted_labels m a.labels.now a.work.now in
     let no = no-refusal (shown m zeroᶠ longest_answer (length a.work.now)) c.in_ok-judge.ensures in
-    passes v b no (le-ltb (length a.labels.now) (length m.sizes) (omega arith))
+    passes _ _ no (le-ltb (length a.labels.now) (length m.sizes) (omega arith))
 
 pub returns : goal.returns
 unfolding labels_outcome labels_verdict answered labelled_of
 returns c =
     let a = c.args in
     let m = given a.mesh.now in
-    let v = desk_verdict m (length a.work.now) in
-    let b = ltb (length a.labels.now) (length m.sizes) in
-    let taken = accepted_labels m a.labels.now a.work.now in
     let no = no-refusal (shown m zeroᶠ longest_answer (length a.work.now)) c.in_ok-judge.ensures in
-    c.number_faces.ensures ∙ ap (λ o. answered o taken a.labels.now a.work.now) (sym (passes v b no (le-ltb (length a.labels.now) (length m.sizes) (omega arith))))
+    c.number_faces.ensures ∙ ap (λ o. answered o (accepted_labels m a.labels.now a.work.now) a.labels.now a.work.now) (sym (passes (desk_verdict m (length a.work.now)) _ no (le-ltb (length a.labels.now) (length m.sizes) (omega arith))))
