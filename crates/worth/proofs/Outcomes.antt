@@ -1,5 +1,5 @@
 -- What a call leaves behind, ground by ground. Assumes nothing.
-use Prim.Native.Nat.{ℕ, ◌/◌, ◌%◌, ◌≤◌, ◌<◌}
+use Prim.Native.Nat.{ℕ, ◌+◌, ◌/◌, ◌%◌, ◌≤◌, ◌<◌}
 use native.Mathlib.Omega.{arith}
 use mathlib.Core.Path.{◌≡◌, refl, ap, ◌∙◌}
 use mathlib.Core.Bool.{Bool, true, false, cond}
@@ -12,21 +12,33 @@ use Rattle.packed.specs.Packer.{slot_at}
 use Rattle.packed.specs.Reader.{first_failing}
 use Rattle.worth.specs.Worth.{good_slot, worth, count_below}
 use denote.Enum.Declared.{tag_of}
-use Rattle.worth.specs.contracts.Worth.{the_type}
+use Rattle.worth.specs.contracts.Worth.{the_type as worth_type}
+use Rattle.worth.specs.contracts.Refusal.{the_type as refusal_type}
 use Rattle.worth.specs.declared.Worth.{Worth}
 use Rattle.worth.specs.declared.Worth.TheVariants.{Absent, Good, Lost, Blank, Long, Short}
-use Rattle.worth.specs.Contract.{byte_of, most_slots, whole, countable, roomy, refusal, good_at, verdicts_of, not_judged, all_judged, judge_left}
+use Rattle.worth.specs.declared.Refusal.{Refusal}
+use Rattle.worth.specs.declared.Refusal.TheVariants.{Broken, TooShort}
+use Rattle.worth.specs.Contract.{byte_of, number_of, most_slots, whole, countable, roomy, refusal, good_at, verdicts_of, not_judged, all_judged, judge_left}
 use Rattle.worth.proofs.Filling.{filled_at}
 use Rattle.worth.proofs.Counting.{count_same, failing-same}
 
 -- the byte that a verdict is declared with
-pub byte-is : (w : Worth) → tag_of the_type w ≡ byte_of w
+pub byte-is : (w : Worth) → tag_of worth_type w ≡ byte_of w
 byte-is Absent = refl
 byte-is Good = refl
 byte-is Lost = refl
 byte-is Blank = refl
 byte-is Long = refl
 byte-is Short = refl
+
+-- the number that a refusal is declared with
+pub number-is : (r : Refusal) → tag_of refusal_type r + 1 ≡ number_of r
+number-is Broken = refl
+number-is TooShort = refl
+
+pub number-some : (r : Refusal) → number_of r ≡ 0 → ⊥
+number-some Broken e = omega (arith, e)
+number-some TooShort e = omega (arith, e)
 
 -- the refusal: not whole slots; then too many; then too little room; then none
 module _ (words room : ℕ) where

@@ -1,5 +1,5 @@
 -- What the judge promises: result and lent list are the definition's, for every input. Definitions only.
-use Rattle.std.specs.Prelude.{◌≡◌, ℕ, ◌%◌, ◌/◌, Bool, cond, List, ◌++◌, length, drop, eqb, leb}
+use Rattle.std.specs.Prelude.{◌≡◌, ℕ, ◌%◌, ◌/◌, Bool, cond, List, ◌++◌, length, drop, eqb, leb, Result, Ok, Err}
 use Rattle.lists.specs.Loops.{list_of}
 use Rattle.tangent.specs.Slot.{slot_words}
 use Rattle.packed.specs.Packer.{slot_at, slots_in}
@@ -7,6 +7,9 @@ use Rattle.packed.specs.Reader.{first_failing}
 use Rattle.worth.specs.Worth.{absent_slot, good_slot, lost_slot, blank_slot, long_slot, short_slot, worth, count_below}
 use Rattle.worth.specs.declared.Worth.{Worth}
 use Rattle.worth.specs.declared.Worth.TheVariants.{Absent, Good, Lost, Blank, Long, Short}
+use Rattle.worth.specs.declared.Refusal.{Refusal}
+use Rattle.worth.specs.declared.Refusal.TheVariants.{Broken, TooShort}
+use Rattle.worth.specs.declared.Seen.{Seen}
 use Rattle.worth.specs.declared.Judged.{Judged}
 
 -- the most slots whose number 32 bits hold
@@ -28,6 +31,21 @@ roomy words room = leb (words / slot_words) room
 -- the refusal of so many words with room for so many verdicts: 1 where they are not whole slots, or more than 32 bits count; 2 where there is too little room; 0 for none
 unfoldable pub refusal : ℕ → ℕ → ℕ
 refusal words room = cond (whole words) (cond (countable words) (cond (roomy words room) 0 2) 1) 1
+
+-- the number of a refusal
+abbrev pub number_of : Refusal → ℕ
+number_of Broken = 1
+number_of TooShort = 2
+
+-- what is answered on so many words: how many slots they are, where nothing is refused
+abbrev pub Counted : ℕ → ℕ → Result ℕ Refusal → Type 0
+Counted words room (Ok n) = (0 ≡ refusal words room) × (n ≡ words / slot_words)
+Counted words room (Err r) = number_of r ≡ refusal words room
+
+-- what the judge returns, as C reads it
+abbrev pub judged_of : Result Seen Refusal → Judged
+judged_of (Ok s) = record { number = 0; good = s.good; first = s.first }
+judged_of (Err r) = record { number = number_of r; good = 0; first = 0 }
 
 -- the byte of a verdict
 abbrev pub byte_of : Worth → ℕ

@@ -52,6 +52,22 @@ const HIDDEN: u32 = 0x37800100;
 // The most slots whose number 32 bits hold.
 const MOST_SLOTS: usize = 4294967295;
 
+// Why a list gets no verdicts, by the number that C reads.
+#[derive(Clone, Copy, PartialEq, Eq, Debug)]
+pub enum Refusal {
+    // It is not whole slots, or they are more than 32 bits count.
+    Broken = 1,
+    // The list that is lent is too short.
+    TooShort = 2,
+}
+
+// How many slots are good, and the lowest that is not.
+#[derive(Clone, Copy, PartialEq, Eq, Debug)]
+struct Seen {
+    good: u32,
+    first: usize,
+}
+
 // What the judge returns: 0, how many slots are good, and the lowest that is not, or how many slots there are; or a refusal, 0 and 0.
 #[repr(C)]
 #[derive(Clone, Copy)]
@@ -59,6 +75,25 @@ pub struct Judged {
     pub number: u32,
     pub good: u32,
     pub first: usize,
+}
+
+impl From<Result<Seen, Refusal>> for Judged {
+    ghost from_gives = { λ r j. j ≡ contract.judged_of r };
+
+    fn from(r: Result<Seen, Refusal>) -> Judged {
+        match r {
+            Ok(seen) => Judged {
+                number: 0,
+                good: seen.good,
+                first: seen.first,
+            },
+            Err(refusal) => Judged {
+                number: refusal as u32,
+                good: 0,
+                first: 0,
+            },
+        }
+    }
 }
 
 // Whether a component is neither NaN nor infinite.
@@ -209,41 +244,36 @@ fn first_other(verdicts: &[u8], count: usize) -> usize
     count
 }
 
-// The refusal of so many words with room for so many verdicts, or 0.
-fn refusal(words: usize, room: usize) -> u32
-    ensures { result ≡ contract.refusal words room }
+// How many slots so many words are, where there is room for so many verdicts.
+fn countable(words: usize, room: usize) -> Result<usize, Refusal>
+    ensures { contract.Counted words room result }
 {
-    if words % tangent::SLOT_WORDS != 0 {
-        return 1;
+    let count = words / tangent::SLOT_WORDS;
+    let ragged = words % tangent::SLOT_WORDS != 0;
+    if ragged || MOST_SLOTS < count {
+        return Err(Refusal::Broken);
     }
-    if MOST_SLOTS < words / tangent::SLOT_WORDS {
-        return 1;
+    if room < count {
+        return Err(Refusal::TooShort);
     }
-    if room < words / tangent::SLOT_WORDS {
-        return 2;
-    }
-    0
+    Ok(count)
+}
+
+// The verdicts, and what they come to.
+fn try_judge(answer: &[u32], verdicts: &mut [u8]) -> Result<Seen, Refusal>
+    ensures { contract.Judges answer.now verdicts.old (contract.judged_of result) verdicts.new }
+{
+    let count = countable(answer.len(), verdicts.len())?;
+    judge_slots(answer, verdicts, count);
+    Ok(Seen {
+        good: good_among(verdicts, count),
+        first: first_other(verdicts, count),
+    })
 }
 
 // A verdict on every slot of an answer list, a byte each: refused with 1 where the list is not in whole slots or has more of them than 32 bits count, with 2 where the lent list is too short.
 pub fn judge(answer: &[u32], verdicts: &mut [u8]) -> Judged
     ensures { contract.Judges answer.now verdicts.old result verdicts.new }
 {
-    let number = refusal(answer.len(), verdicts.len());
-    if number != 0 {
-        return Judged {
-            number: number,
-            good: 0,
-            first: 0,
-        };
-    }
-    let count = answer.len() / tangent::SLOT_WORDS;
-    judge_slots(answer, verdicts, count);
-    let good = good_among(verdicts, count);
-    let first = first_other(verdicts, count);
-    Judged {
-        number: 0,
-        good: good,
-        first: first,
-    }
+    Judged::from(try_judge(answer, verdicts))
 }
