@@ -40,7 +40,9 @@ fn copy<T: Copy>(xs: &[T], at: usize, ys: &mut [T], start: usize, count: usize)
     requires { (at + count ≤ length xs.now) × (start + count ≤ length ys.old) }
     ensures { Copies xs.now ys.old ys.new at start count }
 {
-    ys[start..start + count].copy_from_slice(&xs[at..at + count]);
+    for (i, y) in ys[start..start + count].iter_mut().enumerate() {
+        *y = xs[at + i];
+    }
 }
 
 // ---- the order of the faces

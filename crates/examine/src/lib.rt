@@ -183,7 +183,9 @@ fn copy_out(work: &[u32], rows: usize, column: usize, n: usize, list: &mut [u32]
     ensures { list.new ≡ sets list.old 0 (list_of n (λ i. cell rows column i work.now)) }
 {
     let from = column * rows;
-    list[..n].copy_from_slice(&work[from..from + n]);
+    for (i, w) in list[..n].iter_mut().enumerate() {
+        *w = work[from + i];
+    }
 }
 
 // Whether one of the three lists, of these lengths, is too short for so many faces.

@@ -85,13 +85,13 @@ fn corner_step(
     rows: usize,
     tris: usize,
     t: usize,
-    g: Group,
+    g: &Group,
     count: usize,
 ) -> usize
-    requires { (t < tris) × spec.Ready rows tris g.number count work.old }
-    ensures { spec.Steps rows (spec.walk work.old count) (spec.walk work.new result) (λ n. spec.corner rows g.number g.vertex g.orientation n (spec.walk work.old count) t) }
+    requires { (t < tris) × spec.Ready rows tris g.now.number count work.old }
+    ensures { spec.Steps rows (spec.walk work.old count) (spec.walk work.new result) (λ n. spec.corner rows g.now.number g.now.vertex g.now.orientation n (spec.walk work.old count) t) }
 {
-    let Some(i) = enter_at(work, rows, t, g, count) else {
+    let Some(i) = enter_at(work, rows, t, *g, count) else {
         return count;
     };
     let first = 3 * t + (i + 2) % 3;
@@ -102,9 +102,9 @@ fn corner_step(
 
 // Over a side to the corner beyond.
 #[cycle(corner_step_side_step)]
-fn side_step(work: &mut [u32], rows: usize, tris: usize, k: usize, g: Group, count: usize) -> usize
-    requires { (k < 3 * tris) × spec.Ready rows tris g.number count work.old }
-    ensures { spec.Steps rows (spec.walk work.old count) (spec.walk work.new result) (λ n. spec.side rows (spec.corner rows g.number g.vertex g.orientation n) (spec.walk work.old count) k) }
+fn side_step(work: &mut [u32], rows: usize, tris: usize, k: usize, g: &Group, count: usize) -> usize
+    requires { (k < 3 * tris) × spec.Ready rows tris g.now.number count work.old }
+    ensures { spec.Steps rows (spec.walk work.old count) (spec.walk work.new result) (λ n. spec.side rows (spec.corner rows g.now.number g.now.vertex g.now.orientation n) (spec.walk work.old count) k) }
 {
     let Some(u) = neighbors::link_at(work, rows, 3 * tris, k) else {
         return count;
@@ -145,7 +145,7 @@ fn start_at(work: &mut [u32], rows: usize, tris: usize, k: usize, s: GroupCounts
     };
     GroupCounts {
         groups: g.number,
-        members: corner_step(work, rows, tris, k / 3, g, s.members),
+        members: corner_step(work, rows, tris, k / 3, &g, s.members),
     }
 }
 

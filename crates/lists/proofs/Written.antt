@@ -1,13 +1,15 @@
 -- A part of a list that is written whole is a run of stores. Assumes nothing.
-use Prim.Native.Nat.{ℕ, zero, suc, ◌+◌, ◌≤◌}
+use Prim.Native.Nat.{ℕ, zero, suc, ◌+◌, ◌≤◌, ◌<◌}
+use native.Mathlib.Numerals.{add-one}
 use native.Mathlib.Omega.{arith}
 use mathlib.Core.Path.{◌≡◌, refl, sym, ap, ◌∙◌}
 use mathlib.Core.List.{List, [], ◌∷◌, ◌++◌}
 use Rattle.std.proofs.Common.{append_assoc}
-use lib.ListN.{length, take, drop, replicate}
-use lib.Seq.{sets, sets-eq}
+use lib.ListN.{length, get_or, set, take, drop, replicate, length-drop}
+use lib.Seq.{sets, sets-eq, get_or-drop, take-suc}
 use borrow.Rule.Slice.PartMut.{put_mid}
 use Rattle.std.proofs.lemmas.Slice.{put_mid-paste}
+use Rattle.std.proofs.lemmas.List.{take_more_set, take_all}
 use Rattle.std.proofs.lemmas.List.Edits.{paste_all}
 use Rattle.lists.specs.Loops.{list_of}
 use Rattle.lists.specs.Parts.{part}
@@ -32,3 +34,18 @@ pub zeros-listed : (n : ℕ) → list_of {S = ℕ} n (λ _. 0) ≡ replicate n 0
 unfolding list_of
 zeros-listed zero = refl
 zeros-listed (suc n) = ap (λ (l : List ℕ). l ++ 0 ∷ []) (zeros-listed n) ∙ zero_last n
+
+-- a list us that is written entry by entry with the part of xs from place p on, and has the first i
+module _ {X : Type 0} (xs us : List X) (p i : ℕ) (e : take i us ≡ take i (drop p xs)) where
+  -- one entry more
+  pub written-more : (x d : X) → i < length us → p + i < length xs → x ≡ get_or xs (p + i) d → take (i + 1) (set us i x) ≡ take (i + 1) (drop p xs)
+  written-more x d h k w =
+      take_more_set us i x h
+      ∙ (ap (λ (l : List X). l ++ (x ∷ [])) e
+      ∙ (ap (λ (y : X). take i (drop p xs) ++ (y ∷ [])) (w ∙ sym (get_or-drop p xs i d))
+      ∙ (sym (take-suc (drop p xs) i d (omega (arith, k, length-drop p xs)))
+      ∙ ap (λ (n : ℕ). take n (drop p xs)) (sym (add-one i)))))
+
+  -- all of them
+  pub written-all : (n : ℕ) → i ≡ n → length us ≡ n → us ≡ take n (drop p xs)
+  written-all n s t = sym (take_all n us (omega (arith, t))) ∙ (ap (λ (k : ℕ). take k us) (sym s) ∙ (e ∙ ap (λ (k : ℕ). take k (drop p xs)) s))

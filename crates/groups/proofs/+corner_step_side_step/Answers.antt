@@ -31,7 +31,7 @@ corner_step-overflow_add-second t c =
 pub corner_step-side_step-n-requires : goal.corner_step-side_step-n-requires
 corner_step-side_step-n-requires t c =
     let e = c.enter_at.ensures in
-    let E : Entered c.args.rows c.args.tris c.args.g.number c.args.count c.in-Some.i c.args.work.now c.enter_at.new.work =
+    let E : Entered c.args.rows c.args.tris c.args.g.now.number c.args.count c.in-Some.i c.args.work.now c.enter_at.new.work =
     record {
       below = corner-below _ _ _ _ _ _ _ _ c.requires.0 c.requires.1 _ _ e.entry e.work _ c.in-Some.is;
       falls' = corner-falls _ _ _ _ _ _ _ _ c.requires.0 c.requires.1 _ _ e.entry e.work _ c.in-Some.is;
