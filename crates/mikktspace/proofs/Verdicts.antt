@@ -6,16 +6,17 @@ use mathlib.Core.List.{List, ◌++◌}
 use mathlib.Core.Option.{Option, none, some}
 use lib.ListN.{length, take, drop, replicate}
 use lib.Seq.{take_all, drop-drop}
+use lib.Ieee.{Float}
 use Rattle.definition.specs.Limits.{face_limit, work_words}
-use Rattle.definition.specs.Handed.{slot_count}
-use Rattle.definition.specs.Desk.{Row, verdict, Shown}
+use Rattle.definition.specs.Handed.{Handed, slot_count}
+use Rattle.definition.specs.Desk.{Row, verdict, Shown, shown}
 use Rattle.definition.specs.Outcome.{Result, answered}
 use Rattle.table.specs.Columns.{columns, rows_of}
 use Rattle.lists.specs.Every.{Each, each_none, each_some}
 use Rattle.laws.proofs.Verdict.{verdict-numbered, InTable}
 use Rattle.std.specs.Prelude.{Ok, Err}
 use Rattle.desk.specs.declared.Refusal.{Refusal}
-use Rattle.desk.specs.Verdict.{as_verdict, told}
+use Rattle.desk.specs.Verdict.{Verdict, as_verdict, told}
 use Rattle.desk.proofs.Telling.{number-some}
 use Rattle.mikktspace.specs.declared.Outcome.{Outcome}
 use Rattle.mikktspace.specs.Contract.{left, outcome_of}
@@ -28,6 +29,10 @@ pub refused : (o : Option Row) (r : Refusal) (z : Result) (a w : List ℕ) → t
 unfolding told as_verdict answered left outcome_of
 refused none r z a w e = absurd (number-some r (ap (λ v. v.number) e))
 refused (some x) r z a w e = λ i. record { number = (e i).number; place = (e i).place; slots = 0; answer = a; work = w }
+
+-- what is said of lists of so many words is said of lists that are as long
+pub as-long : (g : Handed) (t : Float) (k m a w : ℕ) (v : Verdict) → v ≡ as_verdict (verdict (shown g t k m)) → k ≡ a → m ≡ w → v ≡ as_verdict (verdict (shown g t a w))
+as-long g t k m a w v e p q = e ∙ (λ i. as_verdict (verdict (shown g t (p i) (q i))))
 
 -- no refusal is said where no row applies
 pub no-refusal : (x : Shown) → told (Ok tt) ≡ as_verdict (verdict x) → verdict x ≡ none

@@ -65,6 +65,10 @@ module _ (k n : ℕ) (f : ℕ → List ℕ) (each : (i : ℕ) → length (f i) �
       put : put_mid (k * i) m u ys ≡ sets u (k * i) (f i)
       put = part-written u ys (f i) (k * i) m e (each i ∙ s) (omega (arith, s, w))
 
+  -- the same, at a place by an equation
+  pub stored-at : (u ys : List ℕ) (p i m : ℕ) → i < n → Run k n f l u i → ys ≡ f i → k ≡ m → k * i + k ≤ length u → p ≡ k * i → Run k n f l (put_mid p m u ys) (i + 1)
+  stored-at u ys p i m h R e s w q = subst (λ (x : ℕ). Run k n f l (put_mid x m u ys) (i + 1)) (sym q) (stored_more u ys i m h R e s w)
+
   pub run-all : (u : List ℕ) (i : ℕ) → n ≤ i → k * n ≤ length l → Run k n f l u i → u ≡ joined n f ++ drop (k * n) l
   run-all u i g h R =
       R.is ∙ (ap (λ (j : ℕ). sets l 0 (joined j f)) (le_antisymm R.some g) ∙ sets-front l (joined n f) (k * n) (length-joined n k f (λ j _. each j)) h)

@@ -10,27 +10,27 @@ pub returns-then-many : goal.returns-then-many
 returns-then-many c =
     let a = c.args in
     let q = shown (given a.mesh.now) a.threshold a.answer a.work in
-    row1 q (many q c.if-many.true)
+    row1 q (many q (omega arith))
 
 pub returns-then-misfit : goal.returns-then-misfit
 returns-then-misfit c =
     let a = c.args in
     let q = shown (given a.mesh.now) a.threshold a.answer a.work in
-    let p = two-passed q _ _ c.if-many.false c.look_over-seen.ensures.0 c.unfit-misfit.ensures in
+    let p = two-passed q _ _ (omega arith) c.look_over-seen.ensures.0 c.unfit-misfit.ensures in
     row2 q p.0 (p.1 ∙ c.if-misfit.true)
 
 pub returns-then-not-is_finite : goal.returns-then-not-is_finite
 returns-then-not-is_finite c =
     let a = c.args in
     let q = shown (given a.mesh.now) a.threshold a.answer a.work in
-    let p = two-passed q _ _ c.if-many.false c.look_over-seen.ensures.0 c.unfit-misfit.ensures in
+    let p = two-passed q _ _ (omega arith) c.look_over-seen.ensures.0 c.unfit-misfit.ensures in
     row3 q p.0 (p.1 ∙ c.if-misfit.false) (sym c.is_finite.ensures ∙ c.if-not-is_finite.true)
 
 pub returns-in-Some : goal.returns-in-Some
 returns-in-Some c =
     let a = c.args in
     let q = shown (given a.mesh.now) a.threshold a.answer a.work in
-    let p = two-passed q _ _ c.if-many.false c.look_over-seen.ensures.0 c.unfit-misfit.ensures in
+    let p = two-passed q _ _ (omega arith) c.look_over-seen.ensures.0 c.unfit-misfit.ensures in
     let f = p.1 ∙ c.if-misfit.false in
     let t = sym c.is_finite.ensures ∙ c.if-not-is_finite.false in
     row4 q p.0 f t _ (is_some _ _ (sym c.look_over-seen.ensures.2 ∙ c.in-Some.is))
@@ -39,7 +39,7 @@ pub returns-in-Some-bare : goal.returns-in-Some-bare
 returns-in-Some-bare c =
     let a = c.args in
     let q = shown (given a.mesh.now) a.threshold a.answer a.work in
-    let p = two-passed q _ _ c.if-many.false c.look_over-seen.ensures.0 c.unfit-misfit.ensures in
+    let p = two-passed q _ _ (omega arith) c.look_over-seen.ensures.0 c.unfit-misfit.ensures in
     let f = p.1 ∙ c.if-misfit.false in
     let t = sym c.is_finite.ensures ∙ c.if-not-is_finite.false in
     let b = is_none _ (sym c.look_over-seen.ensures.2 ∙ c.in_default.is) in
@@ -49,7 +49,7 @@ pub returns-then-few : goal.returns-then-few
 returns-then-few c =
     let a = c.args in
     let q = shown (given a.mesh.now) a.threshold a.answer a.work in
-    let p = two-passed q _ _ c.if-many.false c.look_over-seen.ensures.0 c.unfit-misfit.ensures in
+    let p = two-passed q _ _ (omega arith) c.look_over-seen.ensures.0 c.unfit-misfit.ensures in
     let f = p.1 ∙ c.if-misfit.false in
     let t = sym c.is_finite.ensures ∙ c.if-not-is_finite.false in
     let b = is_none _ (sym c.look_over-seen.ensures.2 ∙ c.in_default.is) in
@@ -60,7 +60,7 @@ pub returns-then-short : goal.returns-then-short
 returns-then-short c =
     let a = c.args in
     let q = shown (given a.mesh.now) a.threshold a.answer a.work in
-    let p = two-passed q _ _ c.if-many.false c.look_over-seen.ensures.0 c.unfit-misfit.ensures in
+    let p = two-passed q _ _ (omega arith) c.look_over-seen.ensures.0 c.unfit-misfit.ensures in
     let f = p.1 ∙ c.if-misfit.false in
     let t = sym c.is_finite.ensures ∙ c.if-not-is_finite.false in
     let b = is_none _ (sym c.look_over-seen.ensures.2 ∙ c.in_default.is) in
@@ -71,7 +71,7 @@ pub returns : goal.returns
 returns c =
     let a = c.args in
     let q = shown (given a.mesh.now) a.threshold a.answer a.work in
-    let p = two-passed q _ _ c.if-many.false c.look_over-seen.ensures.0 c.unfit-misfit.ensures in
+    let p = two-passed q _ _ (omega arith) c.look_over-seen.ensures.0 c.unfit-misfit.ensures in
     let f = p.1 ∙ c.if-misfit.false in
     let t = sym c.is_finite.ensures ∙ c.if-not-is_finite.false in
     let b = is_none _ (sym c.look_over-seen.ensures.2 ∙ c.in_default.is) in

@@ -5,4 +5,4 @@ use Rattle.packed.proofs.cut.Goals as goal
 
 pub returns : goal.returns
 unfolding cut
-returns c = (c.min.ensures, omega (arith, c.min.ensures))
+returns c = (omega (arith, c.min.ensures), omega (arith, c.min.ensures))
