@@ -115,3 +115,7 @@ module _ (rows tris : ℕ) (w v : List ℕ) (fits : 3 * tris ≤ rows) (long : c
   -- what a scan of the sides in their order finds
   pub left-found : ((r : ℕ) → r < n → vertex r ≡ vertex (end_row r) → ⊥) → (L : List ℕ) (found : Option ℕ) → ((vertex E : ℕ → ℕ) → Reads rows n v vertex E → OrderOf n vertex E X → Finds (LeftOver n (Equal vertex) L) n found) → Finds (LeftOver n (Equal vertex) L) n found
   left-found sharp L found f = f vertex E reads-are (order_is sharp)
+
+  -- the same, where it is said of as many sides by an equation
+  pub left-found-in : ((r : ℕ) → r < n → vertex r ≡ vertex (end_row r) → ⊥) → (L : List ℕ) (found : Option ℕ) (k : ℕ) → ((vertex E : ℕ → ℕ) → Reads rows k v vertex E → OrderOf k vertex E X → Finds (LeftOver k (Equal vertex) L) k found) → k ≡ n → Finds (LeftOver n (Equal vertex) L) n found
+  left-found-in sharp L found k f e = left-found sharp L found (subst (λ (x : ℕ). (vertex E : ℕ → ℕ) → Reads rows x v vertex E → OrderOf x vertex E X → Finds (LeftOver x (Equal vertex) L) x found) e f)

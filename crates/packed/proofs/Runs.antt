@@ -18,9 +18,7 @@ use borrow.Author.Tests.{eq-eqb, ne_eqb, eqb-true, eqb-false}
 use Rattle.lists.specs.Loops.{list_of}
 use Rattle.lists.specs.Parts.{joined, part}
 use Rattle.lists.proofs.Parts.{length-joined, length_part}
-use borrow.Rule.Slice.PartMut.{put_mid}
 use lib.Seq.{length-sets}
-use Rattle.lists.proofs.Written.{part-written}
 use Rattle.words.proofs.Stores.{joined-none, joined-stored, sets-front}
 use Rattle.packed.specs.Packer.{packed_words, has_frame, frame, frame_packed, packed_slot}
 use Rattle.packed.specs.Reader.{read_words, all_nothing, frame_words, seven_read, read_seven, first_failing, found_failing, FirstFailing}
@@ -58,20 +56,17 @@ module _ (k n : ℕ) (f : ℕ → List ℕ) (each : (i : ℕ) → length (f i) �
   run_more u v i h R e s =
       record { some = omega arith; is = e ∙ joined-stored l u 0 (k * i) f i (omega (arith, length-joined i k f (λ j _. each j))) R.is; long = s ∙ R.long }
 
-  -- one more, which is written over a part of the list
-  pub stored_more : (u ys : List ℕ) (i m : ℕ) → i < n → Run k n f l u i → ys ≡ f i → k ≡ m → k * i + k ≤ length u → Run k n f l (put_mid (k * i) m u ys) (i + 1)
-  stored_more u ys i m h R e s w = run_more u (put_mid (k * i) m u ys) i h R put (ap length put ∙ length-sets u (k * i) (f i))
-    where
-      put : put_mid (k * i) m u ys ≡ sets u (k * i) (f i)
-      put = part-written u ys (f i) (k * i) m e (each i ∙ s) (omega (arith, s, w))
-
-  -- the same, at a place by an equation
-  pub stored-at : (u ys : List ℕ) (p i m : ℕ) → i < n → Run k n f l u i → ys ≡ f i → k ≡ m → k * i + k ≤ length u → p ≡ k * i → Run k n f l (put_mid p m u ys) (i + 1)
-  stored-at u ys p i m h R e s w q = subst (λ (x : ℕ). Run k n f l (put_mid x m u ys) (i + 1)) (sym q) (stored_more u ys i m h R e s w)
+  -- one more, stored where it is to stand
+  pub stored_more : (u v ys : List ℕ) (i : ℕ) → i < n → Run k n f l u i → v ≡ sets u (k * i) ys → ys ≡ f i → Run k n f l v (i + 1)
+  stored_more u v ys i h R e s = run_more u v i h R (e ∙ ap (sets u (k * i)) s) (ap length e ∙ length-sets u (k * i) ys)
 
   pub run-all : (u : List ℕ) (i : ℕ) → n ≤ i → k * n ≤ length l → Run k n f l u i → u ≡ joined n f ++ drop (k * n) l
   run-all u i g h R =
       R.is ∙ (ap (λ (j : ℕ). sets l 0 (joined j f)) (le_antisymm R.some g) ∙ sets-front l (joined n f) (k * n) (length-joined n k f (λ j _. each j)) h)
+
+-- all of a list, taken from its beginning
+pub all_taken : (k : ℕ) (xs : List ℕ) → length xs ≡ k → take k (drop 0 xs) ≡ xs
+all_taken k xs e = take_all k xs (omega (arith, e))
 
 -- k numbers cut out of a list where the lists before them are of k numbers each
 module _ (k s : ℕ) (l : List ℕ) where

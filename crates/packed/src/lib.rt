@@ -211,6 +211,16 @@ fn pack_slot(slot: &[u32]) -> [u16; PACKED_NUMBERS]
     ]
 }
 
+// Seven numbers stored in a list, from place p on.
+fn put_seven(l: &mut [u16], p: usize, seven: &[u16; PACKED_NUMBERS])
+    requires { p + packer.packed_words ≤ length l.old }
+    ensures { l.new ≡ sets l.old p seven.now }
+{
+    for (i, n) in l[p..p + PACKED_NUMBERS].iter_mut().enumerate() {
+        *n = seven[i];
+    }
+}
+
 // `count` slots packed.
 fn pack_slots(answer: &[u32], packed: &mut [u16], count: usize)
     requires { (slot_words * count ≤ length answer.now) × (packer.packed_words * count ≤ length packed.old) }
@@ -219,8 +229,7 @@ fn pack_slots(answer: &[u32], packed: &mut [u16], count: usize)
     for s in 0..count {
         let from = tangent::SLOT_WORDS * s;
         let end = from + tangent::SLOT_WORDS;
-        let to = PACKED_NUMBERS * s;
-        packed[to..to + PACKED_NUMBERS].copy_from_slice(&pack_slot(&answer[from..end]));
+        put_seven(packed, PACKED_NUMBERS * s, &pack_slot(&answer[from..end]));
     }
 }
 
@@ -319,6 +328,16 @@ fn read_seven(s: &[u16]) -> [u32; READ_WORDS]
     ]
 }
 
+// Eight words stored in a list, from place p on.
+fn put_eight(l: &mut [u32], p: usize, eight: &[u32; READ_WORDS])
+    requires { p + reader.read_words ≤ length l.old }
+    ensures { l.new ≡ sets l.old p eight.now }
+{
+    for (i, w) in l[p..p + READ_WORDS].iter_mut().enumerate() {
+        *w = eight[i];
+    }
+}
+
 // `count` slots read.
 fn read_slots(packed: &[u16], answer: &mut [u32], count: usize)
     requires { (packer.packed_words * count ≤ length packed.now) × (reader.read_words * count ≤ length answer.old) }
@@ -327,8 +346,7 @@ fn read_slots(packed: &[u16], answer: &mut [u32], count: usize)
     for s in 0..count {
         let from = PACKED_NUMBERS * s;
         let end = from + PACKED_NUMBERS;
-        let to = READ_WORDS * s;
-        answer[to..to + READ_WORDS].copy_from_slice(&read_seven(&packed[from..end]));
+        put_eight(answer, READ_WORDS * s, &read_seven(&packed[from..end]));
     }
 }
 

@@ -103,10 +103,12 @@ pub are_next-requires : goal.are_next-requires
 are_next-requires c = first_fits c.before
 
 pub returns-then-not-are_next : goal.returns-then-not-are_next
-unfolding after_append not_added
+unfolding after_append not_added card_bytes first_torn
 returns-then-not-are_next c =
     let a = c.args in
-    sym (added-by a.kind a.total a.long a.records.now a.lent.now (can c.before.before.before.before.before.before.before.before) (room c.before.before.before.before.before) (within c.before.before.before) false (sym (told c.before.before) ∙ c.if-not-are_next.true))
+    let made = c.blocks_for-made.ensures.0 ∙ ap (blocks_for a.kind) c.records_of-count.ensures in
+    let told = next-by a.kind _ a.total (a.long / block_bytes) _ (records_of a.kind a.records.now) _ c.are_next.ensures (omega arith) c.records_of-count.ensures in
+    sym (added-by a.kind a.total a.long a.records.now a.lent.now (sym c.writable.ensures ∙ c.if-not-writable.false) (omega (arith, c.if-lent-made.false, made)) (sym c.overfull.ensures ∙ c.if-overfull.false) false (sym told ∙ c.if-not-are_next.true))
 
 pub put_blocks-requires : goal.put_blocks-requires
 unfolding first_torn

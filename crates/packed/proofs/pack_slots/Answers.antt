@@ -5,7 +5,7 @@ use mathlib.Core.Path.{◌∙◌, ap}
 use mathlib.Core.List.{List}
 use Rattle.tangent.specs.Slot.{slot_words}
 use Rattle.packed.specs.Packer.{packed_words, packed_slot, slot_at, packed_slots}
-use Rattle.packed.proofs.Runs.{length-packed, run_none, stored-at, run-all, cut-is, cut-long}
+use Rattle.packed.proofs.Runs.{length-packed, run_none, stored_more, run-all, cut-is, cut-long}
 use Rattle.packed.proofs.pack_slots.Goals as goal
 
 -- what is stored for slot s
@@ -26,8 +26,7 @@ unfolding slot_at
 loop-s-preserved c =
     let l = c.loop-s in
     let a = c.args in
-    let e = c.copy_from_slice.ensures.after ∙ (c.pack_slot.ensures ∙ ap packed_slot (cut-is slot_words l.s a.answer.now)) in
-    stored-at packed_words a.count (stored a.answer.now) (λ i. length-packed (slot_at a.answer.now i)) a.packed.now l.packed _ _ l.s _ (omega arith) l.invariant e (omega arith) (omega (arith, l.invariant.long)) (omega arith)
+    stored_more packed_words a.count (stored a.answer.now) (λ i. length-packed (slot_at a.answer.now i)) a.packed.now l.packed _ _ l.s (omega arith) l.invariant c.put_seven.ensures (c.pack_slot.ensures ∙ ap packed_slot (cut-is slot_words l.s a.answer.now))
 
 pub returns : goal.returns
 unfolding packed_slots

@@ -5,7 +5,7 @@ use mathlib.Core.Path.{◌∙◌, ap}
 use mathlib.Core.List.{List}
 use Rattle.packed.specs.Packer.{packed_words}
 use Rattle.packed.specs.Reader.{read_words, read_seven, seven_at, read_slots}
-use Rattle.packed.proofs.Runs.{length-read, run_none, stored-at, run-all, cut-is, cut-long}
+use Rattle.packed.proofs.Runs.{length-read, run_none, stored_more, run-all, cut-is, cut-long}
 use Rattle.packed.proofs.read_slots.Goals as goal
 
 -- what is stored for slot s
@@ -23,8 +23,7 @@ unfolding seven_at
 loop-s-preserved c =
     let l = c.loop-s in
     let a = c.args in
-    let e = c.copy_from_slice.ensures.after ∙ (c.read_seven.ensures ∙ ap read_seven (cut-is packed_words l.s a.packed.now)) in
-    stored-at read_words a.count (stored a.packed.now) (λ i. length-read (seven_at a.packed.now i)) a.answer.now l.answer _ _ l.s _ (omega arith) l.invariant e (omega arith) (omega (arith, l.invariant.long)) (omega arith)
+    stored_more read_words a.count (stored a.packed.now) (λ i. length-read (seven_at a.packed.now i)) a.answer.now l.answer _ _ l.s (omega arith) l.invariant c.put_eight.ensures (c.read_seven.ensures ∙ ap read_seven (cut-is packed_words l.s a.packed.now))
 
 pub returns : goal.returns
 unfolding read_slots
