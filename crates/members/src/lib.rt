@@ -20,7 +20,7 @@ fn copy_members(work: &mut [u32], rows: usize, count: usize)
     requires { (count ≤ rows) × (columns * rows ≤ length work.old) }
     ensures { work.new ≡ filled_to rows order_column (λ j. get_or (column rows met_column work.old) j 0) work.old count }
 {
-    // By place: `copy_within` proves too, but takes no columns that are equal by arithmetic alone.
+    // By place: with `copy_within` the proof takes the places as they are written, and one that is equal by arithmetic alone is refused.
     for j in 0..count {
         work[table::ORDER * rows + j] = work[table::MET * rows + j];
     }
