@@ -26,10 +26,6 @@ pub told-some : (o : Option Row) (r : Refusal) → told (Err r) ≡ as_verdict o
 unfolding as_verdict told
 told-some o r e n = number-some r (ap (λ (v : Verdict). v.number) (e ∙ ap as_verdict n))
 
--- what is said for a work list of so many words is said for one that is as long
-pub as-long : (mesh : Handed) (k w : ℕ) (v : Verdict) → v ≡ as_verdict (refusal mesh k) → k ≡ w → v ≡ as_verdict (refusal mesh w)
-as-long mesh k w v e p = e ∙ ap (λ n. as_verdict (refusal mesh n)) p
-
 module _ (mesh : Handed) (L G O w : List ℕ) where
   abbrev desk : Option Row
   desk = refusal mesh (length w)
