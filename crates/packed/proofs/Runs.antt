@@ -6,19 +6,18 @@ use native.Mathlib.Omega.{arith}
 use mathlib.Core.Path.{◌≡◌, refl, sym, ap, ◌∙◌}
 use mathlib.Core.Bool.{Bool, true, false, cond, ◌&&◌}
 use mathlib.Core.Logic.{⊎_elim}
-use mathlib.Core.List.{List, ◌++◌}
-use Rattle.std.specs.List.{range_with_len, AllWithin, HoldsAt}
+use mathlib.Core.List.{List, [], ◌∷◌, ◌++◌, append_assoc, append-nil}
+use Rattle.std.specs.List.{fold, range_with_len, AllWithin, HoldsAt}
 use Rattle.std.specs.Option.{MatchOption}
 use Rattle.std.proofs.Common.{Option, None, Some, subst}
 use Rattle.std.proofs.lemmas.List.FromFn.{length-range_with_len, get_or-range_with_len}
-use lib.ListN.{length, get_or, take, drop, length-drop}
+use lib.ListN.{length, get_or, take, drop, length-drop, length-append, get_or-append}
 use lib.Dec.{eqb}
-use lib.Seq.{sets, take_all, drop_at, drop-append-le, take-append-le}
+use lib.Seq.{sets, take_all, get_or_at, drop_at, drop-append-le, take-append-le, length-sets}
 use borrow.Author.Tests.{eq-eqb, ne_eqb, eqb-true, eqb-false}
 use Rattle.lists.specs.Loops.{list_of}
-use Rattle.lists.specs.Parts.{joined, part}
-use Rattle.lists.proofs.Parts.{length-joined, length_part}
-use lib.Seq.{length-sets}
+use Rattle.lists.specs.Parts.{joined, part, every_below}
+use Rattle.lists.proofs.Parts.{length-joined, length_part, every-same}
 use Rattle.words.proofs.Stores.{joined-none, joined-stored, sets-front}
 use Rattle.packed.specs.Packer.{packed_words, has_frame, frame, frame_packed, packed_slot}
 use Rattle.packed.specs.Reader.{read_words, all_nothing, frame_words, seven_read, read_seven, first_failing, found_failing, FirstFailing}
@@ -63,6 +62,24 @@ module _ (k n : ℕ) (f : ℕ → List ℕ) (each : (i : ℕ) → length (f i) �
   pub run-all : (u : List ℕ) (i : ℕ) → n ≤ i → k * n ≤ length l → Run k n f l u i → u ≡ joined n f ++ drop (k * n) l
   run-all u i g h R =
       R.is ∙ (ap (λ (j : ℕ). sets l 0 (joined j f)) (le_antisymm R.some g) ∙ sets-front l (joined n f) (k * n) (length-joined n k f (λ j _. each j)) h)
+
+-- a test of all of a list, and of one more
+every-last : (p : ℕ → Bool) (ys : List ℕ) (y : ℕ) → (every_below (length ys) (λ k. p (get_or ys k 0)) && p y) ≡ every_below (length (ys ++ (y ∷ []))) (λ k. p (get_or (ys ++ (y ∷ [])) k 0))
+unfolding every_below
+every-last p ys y =
+    (λ i. every-same (length ys) (λ k. p (get_or ys k 0)) (λ k. p (get_or (ys ++ (y ∷ [])) k 0)) (λ k h. ap p (sym (get_or-append ys (y ∷ []) 0 k h))) i && p (sym (get_or_at ys y [] 0 (length ys) refl) i))
+    ∙ ap (λ (n : ℕ). every_below n (λ k. p (get_or (ys ++ (y ∷ [])) k 0))) (sym (length-append ys (y ∷ []) ∙ add-one (length ys)))
+
+-- so of all of a list, one after another
+fold-from : (p : ℕ → Bool) (ys zs : List ℕ) → fold (λ b n. b && p n) (every_below (length ys) (λ k. p (get_or ys k 0))) zs ≡ every_below (length (ys ++ zs)) (λ k. p (get_or (ys ++ zs) k 0))
+fold-from p ys [] = ap (λ (l : List ℕ). every_below (length l) (λ k. p (get_or l k 0))) (sym (append-nil ys))
+fold-from p ys (z ∷ zs) =
+    ap (λ (b : Bool). fold (λ b n. b && p n) b zs) (every-last p ys z)
+    ∙ (fold-from p (ys ++ (z ∷ [])) zs ∙ ap (λ (l : List ℕ). every_below (length l) (λ k. p (get_or l k 0))) (append_assoc ys (z ∷ []) zs))
+
+pub fold-every : (p : ℕ → Bool) (l : List ℕ) (n : ℕ) (r : Bool) → length l ≡ n → r ≡ fold (λ b n. b && p n) true l → r ≡ every_below n (λ k. p (get_or l k 0))
+unfolding every_below
+fold-every p l n r s e = e ∙ (fold-from p [] l ∙ ap (λ (n : ℕ). every_below n (λ k. p (get_or l k 0))) s)
 
 -- all of a list, taken from its beginning
 pub all_taken : (k : ℕ) (xs : List ℕ) → length xs ≡ k → take k (drop 0 xs) ≡ xs

@@ -255,12 +255,12 @@ pub fn pack(answer: &[u32], packed: &mut [u16]) -> Packed
     Packed::from(try_pack(answer, packed))
 }
 
-// Whether seven numbers are those of an absent slot.
+// Whether seven numbers are those of an absent slot. All seven are compared, which takes less time than to stop at the first that tells.
 fn all_nothing(s: &[u16]) -> bool
     requires { length s.now ≡ packer.packed_words }
     ensures { result ≡ reader.all_nothing s.now }
 {
-    s.iter().all(|n| *n == NOTHING)
+    s.iter().fold(true, |all, n| all & (*n == NOTHING))
 }
 
 // Whether seven numbers are those of a frame.
