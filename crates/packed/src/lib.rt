@@ -181,7 +181,7 @@ fn has_frame(slot: &[u32]) -> bool
     requires { length slot.now ≡ slot_words }
     ensures { result ≡ packer.has_frame slot.now }
 {
-    let six = slot[1..7].iter().all(|w| within(*w));
+    let six = slot[1..7].iter().fold(true, |all, w| all & within(*w));
     (slot[0] == 1) & (slot[9] <= 1) & six
 }
 
