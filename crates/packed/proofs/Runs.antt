@@ -11,13 +11,15 @@ use Rattle.std.specs.List.{fold, range_with_len, AllWithin, HoldsAt}
 use Rattle.std.specs.Option.{MatchOption}
 use Rattle.std.proofs.Common.{Option, None, Some, subst}
 use Rattle.std.proofs.lemmas.List.FromFn.{length-range_with_len, get_or-range_with_len}
-use lib.ListN.{length, get_or, take, drop, length-drop, length-append, get_or-append}
+use lib.ListN.{length, get_or, set, take, drop, length-set, length-drop, length-append, get_or-append}
 use lib.Dec.{eqb}
 use lib.Seq.{sets, take_all, get_or_at, drop_at, drop-append-le, take-append-le, length-sets}
 use borrow.Author.Tests.{eq-eqb, ne_eqb, eqb-true, eqb-false}
+use borrow.Rule.Slice.PartMut.{put_mid}
 use Rattle.lists.specs.Loops.{list_of}
 use Rattle.lists.specs.Parts.{joined, part, every_below}
 use Rattle.lists.proofs.Parts.{length-joined, length_part, every-same}
+use Rattle.lists.proofs.Written.{part-written, written-more, written-all}
 use Rattle.words.proofs.Stores.{joined-none, joined-stored, sets-front}
 use Rattle.packed.specs.Packer.{packed_words, has_frame, frame, frame_packed, packed_slot}
 use Rattle.packed.specs.Reader.{read_words, all_nothing, frame_words, seven_read, read_seven, first_failing, found_failing, FirstFailing}
@@ -81,9 +83,22 @@ pub fold-every : (p : ℕ → Bool) (l : List ℕ) (n : ℕ) (r : Bool) → leng
 unfolding every_below
 fold-every p l n r s e = e ∙ (fold-from p [] l ∙ ap (λ (n : ℕ). every_below n (λ k. p (get_or l k 0))) s)
 
--- all of a list, taken from its beginning
-pub all_taken : (k : ℕ) (xs : List ℕ) → length xs ≡ k → take k (drop 0 xs) ≡ xs
-all_taken k xs e = take_all k xs (omega (arith, e))
+-- the first i entries of xs are written to us, which is as long
+abbrev pub WrittenTo : List ℕ → List ℕ → ℕ → Type 0
+WrittenTo us xs i = (i ≤ length xs) × (take i us ≡ take i (drop 0 xs)) × (length us ≡ length xs)
+
+module _ (us xs : List ℕ) where
+  -- none yet, one more, and all, where us is a part of a list
+  pub written_none : length us ≡ length xs → WrittenTo us xs 0
+  written_none h = (omega arith, refl, h)
+
+  pub written_next : (i x : ℕ) → WrittenTo us xs i → i < length xs → x ≡ get_or xs i 0 → WrittenTo (set us i x) xs (i + 1)
+  written_next i x w h e =
+      (omega arith, written-more xs us 0 i w.1 x 0 (omega (arith, w.2)) (omega arith) (e ∙ ap (λ k. get_or xs k 0) (sym (zero-add i))), length-set us i x ∙ w.2)
+
+  pub written_whole : (l : List ℕ) (p k i : ℕ) → WrittenTo us xs i → length xs ≤ i → k ≡ length xs → p + k ≤ length l → put_mid p k l us ≡ sets l p xs
+  written_whole l p k i w h e f =
+      part-written l us xs p k (written-all xs us 0 i w.1 (length xs) (le_antisymm w.0 h) w.2 ∙ take_all (length xs) xs (omega arith)) (sym e) f
 
 -- k numbers cut out of a list where the lists before them are of k numbers each
 module _ (k s : ℕ) (l : List ℕ) where
